@@ -10,9 +10,10 @@ import tempfile
 
 from judging import report
 from judging.gateway import ADDRESS, ADDRESS_PORT, INDEPENDENT
-from judging.judge import SIDES, Given, Judge
+from judging.judge import Judge
 from judging.log import Log
-from judging.packets import Prefixes
+from judging.packets import SIDES, Prefixes
+from judging.pairing import Given
 from judging.replay import Replay
 from judging.requirements import REQUIREMENTS
 from reading.captures import BAD_OUTPUT, BAD_WORDS, STANDARD_INPUT, Fault, Words, address, file_of, prefix, shown
@@ -31,27 +32,23 @@ def key_of(text):
 def selected(names):
     """Returns the names of the requirements that words stand for: an RFC for all of it, a number for its parts too."""
     found = []
-    for name in names:
-        key = key_of(name)
-        more = [it.name for it in REQUIREMENTS if key and is_part(key, key_of(it.name))]
+    for key, name in ((key_of(it), it) for it in names):
+        more = [it.name for it in REQUIREMENTS if key and key_of(it.name)[: len(key)] == key]
         if not more:
             raise Fault(BAD_WORDS, f"{name!r} is no requirement, as '4787 REQ-1' is one (see docs/JUDGE.md)")
         found += more
     return found
 
 
-def is_part(key, whole):
-    return whole[: len(key)] == key
-
-
 def parsed(words, called):
     parser = Words(prog=called, add_help=False, allow_abbrev=False)
+    command = words[0] if words[:1] and words[0] in COMMANDS else None
     for side in SIDES:
         parser.add_argument(f"--{side}", metavar="FILE", nargs="+", action="extend", required=True)
         parser.add_argument(f"--{side}-interface", metavar="NAME")
     parser.add_argument("--inside-prefix", metavar="PREFIX", nargs="+", action="extend", type=prefix, required=True)
     parser.add_argument("--pool", metavar="ADDRESS", nargs="+", action="extend", type=address)
-    command = words[0] if words[:1] and words[0] in COMMANDS else None
+    parser.set_defaults(command=command, only=None, filter=None, json=False)
     if command != "log":
         parser.add_argument("--json", action="store_true")
         parser.add_argument("--only", metavar="REQ", nargs="+", action="extend")
@@ -59,7 +56,6 @@ def parsed(words, called):
     if command == "replay":
         parser.add_argument("--explain", metavar="PROGRAM")
     given = parser.parse_args(words[1:] if command else words)
-    given.command = command
     if (given.inside_interface is None) != (given.outside_interface is None):
         parser.error("--inside-interface and --outside-interface are two names, given together")
     return given
@@ -67,49 +63,46 @@ def parsed(words, called):
 
 def read_twice(paths, room):
     """Returns the paths of captures, each read twice: standard input is kept in a file."""
-    if STANDARD_INPUT not in paths:
-        return paths
     kept = pathlib.Path(room) / "standard-input"
-    with open(kept, "wb") as file:
-        shutil.copyfileobj(sys.stdin.buffer, file)
+    if STANDARD_INPUT in paths:
+        with open(kept, "wb") as file:
+            shutil.copyfileobj(sys.stdin.buffer, file)
     return [str(kept) if it == STANDARD_INPUT else it for it in paths]
 
 
 def refuse_twice(given):
     """Refuses a file that is named twice on one side, and returns whether one is named on both."""
-    for side in SIDES:
-        named = {}
+    files = {side: {} for side in SIDES}
+    for side, named in files.items():
         for path in getattr(given, side):
             if (file := file_of(path)) in named:
-                raise Fault(BAD_WORDS, f"{shown(path)} is the capture {shown(named[file])} once more: its packets would be there twice")
+                again = f"{shown(path)} is the capture {shown(named[file])} once more"
+                raise Fault(BAD_WORDS, f"{again}: its packets would be there twice")
             if file:
                 named[file] = path
-    files = [{file_of(path) for path in getattr(given, side)} for side in SIDES]
-    return bool(files[0] & files[1] - {None}) and given.inside_interface is None
+    return bool(files["inside"].keys() & files["outside"].keys()) and given.inside_interface is None
 
 
 def run(given, program):
     """Judges, and writes to standard output."""
     is_one_file = refuse_twice(given)
-    names = selected(given.only) if given.command != "log" and given.only else [it.name for it in REQUIREMENTS]
+    names = selected(given.only) if given.only else [it.name for it in REQUIREMENTS]
     with tempfile.TemporaryDirectory(prefix="judge-") as room:
-        files = {side: read_twice(getattr(given, side), room) for side in SIDES}
-        what = Given(*files.values(), Prefixes(given.inside_prefix), given.pool and {int(it) for it in given.pool})
-        what.interfaces, what.is_one_file = (given.inside_interface, given.outside_interface), is_one_file
-        if given.command != "log":
-            what.filtering = KINDS.get(given.filter)
+        files = [read_twice(getattr(given, side), room) for side in SIDES]
+        pool, interfaces = given.pool and {int(it) for it in given.pool}, (given.inside_interface, given.outside_interface)
+        what = Given(*files, Prefixes(given.inside_prefix), pool, KINDS.get(given.filter), interfaces, is_one_file)
         plan = what.plan()
         if given.command == "replay":
             judge = Replay(what, plan, given.explain or explain_of(program))
-            judge.run()
         else:
-            judge, log = Judge(what, plan), Log(what.prefixes)
-            judge.run(log.take if given.command == "log" else None)
-    for line in judge.notes():
-        print(f"{program}: {line}", file=sys.stderr)
+            judge = (Log if given.command == "log" else Judge)(what, plan)
+        judge.run()
+    notes = list(judge.notes())
     if given.command == "log":
-        print(f"{program}: the log is inferred from pairs: an entry is sure from its first packet to its last use", file=sys.stderr)
-        log.write(sys.stdout)
+        notes.append("the log is inferred from pairs: an entry is sure from its first packet to its last use")
+    print(*(f"{program}: {line}\n" for line in notes), sep="", end="", file=sys.stderr)
+    if given.command == "log":
+        judge.write(sys.stdout)
         return
     rows = [judge.rows[name] for name in dict.fromkeys(names)]
     for line in report.lines(rows, {side: getattr(given, side) for side in SIDES}) if given.json else report.table(rows):
@@ -129,7 +122,7 @@ def main(words, program, called, text):
         print(text.replace("./judge", called), end="")
         return 0
     if words in (["--version"], ["-V"]):
-        sys.stdout.write(f"{program} {VERSION}\n")
+        print(f"{program} {VERSION}")
         return 0
     for ends in (signal.SIGTERM, signal.SIGHUP):
         signal.signal(ends, lambda number, _: sys.exit(128 + number))
@@ -143,7 +136,6 @@ def main(words, program, called, text):
         return fault.status
     except BrokenPipeError:
         os.dup2(os.open(os.devnull, os.O_WRONLY), 1)
-        return 0
     except OSError as error:
         print(f"{program}: {error.filename or 'standard output'}: {error.strerror}", file=sys.stderr)
         return BAD_OUTPUT

@@ -3,8 +3,9 @@ import csv
 import dataclasses
 
 from judging.gateway import LEAST, OF_ICMP, OF_UDP, TRANSITORY
+from judging.judge import Judge
 from judging.packets import ICMP, OF_TCP, QUERY, TCP, UDP, dotted
-from judging.pairing import CONNECTION, IN, OUT, SURE, Pair
+from judging.pairing import CONNECTION, IN, OUT, SURE
 from reading.captures import date
 
 FIELDS = (
@@ -23,6 +24,7 @@ SILENT = {UDP: LEAST[OF_UDP], ICMP: LEAST[OF_ICMP], TCP: LEAST[TRANSITORY]}
 class Entry:
     """An inside endpoint that had an external one, from its first packet to its last."""
 
+    number: int
     protocol: int
     inside: tuple
     external: tuple
@@ -30,7 +32,6 @@ class Entry:
     last: int
     sent: int = 0
     received: int = 0
-    number: int = 0
 
     def row(self, event):
         """Returns the row of its making, with its first packet, or of its end, with all."""
@@ -41,41 +42,38 @@ class Entry:
         return (time, date(time), event, self.protocol, *ends, INFERRED, self.number, 0, *counts, last, date(last))
 
 
-class Log:
-    """Entries that are made of pairs. Between the first and the last packet of an entry its host had the number for sure: nobody else sent
-    by it, or was sent to, and it was never silent for as long as a timer may be. When the gateway ended it no capture shows."""
+class Log(Judge):
+    """A judge that keeps entries. Between the first and the last packet of an entry its host had the number for sure: nobody else
+    sent by it, or was sent to, and it was never silent for as long as a timer may be. When the gateway ended it no capture
+    shows."""
 
-    def __init__(self, prefixes):
-        self.prefixes, self.open, self.entries, self.left_out = prefixes, {}, [], 0
+    def __init__(self, given, plan):
+        super().__init__(given, plan)
+        self.open, self.entries = {}, []
 
     def take(self, item):
-        """Takes a pair."""
-        if type(item) is not Pair or not item.departure or item.arrival.kind not in (OF_TCP, "udp", QUERY):
-            return
-        if item.how not in (SURE, CONNECTION):
-            self.left_out += 1
-            return
-        came, left = item.arrival, item.departure
-        if item.way is not IN and left.source[0] not in self.prefixes:
-            self.use(item.time, came.protocol, came.source, left.source, True)
-        if item.way is not OUT:
-            self.use(item.time, came.protocol, left.destination, came.destination, False)
+        super().take(item)
+        if item.departure and item.how in (SURE, CONNECTION) and item.arrival.kind in (OF_TCP, "udp", QUERY):
+            came, left = item.arrival, item.departure
+            if item.way is not IN and left.source[0] not in self.given.prefixes:
+                self.use(came, left, came.source, left.source, True)
+            if item.way is not OUT:
+                self.use(came, left, left.destination, came.destination, False)
 
-    def use(self, time, protocol, inside, external, is_out):
-        entry = self.open.get((protocol, external))
-        if entry is None or entry.inside != inside or time - entry.last > SILENT[protocol]:
-            entry = self.open[protocol, external] = Entry(protocol, inside, external, time, time)
+    def use(self, came, left, inside, external, is_out):
+        """An entry is used from when a packet arrived to when it left."""
+        key, times = (came.protocol, external), sorted((came.time, left.time))
+        entry = self.open.get(key)
+        if entry is None or entry.inside != inside or times[0] - entry.last > SILENT[came.protocol]:
+            entry = self.open[key] = Entry(len(self.entries) + 1, came.protocol, inside, external, *times)
             self.entries.append(entry)
-        entry.last = max(entry.last, time)
+        entry.last = max(entry.last, times[1])
         entry.sent += is_out
         entry.received += not is_out
 
     def write(self, file):
         """Writes all rows in order of time, ends first."""
-        for number, entry in enumerate(sorted(self.entries, key=lambda it: it.first), 1):
-            entry.number = number
         rows = [entry.row(event) for entry in self.entries for event in (MADE, ENDED)]
-        rows.sort(key=lambda row: (row[0], -row[2], row[9]))
         writer = csv.writer(file, lineterminator="\n")
         writer.writerow(FIELDS)
-        writer.writerows(rows)
+        writer.writerows(sorted(rows, key=lambda row: (row[0], -row[2], row[9])))

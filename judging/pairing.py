@@ -3,64 +3,113 @@ import collections
 import dataclasses
 import itertools
 import statistics
+from typing import NamedTuple
 
-from judging.packets import ERROR, OF_TCP, OF_UDP, dotted
+from judging.packets import ERROR, OF_TCP, OF_UDP, SIDES, Prefixes, Side, ends_text, endpoint_text, named
 from reading.captures import BAD_WORDS, SECOND, Fault
 
 OUT, IN, HAIRPIN = "out", "in", "hairpin"
-# how a departure was found: alone with its content; the most likely of several; as the SYN of a gateway that ends connections itself;
-# or with another payload
+# how a departure was found: alone with its content; the most likely of several; as the SYN of a gateway that ends connections
+# itself; or with another payload
 SURE, LIKELY, CONNECTION, ALTERED = "sure", "likely", "connection", "altered"
 # a packet leaves within so long after it arrived, and where there are two clocks, which may drift, so long before
 WINDOW, ONE_CLOCK, TWO_CLOCKS = 2 * SECOND, SECOND // 500, SECOND // 20
-# of a gateway that has ended: so many arrivals and so long at the end, of which nothing leaves; and how many are kept until it is known
+# of a gateway that has ended: so many arrivals and so long at the end, of which nothing leaves; and how many are kept until it is
+# known
 FEW_SILENT, LONG_SILENT, MOST_SILENT = 20, 5 * SECOND, 10_000
 # a gateway keeps identifications where it kept so many times more of them than it changed
 KEEPS = 20
+# ports of protocols that application gateways look into: FTP, TFTP, portmap, RTSP, H.323, PPTP, SIP, IRC
+GATEWAY_PORTS = {21, 69, 111, 554, 1720, 1723, 5060, 6667}
 # packets of each side from which the pool and the difference of the clocks are found
 SAMPLE = 10_000
 
 
 class Pair:
-    """An arrival and its departure, where it has one. `leak` is what left to the outside in the place of that: the packet as it came, or
-    a hairpin that did not turn back. `made` is what a gateway made of the pieces of a datagram that it did not put together."""
+    """An arrival and its departure, where it has one. `leak` is what left to the outside in the place of that: the packet as it
+    came, or a hairpin that did not turn back. `made` is what a gateway made of the pieces of a datagram that it did not put
+    together."""
 
-    __slots__ = ("time", "way", "arrival", "departure", "how", "leak", "made", "key")
+    __slots__ = ("time", "way", "arrival", "protocol", "departure", "how", "leak", "made", "key")
 
-    def __init__(self, way, arrival, key=None, departure=None):
-        self.time, self.way, self.arrival, self.key, self.departure = arrival.time, way, arrival, key, departure
-        self.how, self.leak, self.made = None, None, ()
+    def __init__(self, way, arrival, key=None):
+        self.time, self.way, self.arrival, self.protocol, self.key = arrival.time, way, arrival, arrival.protocol, key
+        self.departure, self.how, self.leak, self.made = None, None, None, ()
+
+    @property
+    def places(self):
+        """The side, file and number of both packets."""
+        left = self.departure or self.leak
+        return self.arrival.place, left and left.place
 
     def text(self):
         """Returns the pair as the table shows it: the numbers of both packets, and what was changed."""
         came, left = self.arrival, self.departure
         if not left:
             return f"{came.name} ({came.text()}): {f'left to the outside, {self.leak.name}' if self.leak else 'nothing left'}"
-        if came.kind == ERROR:
+        if came.kind == ERROR or self.way is HAIRPIN:
             changed = f"> {left.text()}"
-        elif self.way == OUT:
-            changed = f"as {dotted(left.source[0])}:{left.source[1]}"
-        elif self.way == IN:
-            changed = f"to {dotted(left.destination[0])}:{left.destination[1]}"
         else:
-            changed = f"to {left.text().partition(' ')[2]}"
+            changed = f"as {endpoint_text(left.source)}" if self.way is OUT else f"to {endpoint_text(left.destination)}"
         return f"{came.name}>{left.name} ({came.text()} {changed})"
+
+
+    def alike(self):
+        """Returns what all pairs have that no rule about pairs can tell from this one."""
+        came, left = self.arrival, self.departure
+        return left and (
+            self.way, self.how, self.protocol, came.kind, came.sum_ok, left.sum_ok, came.is_offloaded, left.is_offloaded,
+            left.header_ok, came.ttl - left.ttl, came.may_fragment, left.may_fragment, came.payload == left.payload,
+            came.payload > 0 and came.destination[1] in GATEWAY_PORTS)
+
+    def as_it_was(self):
+        return self
 
 
 class Departed:
     """A packet that left without having arrived: the gateway's own, or one whose arrival is not in the captures."""
 
-    __slots__ = ("time", "packet", "is_leak", "is_claimed")
+    departure = leak = None
 
     def __init__(self, packet, is_leak=False):
-        self.time, self.packet, self.is_leak, self.is_claimed = packet.time, packet, is_leak, False
+        self.time, self.packet, self.protocol, self.is_leak, self.is_claimed = packet.time, packet, packet.protocol, is_leak, False
+
+    @property
+    def places(self):
+        return None, self.packet.place
+
+    def text(self):
+        return f"{self.packet.name} ({self.packet.text()})"
+
+
+class Seen(NamedTuple):
+    """A packet that went through a mapping before: its way, ends and flags, the end that it got, its time, and the files and
+    numbers of arrival and departure."""
+
+    way: str
+    protocol: int
+    source: tuple
+    destination: tuple
+    end: tuple
+    flags: int
+    time: int
+    numbers: list
+
+    @property
+    def places(self):
+        sides = {OUT: SIDES, IN: SIDES[::-1], HAIRPIN: ("inside", "inside")}[self.way]
+        return [(side, *self.numbers[at : at + 2]) for side, at in zip(sides, (0, 2))]
+
+    def text(self):
+        ends = ends_text(self.protocol, self.source, self.destination, self.flags)
+        return f"{'>'.join(named(*it) for it in self.places)} ({ends} {'to' if self.way is IN else 'as'} {endpoint_text(self.end)})"
 
 
 @dataclasses.dataclass
 class Plan:
     """What is known before captures are paired: the pool, how far the outside clock is ahead, in nanoseconds, how deep payloads are
-    compared, which sides have each packet twice, whether the gateway ends connections itself and makes its own, and whether one file is
-    of both sides, so that a leak cannot be told."""
+    compared, which sides have each packet twice, whether the gateway ends connections itself and makes its own, and whether one
+    file is of both sides, so that a leak cannot be told."""
 
     pool: set
     ahead: int = 0
@@ -70,7 +119,43 @@ class Plan:
     is_one_file: bool = False
 
 
-# BEFORE
+@dataclasses.dataclass
+class Given:
+    """What is judged: the files of each side, the inside prefixes, and what the user knows: the pool, the kind of filtering that
+    was configured, and the names of the interfaces of both sides in the captures."""
+
+    inside: list
+    outside: list
+    prefixes: Prefixes
+    pool: set | None = None
+    filtering: str | None = None
+    interfaces: tuple = (None, None)
+    is_one_file: bool = False
+
+    def sides(self, plan=None, keeps_data=False):
+        """Opens the captures, and returns both sides."""
+        sides = [Side(*it, keeps_data) for it in zip(SIDES, (self.inside, self.outside), self.interfaces)]
+        for side in sides if plan else ():
+            side.depth, side.is_double, side.ahead = plan.depth, side.name in plan.doubles, plan.ahead * (side.name == "outside")
+        return sides
+
+    def plan(self):
+        """Finds what is to be known before both sides are paired, from the first packets of each. Where they are the other way
+        round, or have nothing in common, a fault says so."""
+        sides = self.sides()
+        packets = [sampled(it) for it in sides]
+        pool = self.pool or pool_of(*packets, self.prefixes)
+        if not pool and all(packets):
+            # one may begin long before the other
+            sides, begin = self.sides(), max(it[0].time for it in packets)
+            packets = [sampled(it, begin - 10 * SECOND) for it in sides]
+            pool = pool_of(*packets, self.prefixes)
+        if not pool:
+            refuse(packets, self.prefixes)
+        depth = min((it.least_cut for it in sides if it.least_cut), default=None)
+        doubles = tuple(name for name, it in zip(SIDES, packets) if share_of_doubles(it) > 1 / 3)
+        ahead, is_ending = ahead_of(*packets, self.prefixes, pool), ends_connections(*packets, self.prefixes)
+        return Plan(set(pool), ahead, depth, doubles, is_ending, self.is_one_file)
 
 
 def sampled(side, begin=0):
@@ -79,20 +164,19 @@ def sampled(side, begin=0):
 
 
 def pool_of(inside, outside, prefixes):
-    """Returns the external addresses: the sources at the outside of what, but for its source, was sent inside; of a gateway that ends
-    connections itself, of SYNs to the same remote."""
+    """Returns the external addresses: the sources at the outside of what, but for its source, was sent inside; of a gateway that
+    ends connections itself, of SYNs to the same remote."""
     sent = [it for it in inside if it.source[0] in prefixes]
     left = [it for it in outside if it.source[0] not in prefixes]
-    keys = {it.key(True) for it in sent}
+    keys, ends = {it.key(True) for it in sent}, {it.destination for it in sent if it.is_syn}
     found = collections.Counter(it.source[0] for it in left if it.kind != ERROR and it.key(True) in keys)
-    if not found:
-        ends = {it.destination for it in sent if it.is_syn}
-        found.update(it.source[0] for it in left if it.is_syn and it.destination in ends)
+    found = found or collections.Counter(it.source[0] for it in left if it.is_syn and it.destination in ends)
     return {address for address, count in found.items() if count * 1000 >= max(found.values())}
 
 
 def ahead_of(inside, outside, prefixes, pool):
-    """Returns how far the outside clock is ahead, from contents that are at each side once: half of the difference of both delays."""
+    """Returns how far the outside clock is ahead, from contents that are at each side once: half of the difference of both
+    delays."""
     delays = []
     for is_out in (True, False):
         places = [collections.defaultdict(list), collections.defaultdict(list)]
@@ -100,16 +184,16 @@ def ahead_of(inside, outside, prefixes, pool):
             for it in packets:
                 if (it.source[0] in addresses) == is_out:
                     place[it.key(is_out)].append(it.time)
-        differences = [places[1][key][0] - times[0] for key, times in places[0].items() if len(times) == 1 == len(places[1].get(key, ()))]
-        if differences:
-            delays.append(statistics.median(differences))
+        times = [(one, places[1].get(key, ())) for key, one in places[0].items()]
+        differences = [other[0] - one[0] for one, other in times if len(one) == 1 == len(other)]
+        delays += [statistics.median(differences)] if differences else []
     if len(delays) == 2:
         # of one clock what goes out is later outside, and what comes in earlier
         return int(sum(delays) / 2) if delays[0] < 0 or delays[1] > 0 else 0
     return int(delays[0]) if delays and abs(delays[0]) > SECOND else 0
 
 
-def is_ending(inside, outside, prefixes):
+def ends_connections(inside, outside, prefixes):
     """Whether a gateway ends connections itself: its SYNs are none that inside hosts sent, but go to the same remotes."""
     syns = [it for it in inside if it.is_syn and it.source[0] in prefixes]
     left = [it for it in outside if it.is_syn and it.source[0] not in prefixes]
@@ -127,124 +211,105 @@ def share_of_doubles(packets):
     return count / max(len(packets), 1)
 
 
-def planned(sides, prefixes, pool=None, is_one_file=False):
-    """Finds what is to be known before the captures of both sides are paired, from the first packets of each. `sides` makes both
-    anew. Where they are the other way round, or have nothing in common, a fault says so."""
-    inside, outside = sides()
-    packets = [sampled(inside), sampled(outside)]
-    found = pool or pool_of(*packets, prefixes)
-    begin = max((it[0].time for it in packets if it), default=0)
-    if not found and all(packets):
-        # one may begin long before the other
-        inside, outside = sides()
-        packets = [sampled(it, begin - 10 * SECOND) for it in (inside, outside)]
-        found = pool_of(*packets, prefixes)
-    if not found:
-        refuse(packets, prefixes)
-    depth = min((it.least_cut for it in (inside, outside) if it.least_cut), default=None)
-    doubles = tuple(name for name, it in zip(("inside", "outside"), packets) if share_of_doubles(it) > 1 / 3)
-    return Plan(set(found), ahead_of(*packets, prefixes, found), depth, doubles, is_ending(*packets, prefixes), is_one_file)
-
-
 def refuse(packets, prefixes):
     """Says why there are no pairs."""
     ends = [sum(it.source[0] in prefixes or it.destination[0] in prefixes for it in side) for side in packets]
-    for side, name in zip(packets, ("inside", "outside")):
+    for side, name in zip(packets, SIDES):
         if not side:
             raise Fault(BAD_WORDS, f"the captures of --{name} have no packet of IPv4")
+    if ends[1] > ends[0]:
+        raise Fault(BAD_WORDS, "--outside has more packets from or to --inside-prefix than --inside: the sides seem to be swapped")
     if not ends[0]:
-        turned = ", and the captures of --outside have: the sides seem to be swapped" if ends[1] else ""
-        raise Fault(BAD_WORDS, f"the captures of --inside have no packet from or to --inside-prefix{turned}")
-    raise Fault(BAD_WORDS, "nothing that inside hosts sent is in the captures of --outside: they are not of one gateway and one time")
-
-
-# PAIRS
+        raise Fault(BAD_WORDS, "the captures of --inside have no packet from or to --inside-prefix")
+    raise Fault(BAD_WORDS, "nothing that inside hosts sent is in the captures of --outside: they are not of one gateway and time")
 
 
 class Pairing:
-    """Pairs the packets of both sides. It yields pairs in the order in which they arrived, and what departed alone in its place, each once
-    it is known what became of it: what has not left within the window never will."""
+    """Pairs the packets of both sides. `take` gets pairs in the order in which they arrived, and what departed alone in its place,
+    each once it is known what became of it: what has not left within the window never will."""
 
-    def __init__(self, prefixes, plan):
-        self.prefixes, self.plan, self.pool = prefixes, plan, plan.pool
+    def __init__(self, prefixes, plan, take):
+        self.prefixes, self.plan, self.pool, self.take = prefixes, plan, plan.pool, take
         # what waits for its departure, by its content
         self.waiting = {OUT: {}, IN: {}, HAIRPIN: {}}
         self.departures, self.queue, self.silent = collections.deque(), collections.deque(), []
-        # what has departed alone, by what an application gateway leaves, or by the remote of a SYN
-        self.alone = collections.defaultdict(list)
-        # arrivals in pieces
-        self.in_pieces = []
+        # what has departed alone, by what an application gateway leaves, or by the remote of a SYN; and arrivals in pieces
+        self.alone, self.in_pieces = collections.defaultdict(list), []
         # how many identifications were changed, and how many kept
         self.identifications = [0, 0]
-        self.counts, self.pairs, self.not_judged = collections.Counter(), 0, 0
+        self.pairs = self.not_judged = 0
 
-    def items(self, inside, outside):
-        """Yields pairs and what departed alone."""
-        depart, departures, queue, slack = self.depart, self.departures, self.queue, TWO_CLOCKS if self.plan.ahead else ONE_CLOCK
+    def run(self, inside, outside):
+        """Pairs the packets of both sides until they end."""
+        departures, queue, slack = self.departures, self.queue, TWO_CLOCKS if self.plan.ahead else ONE_CLOCK
         for packet in merged(inside, outside):
             now = packet.time
             while departures and departures[0].time + slack <= now:
-                depart(departures.popleft())
+                self.depart(departures.popleft())
             if packet.side == "inside":
                 self.take_inside(packet)
             else:
                 self.take_outside(packet)
-            while queue and ((head := queue[0]).time + WINDOW < now or type(head) is Pair and (head.departure or head.leak)):
-                yield from self.decided(queue.popleft())
+            while queue and ((head := queue[0]).departure or head.time + WINDOW < now or head.leak):
+                self.decide(queue.popleft())
         while departures:
-            depart(departures.popleft())
+            self.depart(departures.popleft())
         while queue:
-            yield from self.decided(queue.popleft())
+            self.decide(queue.popleft())
         if len(self.silent) > FEW_SILENT and self.silent[-1].time - self.silent[0].time > LONG_SILENT:
             self.not_judged += len(self.silent)
-        else:
-            yield from self.silent
+            self.silent.clear()
+        self.take_silent()
 
-    def decided(self, item):
-        """Yields an item whose fate is known. Arrivals of which nothing left, and the gateway's own packets after them, wait until
-        something leaves again."""
+    def take_silent(self):
+        for item in self.silent:
+            self.take(item)
+        self.silent.clear()
+
+    def decide(self, item):
+        """Hands on an item whose fate is known. Arrivals of which nothing left, and the gateway's own packets after them, wait
+        until something leaves again."""
+        if item.departure and not self.silent and not item.arrival.pieces:
+            self.pairs += 1
+            self.take(item)
+            return
         if type(item) is Pair:
             if item.arrival.pieces:
                 self.in_pieces.remove(item)
             if not item.departure and not item.leak:
                 self.end_wait(item)
             self.pairs += item.departure is not None
-            is_silent = not item.departure and not item.leak and not item.made
+            is_silent = not (item.departure or item.leak or item.made)
         else:
             self.forget(item)
             if item.is_claimed or not item.is_leak and self.is_made_of_pieces(item):
                 return
             is_silent = bool(self.silent) and not item.is_leak
-        if is_silent:
-            if len(self.silent) < MOST_SILENT:
-                self.silent.append(item)
-            else:
-                self.not_judged += 1
-            return
-        if self.silent:
-            yield from self.silent
-            self.silent.clear()
-        yield item
+        if is_silent and len(self.silent) < MOST_SILENT:
+            self.silent.append(item)
+        elif is_silent:
+            self.not_judged += 1
+        else:
+            if self.silent:
+                self.take_silent()
+            self.take(item)
 
     def take_inside(self, packet):
-        is_from, is_to = packet.source[0] in self.prefixes, packet.destination[0] in self.prefixes
-        if is_from and not is_to and is_forwarded(packet.destination[0]):
+        destination = packet.destination[0]
+        is_from, is_to = self.prefixes[packet.source[0]], self.prefixes[destination]
+        if is_from and not is_to and (destination in self.pool or is_forwarded(destination)):
             # one that the machine itself sent was captured at its other interface
             if not packet.is_sent:
-                self.arrive(HAIRPIN if packet.destination[0] in self.pool else OUT, packet)
+                self.arrive(HAIRPIN if destination in self.pool else OUT, packet)
         elif is_to and packet.is_sent is not False:
             self.departures.append(packet)
-        else:
-            self.counts["neither"] += 1
 
     def take_outside(self, packet):
         source, destination = packet.source[0], packet.destination[0]
-        if destination in self.prefixes:
-            self.counts["neither"] += 1
-        elif source in self.prefixes:
-            if packet.is_sent is not False and not self.plan.is_one_file:
-                self.departures.append(packet)
-        elif source not in self.pool and destination in self.pool:
+        is_from = self.prefixes[source]
+        if self.prefixes[destination] or is_from and (packet.is_sent is False or self.plan.is_one_file):
+            return
+        if not is_from and source not in self.pool and destination in self.pool:
             self.arrive(IN, packet)
         else:
             # where neither is in the pool, the source may be an address of it that was not seen yet
@@ -252,42 +317,35 @@ class Pairing:
 
     def arrive(self, way, packet):
         key = packet.content() if way is HAIRPIN else packet.key(way is OUT)
-        pair, waiting = Pair(way, packet, key), self.waiting[way]
+        pair = Pair(way, packet, key)
         self.queue.append(pair)
         if packet.pieces:
             self.in_pieces.append(pair)
-        row = waiting.get(key)
-        if row is None:
-            waiting[key] = [pair]
-        else:
-            row.append(pair)
+        self.waiting[way].setdefault(key, []).append(pair)
 
     def depart(self, packet):
         """Finds the arrival of a packet that left."""
         source, destination = packet.source[0], packet.destination[0]
         if packet.side == "outside":
-            if source in self.prefixes:
+            if self.prefixes[source]:
                 self.leak(packet)
             elif pair := self.chosen(OUT, packet.key(True), packet):
                 pair.departure = packet
                 self.pool.add(source)
-            elif source not in self.pool:
-                self.counts["neither"] += 1
-            elif destination in self.pool and (pair := self.chosen(HAIRPIN, packet.content(), packet)):
-                pair.leak, pair.how = packet, None
-            else:
-                self.leave_alone(packet)
+            elif source in self.pool:
+                if destination in self.pool and (pair := self.chosen(HAIRPIN, packet.content(), packet)):
+                    pair.leak, pair.how = packet, None
+                else:
+                    self.leave_alone(packet)
             return
-        pair, is_between = None, source in self.prefixes
+        pair, is_between = None, self.prefixes[source]
         if is_between or source in self.pool:
             pair = self.chosen(HAIRPIN, packet.content(), packet)
         if not pair and not is_between:
             pair = self.chosen(IN, packet.key(False), packet)
         if pair:
             pair.departure = packet
-        elif is_between and packet.kind != ERROR:
-            self.counts["both inside"] += 1
-        else:
+        elif not is_between or packet.kind == ERROR:
             self.leave_alone(packet)
 
     def chosen(self, way, key, packet):
@@ -296,16 +354,18 @@ class Pairing:
         if row is None:
             return None
         best = row[0]
-        if len(row) > 1:
+        if len(row) == 1:
+            del self.waiting[way][key]
+            best.key = None
+        else:
             same = [it for it in row if it.arrival.identification == packet.identification and it.arrival.length == packet.length]
             best = (same or row)[0]
-            if any(it.arrival.source != best.arrival.source or it.arrival.destination != best.arrival.destination for it in row):
-                ends = {(it.arrival.source, it.arrival.destination) for it in same}
-                if len(ends) != 1 or not packet.identification:
+            if len({(it.arrival.source, it.arrival.destination) for it in row}) > 1:
+                if len({(it.arrival.source, it.arrival.destination) for it in same}) != 1 or not packet.identification:
                     # so are all that wait with it
                     for it in row:
                         it.how = LIKELY
-        self.drop(best)
+            self.drop(best)
         is_kept = best.arrival.identification == packet.identification
         self.identifications[is_kept] += 1
         changed, kept = self.identifications
@@ -326,11 +386,9 @@ class Pairing:
     def leave_alone(self, packet):
         """Notes a departure without an arrival, by what may still be found to be its arrival."""
         item = Departed(packet)
-        if self.is_made_of_pieces(item):
-            return
-        self.queue.append(item)
-        if packet.side == "outside":
-            for key in keys_alone(packet):
+        if not self.is_made_of_pieces(item):
+            self.queue.append(item)
+            for key in keys_alone(packet) if packet.side == "outside" else ():
                 self.alone[key].append(item)
 
     def leak(self, packet):
@@ -343,27 +401,22 @@ class Pairing:
         self.queue.append(Departed(packet, is_leak=True))
 
     def forget(self, item):
-        if item.is_leak:
-            return
-        if item.packet.side == "outside":
-            for key in keys_alone(item.packet):
-                self.alone[key].remove(item)
-                if not self.alone[key]:
-                    del self.alone[key]
+        for key in keys_alone(item.packet) if item.packet.side == "outside" and not item.is_leak else ():
+            self.alone[key].remove(item)
+            if not self.alone[key]:
+                del self.alone[key]
 
     def end_wait(self, pair):
-        """Looks for another departure of a pair that has none: with another payload, of a connection that the gateway ends itself, or
-        made of its pieces."""
+        """Looks for another departure of a pair that has none: with another payload, or of a connection that the gateway ends
+        itself."""
         if pair.key is not None:
             self.drop(pair)
         came = pair.arrival
-        if pair.way is OUT and came.kind in (OF_UDP, OF_TCP):
-            keys = zip((ALTERED, CONNECTION), keys_alone(came))
-            for how, key in keys if self.plan.ends_connections else itertools.islice(keys, 1):
-                for item in self.alone.get(key, ()):
-                    if not item.is_claimed and (how is ALTERED or item.packet.is_syn) and 0 <= item.time - pair.time < SECOND:
-                        item.is_claimed, pair.departure, pair.how = True, item.packet, how
-                        return
+        for how, key in zip((ALTERED, CONNECTION)[: 1 + self.plan.ends_connections], keys_alone(came) if pair.way is OUT else ()):
+            for item in self.alone.get(key, ()):
+                if not item.is_claimed and (how is ALTERED or item.packet.is_syn) and 0 <= item.time - pair.time < SECOND:
+                    item.is_claimed, pair.departure, pair.how = True, item.packet, how
+                    return
 
     def is_made_of_pieces(self, item):
         """Whether a departure was made of the pieces of a datagram that waits; that notes it."""
@@ -391,15 +444,15 @@ def is_forwarded(address):
     return address < 0xE0000000 and address >> 16 != 0xA9FE and address >> 24 not in (0, 127)
 
 
-def merged(one, other):
+def merged(*sides):
     """Yields the packets of two sides by time."""
-    first, second = next(one, None), next(other, None)
+    first, second = (next(it, None) for it in sides)
     while first and second:
         if first.time <= second.time:
             yield first
-            first = next(one, None)
+            first = next(sides[0], None)
         else:
             yield second
-            second = next(other, None)
+            second = next(sides[1], None)
     yield from filter(None, (first, second))
-    yield from itertools.chain(one, other)
+    yield from itertools.chain(*sides)

@@ -1,5 +1,5 @@
-"""What should have come in, by the proved program: each packet from outside, at the inside endpoint that the gateway's number stood for,
-goes through the definition of napt, under the gateway's own timers and filter."""
+"""What should have come in, by the proved program: each packet from outside, at the inside endpoint that the gateway's number stood
+for, goes through the definition of napt, under the gateway's own timers and filter."""
 import dataclasses
 import json
 import pathlib
@@ -7,24 +7,26 @@ import struct
 import subprocess
 import tempfile
 
-from judging.gateway import ADDRESS, ADDRESS_PORT, ESTABLISHED, INDEPENDENT, LEAST, OF_ICMP, OF_UDP, RESET, TIMER, TRANSITORY, Incoming
+from judging.gateway import ADDRESS, ADDRESS_PORT, ESTABLISHED, INDEPENDENT, LEAST, OF_ICMP, OF_UDP, RESET, TIMER, TRANSITORY
+from judging.gateway import Incoming
 from judging.judge import Judge
-from judging.packets import ERROR, ICMP, QUERY, TCP, UDP, dotted
+from judging.packets import ERROR, ICMP, QUERY, TCP, UDP, dotted, write_capture
 from judging.pairing import IN, Pair
-from judging.rows import BY_DEFINITION
-from reading.captures import BAD_WORDS, MOST_CAPTURED, RAW_IP, SECOND, Fault
+from judging.rows import BY_DEFINITION, Row
+from reading.captures import BAD_WORDS, SECOND, Fault
 
 FILTERS = {INDEPENDENT: "independent", ADDRESS: "address", ADDRESS_PORT: "address-port"}
 TIMERS = {"udp": OF_UDP, "tcp-established": ESTABLISHED, "tcp-transitory": TRANSITORY, "icmp": OF_ICMP}
 MOST_ADDRESSES = 16
-# where an IPv4 header has its checksum and its destination, and where the checksum of a transport is
+# where an IPv4 header has its checksum, source and destination, and where the checksum of a transport is
 SUM_PLACE, SOURCE, DESTINATION, SUM_OF = 10, 12, 16, {UDP: 6, TCP: 16, ICMP: 2}
 FILTERING = {UDP: "4787 REQ-8", TCP: "5382 REQ-3"}
 
 
 @dataclasses.dataclass
 class Followed:
-    """A packet from outside, the inside endpoint that it was for, the rows that it may show, and what the definition does with it."""
+    """A packet from outside, the inside endpoint that it was for, the rows that it may show, and what the definition does with
+    it."""
 
     pair: Pair
     inside: tuple
@@ -33,46 +35,37 @@ class Followed:
     cause: str | None = None
 
 
-def updated(data, at, before, after):
-    """Updates a checksum in place by the difference of what was changed, so that a wrong one stays wrong (RFC 1624)."""
-    checksum = struct.unpack_from("!H", data, at)[0]
-    total = (0xFFFF - checksum - int.from_bytes(before, "big") + int.from_bytes(after, "big")) % 0xFFFF
-    struct.pack_into("!H", data, at, 0xFFFF - total)
+def changed(data, at, value, *sums):
+    """Puts a value into its place, and updates checksums by the difference, so that a wrong one stays wrong (RFC 1624)."""
+    before, data[at : at + len(value)] = int.from_bytes(data[at : at + len(value)], "big"), value
+    for place in sums:
+        checksum = struct.unpack_from("!H", data, place)[0]
+        total = (0xFFFF - checksum - before + int.from_bytes(value, "big")) % 0xFFFF
+        struct.pack_into("!H", data, place, 0xFFFF - total)
 
 
-def change_end(data, header, place, port_place, end, protocol, outer_sum=None):
-    """Gives an IPv4 packet, which begins at `header` in the data, another end: its address at a place and its port at another."""
-    body = header + (data[header] & 15) * 4
+def change_end(data, place, port_place, end, protocol):
+    """Gives an IPv4 packet another end: its address at a place, and its port at another of the transport."""
+    body = (data[0] & 15) * 4
     sum_at = body + SUM_OF[protocol]
-    has_sum = protocol != UDP or data[sum_at : sum_at + 2] != b"\0\0"
-    is_whole = sum_at + 2 <= len(data)
-    before = bytes(data[header:])
-    for at, value in ((header + place, struct.pack("!I", end[0])), (body + port_place, struct.pack("!H", end[1]))):
-        old = bytes(data[at : at + len(value)])
-        data[at : at + len(value)] = value
-        is_address = len(value) == 4
-        if is_address:
-            updated(data, header + SUM_PLACE, old, value)
-        if has_sum and is_whole and not (is_address and protocol == ICMP):
-            updated(data, sum_at, old, value)
-    if outer_sum is not None:
-        pad = b"\0" * (len(before) % 2)
-        updated(data, outer_sum, before + pad, bytes(data[header:]) + pad)
+    has_sum = sum_at + 2 <= len(data) and (protocol != UDP or data[sum_at : sum_at + 2] != b"\0\0")
+    changed(data, place, struct.pack("!I", end[0]), SUM_PLACE, *[sum_at] * (has_sum and protocol != ICMP))
+    changed(data, body + port_place, struct.pack("!H", end[1]), *[sum_at] * has_sum)
 
 
 def sent_inside(packet, inside):
     """Returns the bytes of a packet from outside as if it had been sent to an inside endpoint."""
-    data = bytearray(packet.data)
+    data, body = bytearray(packet.data), (packet.data[0] & 15) * 4
     if packet.kind != ERROR:
-        change_end(data, 0, DESTINATION, 4 if packet.kind == QUERY else 2, inside, packet.protocol)
+        change_end(data, DESTINATION, 4 if packet.kind == QUERY else 2, inside, packet.protocol)
         return bytes(data)
-    body = (data[0] & 15) * 4
-    old, new = bytes(data[DESTINATION : DESTINATION + 4]), struct.pack("!I", inside[0])
-    data[DESTINATION : DESTINATION + 4] = new
-    updated(data, SUM_PLACE, old, new)
-    protocol = packet.quoted.protocol
-    change_end(data, body + 8, SOURCE, 4 if protocol == ICMP else 0, inside, protocol, outer_sum=body + 2)
-    return bytes(data)
+    changed(data, DESTINATION, struct.pack("!I", inside[0]), SUM_PLACE)
+    quoted, protocol = data[body + 8 :], packet.quoted.protocol
+    pad = b"\0" * (len(quoted) % 2)
+    change_end(quoted, SOURCE, 4 if protocol == ICMP else 0, inside, protocol)
+    data += pad
+    changed(data, body + 8, quoted + pad, body + 2)
+    return bytes(data[: len(packet.data)])
 
 
 def rows_of(pair, mapping, is_known):
@@ -98,35 +91,36 @@ class Replay(Judge):
     def __init__(self, given, plan, explain):
         super().__init__(given, plan, keeps_data=True)
         self.explain, self.sent, self.followed, self.timed_out = explain, [], [], set()
-        self.gateway.follows = self.follow
 
-    def tell(self, moment, protocol):
+    def tell(self, moment):
         if type(moment) is Incoming and moment.cause in (TIMER, RESET):
             self.timed_out.add(id(moment.pair))
-        super().tell(moment, protocol)
+        super().tell(moment)
 
     def follow(self, pair, mapping, is_known):
         if pair.way is IN and pair.arrival.data:
             self.followed.append(Followed(pair, mapping.inside, rows_of(pair, mapping, is_known)))
 
-    def watch(self, item):
+    def take(self, item):
+        super().take(item)
         if type(item) is Pair and item.way is not IN and item.arrival.data:
             self.sent.append((item.time, item.arrival.data))
 
-    def run(self, watch=None):
-        super().run(self.watch)
+    def run(self):
+        super().run()
         self.ask()
         self.conclude()
         return self
 
     def configuration(self, protocol):
-        """Returns napt's configuration with the gateway's own filter for a protocol, and its own timers where they are long enough."""
+        """Returns napt's configuration with the gateway's own filter for a protocol, and its own timers where they are long
+        enough."""
         lifetimes, kind = self.gateway.lifetimes, self.gateway.filters[protocol].kind
-        timers = {name: max(LEAST[it], -(-lifetimes.longest(it) // SECOND) * SECOND) // SECOND for name, it in TIMERS.items()}
-        pool = ", ".join(f'"{dotted(it)}"' for it in sorted(self.plan.pool))
-        inside = ", ".join(f'"{it}"' for it in self.given.prefixes.texts)
-        lines = [f"pool = [{pool}]", f"inside = [{inside}]", f'filter = "{FILTERS.get(kind, FILTERS[INDEPENDENT])}"', 'parity = "free"']
-        return "\n".join([*lines, "[timers]", *(f"{name} = {seconds}" for name, seconds in timers.items())]) + "\n"
+        timers = {name: max(LEAST[it], lifetimes.longest(it) + SECOND - 1) // SECOND for name, it in TIMERS.items()}
+        listed = ([dotted(it) for it in sorted(self.plan.pool)], [str(it) for it in self.given.prefixes.networks])
+        lines = [f"{name} = {json.dumps(it)}" for name, it in zip(("pool", "inside"), listed)]
+        lines += [f'filter = "{FILTERS.get(kind, FILTERS[INDEPENDENT])}"', 'parity = "free"', "[timers]"]
+        return "\n".join(lines + [f"{name} = {seconds}" for name, seconds in timers.items()]) + "\n"
 
     def ask(self):
         """Runs the program under the filter of each protocol, and notes what it does with what was followed."""
@@ -138,34 +132,27 @@ class Replay(Judge):
             write_capture(room / "replies.pcap", [(it.pair.time, sent_inside(it.pair.arrival, it.inside)) for it in self.followed])
             for protocol in (UDP, TCP):
                 (room / "napt.toml").write_text(self.configuration(protocol))
-                outcomes = asked(self.explain, room)
-                for it, outcome in zip(self.followed, outcomes, strict=True):
-                    if (it.pair.arrival.protocol == TCP) == (protocol == TCP):
+                for it, outcome in zip(self.followed, asked(self.explain, room), strict=True):
+                    if (it.pair.protocol == TCP) == (protocol == TCP):
                         it.is_let_in, it.cause = outcome["outcome"] == "to-inside", outcome["cause"]
 
     def conclude(self):
-        """Judges what comes in by what the definition did. What the gateway's own timers, or a RST, ended is for other rows to say."""
-        for name in {name for it in self.followed for name in it.rows} - set(FILTERING.values()):
-            self.rows[name].clear(BY_DEFINITION)
+        """Judges what comes in by what the definition did. What the gateway's own timers, or a RST, ended is for other rows to
+        say."""
+        for name in {name for it in self.followed for name in it.rows}:
+            if name in FILTERING.values():
+                self.rows[name].judged_by = BY_DEFINITION
+            else:
+                self.rows[name] = Row(self.rows[name].requirement, BY_DEFINITION)
         for it in self.followed:
             did = it.pair.departure is not None
             for row in (self.rows[name] for name in it.rows):
-                row.judged_by = BY_DEFINITION
-                if did == it.is_let_in:
-                    if did or it.cause != "no-binding":
-                        row.meets(it.pair)
-                elif it.is_let_in and id(it.pair) not in self.timed_out:
+                if did == it.is_let_in and (did or it.cause != "no-binding"):
+                    row.meets(it.pair)
+                elif it.is_let_in and not did and id(it.pair) not in self.timed_out:
                     row.breaks(it.pair, "the definition lets it in")
-                elif did and it.cause != "no-binding":
+                elif did and not it.is_let_in and it.cause != "no-binding":
                     row.breaks(it.pair, f"the definition drops it: {it.cause}", is_absence=True)
-
-
-def write_capture(path, records):
-    """Writes a capture of raw IP, with times in nanoseconds."""
-    with open(path, "wb") as file:
-        file.write(struct.pack("<IHHIIII", 0xA1B23C4D, 2, 4, 0, 0, MOST_CAPTURED, RAW_IP))
-        for time, data in records:
-            file.write(struct.pack("<IIII", *divmod(time, SECOND), len(data), len(data)) + data)
 
 
 def asked(explain, room):
@@ -177,5 +164,4 @@ def asked(explain, room):
         raise Fault(BAD_WORDS, f"{explain}: {error.strerror} (--explain names the program)") from error
     if answer.returncode:
         raise Fault(BAD_WORDS, f"{explain}: status {answer.returncode}: {answer.stderr.strip()}")
-    found = [json.loads(line) for line in answer.stdout.splitlines()]
-    return [it for it in found if it["side"] == "outside"]
+    return [it for it in map(json.loads, answer.stdout.splitlines()) if it["side"] == "outside"]

@@ -1,143 +1,39 @@
-"""The requirements: name, level, section of the RFC, what it asks, what traffic shows it, and its rule, for which moments and protocol."""
-from judging import rules
-from judging.gateway import Departure, Error, Fragmented, Incoming, Leak, TooLarge, Turned, Unforwarded, Unsolicited
-from judging.packets import ICMP, TCP, UDP
-from judging.pairing import Pair
-from judging.rows import Requirement
-from judging.rules import End
+"""The requirements of requirements.csv: the name, level (RFC 2119) and section of each, what it asks, what traffic shows it, its
+rule, the protocol that it is of, where it is of one, and whether a gateway shows it that ends connections itself."""
+import csv
+import dataclasses
+import pathlib
+import typing
 
-MUST, SHOULD = "MUST", "SHOULD"
+from judging.packets import PROTOCOLS
+from judging.rules import Rules
 
-
-def needed(name, level, section, asks, shown_by, rule, *moments, of=None):
-    return Requirement(name, level, section, asks, shown_by, rule, moments, of)
+NUMBERS = {name: number for number, name in PROTOCOLS.items()}
 
 
-REQUIREMENTS = (
-    needed("4787 REQ-1", MUST, "4.1", "UDP: one external endpoint, whatever the remote",
-           "an inside endpoint that sends to a second remote within 2 minutes", rules.same_endpoint_for_each_remote, Departure,
-           End, of=UDP),
-    needed("4787 REQ-2", SHOULD, "4.1", "a host has one external address (paired)",
-           "a host with two sockets, behind two or more external addresses", rules.paired_addresses, Departure, End),
-    needed("4787 REQ-3", MUST, "4.2.1", "UDP: an external endpoint has one inside endpoint (no overloading)",
-           "two hosts that want the same number, to different remotes", rules.no_overloading, Departure, of=UDP),
-    needed("4787 REQ-3a low", SHOULD, "4.2.1", "ports below 1024 stay below", "a socket below 1024 whose number is taken",
-           rules.low_ports_stay_low, Departure),
-    needed("4787 REQ-3a high", MUST, "4.2.1", "ports from 1024 on stay there", "a socket from 1024 on",
-           rules.high_ports_stay_high, Departure),
-    needed("4787 REQ-4", SHOULD, "4.2.2", "UDP: parity is kept (RFC 7857, section 8: may be given up)",
-           "two hosts that want the same number", rules.parity, Departure, of=UDP),
-    needed("4787 REQ-5", MUST, "4.3", "UDP: a mapping lives 2 minutes",
-           "a reply that comes 115 to 120 s after the last packet out", rules.udp_lives, End),
-    needed("4787 REQ-6", MUST, "4.3", "UDP: a packet out refreshes the mapping",
-           "a mapping that packets out alone keep for longer than the timer, and a reply after the timer to one that is not kept",
-           rules.packets_out_refresh, Incoming, End, of=UDP),
-    needed("4787 REQ-8", SHOULD, "5", "UDP: filtering endpoint-independent or address-dependent, and one of them",
-           "packets to a live mapping from another port of its remote, and from another address", rules.filtering, End, of=UDP),
-    needed("4787 REQ-9", MUST, "6", "UDP: hairpinning", "an inside host that sends to another's external endpoint",
-           rules.turns_back, Turned, End, of=UDP),
-    needed("4787 REQ-9a", MUST, "6", "UDP: hairpins come from the sender's external endpoint",
-           "an inside host that sends to another's external endpoint", rules.turns_back_translated, Turned, of=UDP),
-    needed("4787 REQ-10", SHOULD, "7", "no application gateway changes UDP payloads",
-           "payloads with the host's address, to port 5060", rules.no_application_gateway, Pair, of=UDP),
-    needed("4787 REQ-11", MUST, "8", "what it does does not depend on what other hosts do",
-           "clashes of numbers; three kinds of remotes", rules.deterministic, End),
-    needed("4787 REQ-12", MUST, "9", "an ICMP error ends no UDP mapping", "an error about a live mapping, then a reply",
-           rules.errors_end_nothing, Incoming, of=UDP),
-    needed("4787 REQ-12a", SHOULD, "9", "errors are not filtered by their source", "an error from a router on the way",
-           rules.errors_from_all, Error, End),
-    needed("4787 REQ-13", MUST, "10", "too big with DF is answered by 'fragmentation needed'", "a DF packet above the outer MTU",
-           rules.too_large_is_answered, TooLarge, End),
-    needed("4787 REQ-14 in", MUST, "11", "fragments in order go through", "a datagram in pieces, in order",
-           rules.pieces_in_order_pass, Fragmented),
-    needed("4787 REQ-14 out", MUST, "11", "fragments out of order go through", "a datagram in pieces, out of order",
-           rules.pieces_out_of_order_pass, Fragmented),
-    needed("5382 REQ-1", MUST, "4.1", "TCP: one external endpoint, whatever the remote",
-           "connections of one inside endpoint to two remotes", rules.same_endpoint_for_each_remote, Departure, End, of=TCP),
-    needed("5382 REQ-2", MUST, "4.2", "TCP: every valid sequence: handshake and data", "a whole connection",
-           rules.each_segment_passes, Incoming, of=TCP),
-    needed("5382 REQ-2a", MUST, "4.2", "TCP: simultaneous open", "a SYN from a remote to which a SYN was sent",
-           rules.simultaneous_open, Incoming, of=TCP),
-    needed("5382 REQ-3", SHOULD, "4.3", "TCP: filtering as for UDP",
-           "SYNs to a live mapping from another port and from another address", rules.filtering, End, of=TCP),
-    needed("5382 REQ-4", MUST, "4.3", "TCP: no answer to an unsolicited SYN for 6 s", "a SYN from outside that is not let in",
-           rules.syn_is_not_answered, Unsolicited),
-    needed("5382 REQ-4 then", SHOULD, "4.3", "TCP: after 6 s 'port unreachable'",
-           "a SYN from outside that is not let in, and 12 s more", rules.syn_is_answered_late, Unsolicited),
-    needed("5382 REQ-5 established", MUST, "5", "TCP: an established connection lives 2 h 4 min idle",
-           "a segment 7,300 to 7,440 s after the last one", rules.connection_lives, End),
-    needed("5382 REQ-5 transitory", MUST, "5", "TCP: one that opens or closes lives 4 minutes",
-           "a SYN+ACK 230 to 240 s after the SYN", rules.opening_lives, End),
-    needed("5382 REQ-6", SHOULD, "6", "no application gateway changes TCP payloads", "PORT with the host's address, to port 21",
-           rules.no_application_gateway, Pair, of=TCP),
-    needed("5382 REQ-7", MUST, "7.1", "TCP: no overloading (RFC 7857, section 3: may be, with other remotes)",
-           "two hosts that want the same number, to different remotes", rules.no_overloading, Departure, of=TCP),
-    needed("5382 REQ-8", MUST, "7.2", "TCP: hairpinning", "an inside host that connects to another's external endpoint",
-           rules.turns_back, Turned, End, of=TCP),
-    needed("5382 REQ-8a", MUST, "7.2", "TCP: hairpins come from the sender's external endpoint",
-           "an inside host that connects to another's external endpoint", rules.turns_back_translated, Turned, of=TCP),
-    needed("5382 REQ-9", SHOULD, "7.3", "errors about TCP are translated", "an error about a live connection",
-           rules.tcp_errors_pass, Error, of=TCP),
-    needed("5382 REQ-10", MUST, "7.3", "an ICMP error ends no TCP mapping", "an error about a live connection, then a segment",
-           rules.errors_end_nothing, Incoming, of=TCP),
-    needed("5508 REQ-1", MUST, "3.1", "ICMP queries and their replies go through", "an echo, and its reply", rules.queries_pass,
-           Incoming, Unforwarded, of=ICMP),
-    needed("5508 REQ-1a", MUST, "3.1", "ICMP: one identifier, whatever the remote, of one host",
-           "a second remote with the same identifier; two hosts with the same one", rules.one_identifier, Departure, of=ICMP),
-    needed("5508 REQ-2", MUST, "3.2", "a query's mapping lives 60 s", "a reply 55 to 60 s after the query", rules.query_lives,
-           End),
-    needed("5508 REQ-3", SHOULD, "4.1", "errors with a wrong ICMP checksum are dropped", "such an error about a live mapping",
-           rules.wrong_errors_end, Error, End),
-    needed("5508 REQ-3a", SHOULD, "4.1", "errors with a wrong inner IP checksum are dropped",
-           "such an error about a live mapping", rules.wrong_quotations_end, Error, End),
-    needed("5508 REQ-4 none", SHOULD, "4.2.1", "errors from outside without a mapping are dropped",
-           "an error from outside about an endpoint that nobody has", rules.foreign_errors_end, Error, End),
-    needed("5508 REQ-4", MUST, "4.2.1", "errors from outside about a mapping go in, to its host", "an error from outside",
-           rules.errors_come_in, Error),
-    needed("5508 REQ-4a", MUST, "4.2.1", "the quoted source is the inside endpoint again", "an error from outside",
-           rules.quotes_inside, Error),
-    needed("5508 REQ-4b", MUST, "4.2.1", "type and code stay", "an error about a mapping", rules.type_stays, Error),
-    needed("5508 REQ-5", MUST, "4.2.2", "errors from inside about a mapping go out", "an error from inside about what came in",
-           rules.errors_go_out, Error),
-    needed("5508 REQ-5a", MUST, "4.2.2", "the quoted destination is the external endpoint again",
-           "an error from inside about what came in", rules.quotes_outside, Error),
-    needed("5508 REQ-5c", MUST, "4.2.2", "they come from the gateway's address", "an error from inside about what came in",
-           rules.errors_have_own_source, Error),
-    needed("5508 REQ-6", MUST, "4.3", "an error does not refresh a mapping",
-           "an error shortly before the timer ends, a reply after it; and the timer known", rules.errors_refresh_nothing,
-           Incoming, End),
-    needed("5508 REQ-7", MUST, "5", "hairpinned errors", "an error about a hairpin", rules.errors_turn_back, Error),
-    needed("5508 inner sums", MUST, "4.2",
-           "quoted headers keep their checksums right (inner IP and, if it is all there, transport)",
-           "an error that quotes a whole datagram", rules.inner_sums, Error),
-    needed("3022 forward", MUST, "2.2", "what inside hosts send leaves", "any", rules.forwarded, Pair, Unforwarded),
-    needed("3022 deliver", MUST, "2.2", "what comes in goes to the host that has the endpoint", "any reply", rules.delivered,
-           Incoming),
-    needed("3022 IP sum", MUST, "4.1", "IP checksums are right", "any", rules.header_sum, Pair),
-    needed("3022 sums", MUST, "4.2", "right UDP, TCP and ICMP checksums stay right", "any", rules.sums_stay_right, Pair, End),
-    needed("1624 wrong sums", SHOULD, "3", "a wrong UDP or TCP checksum is not made right", "packets with wrong sums, both ways",
-           rules.sums_stay_wrong, Pair),
-    needed("3022 zero sum", MUST, "4.1", "UDP without a checksum keeps 0, or gets a right one", "UDP with checksum 0",
-           rules.no_sum_stays, Pair, of=UDP),
-    needed("3022 content", MUST, "4.1", "flags, sequence numbers and payloads stay", "any", rules.content_stays, Pair, End),
-    needed("3022 no leak", MUST, "2.2", "no inside address leaves", "any", rules.no_leak, Leak, End),
-    needed("1812 TTL", MUST, "5.3.1", "the TTL goes down by one", "any", rules.ttl_goes_down, Pair, End),
-    needed("6888 REQ-2", MUST, "3", "carriers: paired addresses",
-           "a host with two sockets, behind two or more external addresses", rules.paired_addresses, Departure, End),
-    needed("6888 REQ-8", SHOULD, "3", "carriers: a UDP number rests 120 s before another endpoint gets it",
-           "a number that a second host gets soon after it was free", rules.numbers_rest, Departure, End, of=UDP),
-    needed("7857 2.2", SHOULD, "2.2", "a RST is translated, its session lives 4 minutes more",
-           "a segment up to 240 s after a RST", rules.resets_leave_time, Incoming, of=TCP),
-    needed("7857 4", SHOULD, "4", "one external address for all protocols of a host",
-           "UDP and TCP of a host, behind several external addresses", rules.one_address_for_protocols, Departure, End),
-    needed("7857 7", SHOULD, "7", "what is not let in refreshes nothing",
-           "a filtered packet shortly before the timer ends, a reply after it; and the timer known",
-           rules.refused_refresh_nothing, Incoming, End),
-    needed("7857 9", SHOULD, "9", "numbers that change are hard to guess", "ten hosts or more that want the same number",
-           rules.hard_to_guess, Departure, End),
-    needed("7857 10", SHOULD, "10", "identification fields of hosts that share an address do not clash (fragments possible)",
-           "two hosts that send the same value, without DF, to one remote", rules.identifications_differ, Pair, of=UDP),
-)
-# what a gateway that ends connections itself does not show
-OF_SEGMENTS = ("5382 REQ-2", "5382 REQ-2a", "5382 REQ-3", "5382 REQ-5 established", "5382 REQ-5 transitory", "5382 REQ-8", "5382 REQ-9",
-               "5382 REQ-10", "7857 2.2")
+@dataclasses.dataclass(frozen=True)
+class Requirement:
+    """A requirement. Its rule is a method of its row, for moments of the kinds that the signature names."""
+
+    name: str
+    level: str
+    section: str
+    asks: str
+    shown_by: str
+    rule: str
+    protocol: int | None
+    is_of_segments: bool
+
+    @property
+    def rfc(self):
+        return int(self.name.split()[0])
+
+    @property
+    def moments(self):
+        kind = typing.get_type_hints(getattr(Rules, self.rule))["it"]
+        return typing.get_args(kind) or (kind,)
+
+
+with open(pathlib.Path(__file__).with_suffix(".csv"), encoding="utf-8", newline="") as file:
+    REQUIREMENTS = [Requirement(*words, NUMBERS.get(protocol), bool(is_of_segments))
+                    for *words, protocol, is_of_segments in list(csv.reader(file))[1:]]

@@ -13,6 +13,11 @@ In a notebook:
 docs/ANALYSIS.md of the sources shows it at work.
 """
 
+import logging
+
+# At its first use on a machine matplotlib warns that it builds a cache of the fonts.
+logging.getLogger("matplotlib.font_manager").setLevel(logging.ERROR)
+
 from .configurations import Configuration, ConfigurationError
 from .logs import Log, LogError, read_log
 from .packets import read_packets, refused_packets

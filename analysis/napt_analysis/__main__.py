@@ -63,7 +63,7 @@ def _captures_options() -> argparse.ArgumentParser:
     captures.add_argument("--inside", metavar="FILE", help="capture of what inside hosts send")
     others = captures.add_mutually_exclusive_group()
     others.add_argument("--outside", metavar="FILE", help="capture of what comes from the outside (default: no packets)")
-    others.add_argument("--replies", metavar="FILE", help="capture of replies as inside hosts got them, which follow the run")
+    others.add_argument("--replies", metavar="FILE", help="capture of replies as inside hosts received them, which follow the run")
     return captures
 
 

@@ -92,7 +92,7 @@ def _events(path: str | Path) -> pd.DataFrame:
                 part[column] = pd.to_datetime(part[column], utc=True)
             parts.append(part.assign(protocol=part.protocol.map(PROTOCOLS).astype(protocols)))
     except ValueError as error:
-        raise LogError(f"{path} is no log of napt: {error}") from None
+        raise LogError(f"{path} is not a log of napt: {error}") from None
     return pd.concat(parts, ignore_index=True)
 
 

@@ -29,7 +29,7 @@ def read_packets(path: str | Path) -> pd.DataFrame:
 
 
 def refused_packets(log: Log) -> pd.DataFrame:
-    """Returns the packets that a log alone tells of: those that were refused a binding. Their numbers are not known, and 0."""
+    """Returns the packets that a log alone has: those that were refused a binding. Their numbers are not known, and 0."""
     refused = log.refusals
     packets = pd.DataFrame({"number": 0, "time": refused.time, "side": pd.Categorical(["inside"] * len(refused), SIDES)})
     return packets.assign(cause=pd.Categorical(refused.cause, CAUSES), out=0, into=0, is_hairpin=False)

@@ -58,7 +58,7 @@ def test_mistakes(words, message, capsys):
     [
         (["--config", CONFIG, "--log", "nowhere.csv"], 6, "No such file or directory: 'nowhere.csv'"),
         (["--config", "nowhere.toml", "--log", "EXAMPLE"], 6, "No such file or directory: 'nowhere.toml'"),
-        (["--config", CONFIG, "--log", CONFIG], 4, f"{CONFIG} is no log of napt: "),
+        (["--config", CONFIG, "--log", CONFIG], 4, f"{CONFIG} is not a log of napt: "),
         (["--config", "EXAMPLE", "--log", "EXAMPLE"], 3, "is refused: "),
         (["--config", CONFIG, "--inside", CONFIG], 4, "is refused: bad-magic"),
     ],

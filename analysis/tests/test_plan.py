@@ -97,4 +97,4 @@ def test_what_a_program_refuses(lan, tmp_path, capsys):
         plan([faulty], lan)
     assert refused.value.status == 3
     assert main(["plan", str(faulty), *lan.arguments()]) == 3
-    assert "is refused: " in capsys.readouterr().err
+    assert "explain: config missing" in capsys.readouterr().err

@@ -1,9 +1,8 @@
-"""Packets as bytes, and captures of them."""
+"""Packets as bytes."""
 import itertools
 import struct
 
 from judging.packets import ICMP, TCP, UDP
-from reading.captures import MOST_CAPTURED, RAW_IP, SECOND
 
 numbers = itertools.count(1)
 
@@ -66,11 +65,3 @@ def in_pieces(protocol, source, destination, body, at):
     identification = 0x1000 + next(numbers) % 50_000
     return [ip(protocol, source, destination, part, identification=identification, piece=piece)
             for part, piece in ((body[:at], (0, True)), (body[at:], (at, False)))]
-
-
-def write(path, records):
-    """Writes a capture of raw IP of times in nanoseconds and packets."""
-    with open(path, "wb") as file:
-        file.write(struct.pack("<IHHIIII", 0xA1B23C4D, 2, 4, 0, 0, MOST_CAPTURED, RAW_IP))
-        for time, packet in records:
-            file.write(struct.pack("<IIII", *divmod(time, SECOND), len(packet), len(packet)) + packet)

@@ -155,3 +155,14 @@ def merged_before(inside, outside):
             return *taken.values(), None
         # at the same time the inside is first
         taken[min(left, key=lambda side: left[side].packets[taken[side]][0])] += 1
+
+
+def warned(rules, readings, name):
+    """What stream says at its end of the captures of both sides: that they seem to be swapped, and which are cut."""
+    sources = [next((data[12:16] for _, data in it.packets if len(data) > 16), None) for it in readings]
+    text = ""
+    if None not in sources and [rules.is_inside(int.from_bytes(it, "big")) for it in sources] == [False, True]:
+        here, there = (".".join(map(str, it)) for it in sources)
+        text = f"{name}: the captures seem to be swapped: the first packet from inside is from {here}, and that from outside from {there}\n"
+    cuts = (side for side, it in zip(("inside", "outside"), readings) if it.is_cut)
+    return text + "".join(f"{name}: the capture {side} is cut: its last packet is not whole, and is left out\n" for side in cuts)

@@ -3,8 +3,6 @@ packets, and the packets that got none (RFC 6888, section 4; RFC 8158). Rows com
 since the packet before, the one that it made, and whether it got none. A log may come in pieces, each of which begins as a new log."""
 
 import datetime
-from collections import Counter
-from dataclasses import dataclass, field
 
 from . import translating
 from .translating import SECOND, Dropped, shown
@@ -41,22 +39,6 @@ class Entry:
         return [*times[:2], event, self.binding.protocol, *ends, "", *counts, *times[2:]]
 
 
-@dataclass
-class Kept:
-    """What is kept of a log beside a state: how many entries it has, those that have not ended, and the bytes of its file."""
-
-    made: int = 0
-    living: list = field(default_factory=list)
-    length: int = 0
-
-    def is_of(self, bindings, now, timers):
-        """Whether its entries are those of the bindings that live at a time, each with its end, and can be of a log then."""
-        numbers = [0, *(it.number for it in self.living), self.made + 1]
-        are_open = all(it.made <= now and (it.end is None or now < it.end) for it in self.living)
-        found, wanted = Counter((it.binding.row(), it.end) for it in self.living), Counter((it.row(), end_of(it, timers)) for it in bindings)
-        return numbers == sorted({*numbers}) and are_open and found == wanted
-
-
 def end_of(binding, timers):
     return None if binding.is_fixed else binding.end(timers)
 
@@ -76,29 +58,28 @@ class Logger(translating.Translator):
         # the pieces before, and when the packet before came
         self.each, self.pieces, self.last = each, [], None
 
-    def open(self, now, kept, is_new):
-        """Goes on from a time with what is kept of a log, whose file may be new: if that is not of the bindings here, all of it ends
-        then, and each of them is another one. Returns whether it is."""
-        self.now, self.many, self.living = now, kept.made, kept.living
+    def open(self, now, many, accounted, is_new):
+        """Goes on from a time with a log of so many entries, of these bindings of a state, and a file that may be new. An entry whose
+        binding is not here ends then, and a binding without an entry gets one."""
+        self.now, self.many = now, many
         self.purge(now)
-        is_of = kept.is_of(self.bindings, now, self.rules.timers)
-        if not is_of:
-            self.told = [it.row(now, ENDED) for it in self.living]
-            self.living = []
-        known = {it.binding.row(): it for it in self.living}
+        before = sorted((it.entry for it in accounted), key=lambda it: it.number)
+        known, here = {it.binding.row(): it for it in before}, {it.row() for it in self.bindings}
+        self.living = [it for it in before if it.binding.row() in here]
+        self.told = self.opening(before) if is_new else []
+        self.told += [it.row(now, ENDED) for it in before if it.binding.row() not in here]
         for binding in self.bindings:
-            if is_of:
-                binding.entry = known[binding.row()]
+            binding.entry = known.get(binding.row())
+            if binding.entry:
+                binding.entry.binding = binding
             else:
                 self.begin(binding)
+        self.told += [it.row(it.made, MADE) for it in self.living if it.number > many]
         self.keep_ends()
-        if is_new or not is_of:
-            self.told = self.opening() if is_new else [*self.told, *self.opening()[1:]]
-        return is_of
 
-    def opening(self):
-        """How a new log begins."""
-        return [FIELDS, *(it.row(it.made, MADE) for it in self.living)]
+    def opening(self, entries):
+        """How a new log begins, in which these have not ended."""
+        return [FIELDS, *(it.row(it.made, MADE) for it in entries)]
 
     def begin(self, binding):
         self.many += 1
@@ -149,7 +130,7 @@ class Logger(translating.Translator):
         """Takes a packet, adds the rows that it brings, perhaps to a new piece, and keeps the ends as they are after it."""
         if self.each and self.last is not None and self.last // (self.each * SECOND) < now // (self.each * SECOND):
             self.pieces.append(csv(self.told))
-            self.told = self.opening()
+            self.told = self.opening(self.living)
         self.now = self.last = now
         self.tell_ends()
         before, self.refused = self.many, []
@@ -180,6 +161,6 @@ def joined(pieces):
 def logged(configured, inside, outside):
     """The log of the run over two captures: its text, and the time of the last packet."""
     logger = Logger(configured)
-    logger.open(0, Kept(), is_new=True)
+    logger.open(0, 0, [], is_new=True)
     clock = translating.ran(logger, 0, inside, outside)[-1]
     return "".join(logger.text()), clock

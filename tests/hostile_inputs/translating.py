@@ -64,6 +64,8 @@ class Binding:
         self.is_fixed = is_fixed
         self.last = 0
         self.flows = []
+        # its entry in the log of its run, if that has one
+        self.entry = None
 
     def end(self, timers):
         """The first time at which it is no longer live if no packet comes; a redirect always is."""

@@ -1,13 +1,13 @@
-//! The captures of a run, packet by packet, and why one is refused.
+//! The captures of a run, one packet at a time, and the reasons why one is refused.
 
 ghost use Rattle.std.specs.Prelude.{◌-◌, ◌^◌, ◌<◌};
 
 use crate::flaws::{ConfigAdvice, StepBack};
 use crate::options::ExplainOptions;
-use crate::reading::WrittenOutput;
 use crate::refusals;
 use napt_capture::{CaptureFault, RecordReader, Source};
 use napt_commands::{Consumer, Exit};
+use napt_config::Config;
 use napt_display::reasons::SplitAdvice;
 use napt_program::Stop;
 use napt_records::{Fault, RecordStream, SideFault, StreamMerger};
@@ -17,36 +17,36 @@ use std::alloc::Global;
 use std::io;
 use std::io::{BufReader, ErrorKind, Read};
 
-/// How many bytes are read at once.
+/// The size of a read in bytes.
 const BUFFERED: usize = 65_536;
 
-/// How many bytes of a capture are kept to tell what it is: its header.
+/// The number of bytes at the beginning of a capture from which its form is recognized: its header.
 const HEADER: u64 = 24;
 
-/// The beginning of a capture, and what reads on.
+/// The beginning of a capture, and the reader of the rest.
 #[derive(Drop)]
 pub struct StartedCaptures<D> {
     pub head: Vec<u8>,
     pub reader: BufReader<D>,
 }
 
-/// A capture past its header, whose beginning is kept.
+/// A capture whose header has been read, with its beginning.
 #[derive(Drop)]
 pub struct OpenCaptures<'a, S: Source> {
     head: &'a [u8],
     stream: RecordStream<'a, S>,
 }
 
-/// Explains which captures are refused.
+/// Prints why captures are refused.
 #[derive(Clone, Copy)]
 pub struct RefusedRun<'a> {
     pub options: &'a ExplainOptions<'a>,
     /// The configuration.
-    pub written: &'a WrittenOutput,
+    pub config: &'a Config,
 }
 
 impl RefusedRun<'_> {
-    /// Reads the beginning of a side's capture. A refusal is explained.
+    /// Reads the beginning of a side's capture. If that fails, prints why.
     pub fn begin<R: Eprint + AllocGlobal, D: Read + Drop>(
         self,
         rt: &R,
@@ -69,7 +69,7 @@ impl RefusedRun<'_> {
         Err(self.refuse(rt, side, &head, fault, Some(error)))
     }
 
-    /// Reads the header of a side's capture, which begins with these bytes. A refusal is explained.
+    /// Reads the header of a side's capture, which begins with these bytes. If it is refused, prints why.
     pub fn open<'a, R: Eprint + AllocGlobal, S: Source>(
         self,
         rt: &R,
@@ -86,8 +86,8 @@ impl RefusedRun<'_> {
         }
     }
 
-    /// Prints why the capture of a side, which begins with these bytes, is refused, with the system's reason if it was
-    /// given, and returns how the program stops.
+    /// Prints why the capture of a side, which begins with these bytes, is refused, with the system's reason if there
+    /// is one, and returns how the program stops.
     fn refuse<R: Eprint + AllocGlobal>(
         self,
         rt: &R,
@@ -117,11 +117,10 @@ impl RefusedRun<'_> {
             Side::Inside => ("inside", options.files.inside.as_ref()),
             Side::Outside => (options.outside.name(), options.files.outside.as_ref()),
         };
-        let inside = self.written.prefixes(rt.alloc())?;
         let splitting = SplitAdvice {
             command: options.split,
             capture: path.map(|path| path.as_str()).filter(|path| *path != "-"),
-            inside: &inside,
+            inside: self.config.inside(),
         };
         refusals::tell_capture(rt, name, head, fault, splitting)
     }
@@ -138,7 +137,7 @@ pub struct CaptureInputs<'r, 'i, 'o, A: Source, B: Source> {
 }
 
 impl<'r, 'i, 'o, A: Source, B: Source> CaptureInputs<'r, 'i, 'o, A, B> {
-    /// Those of captures past their headers, of a run that starts at this time, in ns.
+    /// Returns the packets of captures whose headers have been read, for a run that starts at this time, in ns.
     pub fn of(
         alloc: Global,
         refusing: RefusedRun<'r>,
@@ -156,8 +155,8 @@ impl<'r, 'i, 'o, A: Source, B: Source> CaptureInputs<'r, 'i, 'o, A, B> {
         }
     }
 
-    /// Hands the packets to a consumer, one after another, until the end. A refusal is explained, behind what the consumer
-    /// told of the packets before it.
+    /// Passes the packets to a consumer, one after another, until the end. If a capture is refused, prints why, after
+    /// the consumer's output for the packets before.
     pub fn hand_over<R: Eprint + AllocGlobal, C: Consumer<R>>(
         &mut self,
         rt: &R,
@@ -183,7 +182,7 @@ impl<'r, 'i, 'o, A: Source, B: Source> CaptureInputs<'r, 'i, 'o, A, B> {
         Ok(())
     }
 
-    /// All packets. A refusal is explained.
+    /// Returns all packets. If a capture is refused, prints why.
     pub fn all<R: Eprint + AllocGlobal>(&mut self, rt: &R) -> Result<Vec<Input>, Exit> {
         let mut inputs = Vec::new(rt.alloc());
         for number in 1..u64::MAX {
@@ -199,7 +198,7 @@ impl<'r, 'i, 'o, A: Source, B: Source> CaptureInputs<'r, 'i, 'o, A, B> {
         Ok(inputs)
     }
 
-    /// What they show against themselves, once their end is reached.
+    /// Returns the flaws of the captures, once their ends have been reached.
     pub fn flaws(&self) -> ConfigAdvice {
         ConfigAdvice {
             cuts: self.packets.cuts(),
@@ -208,7 +207,7 @@ impl<'r, 'i, 'o, A: Source, B: Source> CaptureInputs<'r, 'i, 'o, A, B> {
         }
     }
 
-    /// Lets go of them.
+    /// Closes the captures.
     pub fn close(self) {
         let CaptureInputs { packets, .. } = self;
         let _ = packets.into_streams();

@@ -1,68 +1,72 @@
-//! The commands, and the arguments that each takes.
+//! The commands, and the arguments of each.
 
 use clap::{Arg, ArgAction, ArgGroup, Command};
 use napt_program::{Manual, VERSION};
 use std::alloc::{AllocError, Global};
 
-/// The command that is done where none is named.
+/// The command that is used if none is named.
 const FIRST: &str = "show";
 
-/// The commands that `napt-analysis` has in place of `explain`.
+/// The commands that `napt-analysis` has instead of `explain`.
 const MOVED: [&str; 3] = ["draw", "plan", "sizes"];
 
 const SHOW: &str =
-    "Prints a line for each packet, the bindings and a summary (the command where none is named)";
+    "Prints a line for each packet, the bindings and a summary (the default command)";
 
 const WHO: &str =
-    "Prints which inside endpoints had an external endpoint, or one of an address: a line for each, with its protocol and \
-the times from and until when; the status is 1 if nobody had it";
+    "Prints who held an external endpoint, or any port of an address: a line for each inside endpoint, with its protocol and \
+the times from and until when; the status is 1 if nobody held it";
 
 const LOG: &str =
-    "Writes the log of the run in CSV to standard output (docs/FORMATS.md). It has each binding when it is made and when it \
-expires, each packet refused one by the quota or for lack of a free port, and then each binding that lives at the end";
+    "Writes the log of the run in CSV to standard output (docs/FORMATS.md). It has a row when a binding \
+is made and when it ends, for each packet that gets none because of the quota or for lack of a free port, and for each \
+binding that is live at the end";
 
 const BLOCKS: &str =
-    "Prints the block of each inside host, in CSV, as the configuration alone gives it: host, external address, first and \
-last number";
+    "Prints the block of each inside host, which the configuration alone determines, in CSV: the host, its external address, \
+and the first and the last number";
 
 const COMPARE: &str =
-    "Prints the packets that end differently under another configuration, and the counts of both; the status is 1 if one \
-does";
+    "Prints the packets whose outcome differs under another configuration, and the counts of both; the status is 1 if there \
+are any";
 
 const FOLLOW: &str =
-    "Writes the outside capture in which each reply names its external endpoint: napt makes the same run of it";
+    "Writes the outside capture in which each reply is sent to its external endpoint: napt makes the same run from it";
 
 const CONFIG: &str = "Configuration in TOML [default: the built-in configuration]";
 
 const REPLIES: &str =
-    "Capture of replies as inside hosts got them, in place of --outside: each follows its inside endpoint to \
-the external endpoint that this has here when it comes (docs/FORMATS.md)";
+    "Capture of replies as inside hosts got them, in place of --outside: each is sent to the external endpoint that its \
+inside endpoint has in this run at that time (docs/FORMATS.md)";
 
 const AT: &str =
-    "The time asked about: seconds since 1970, as in the lines, or an RFC 3339 date such as 2026-11-26T10:02:07Z. It \
-stands for its whole last digit: here for that second, with nine decimals for a nanosecond [default: any time]";
+    "The time asked about: seconds since 1970, as in the lines, or an RFC 3339 date such as 2026-11-26T10:02:07Z. \
+That date means the whole second; with nine decimals it means one nanosecond [default: any time]";
 
 const REQUESTS: &str =
-    "Answers the requests in this file, one a line: ADDRESS[:PORT] TIME [PROTOCOL], with TIME as for --at. The number of \
-its line stands before each answer; the status is 1 if nobody had one of them";
+    "Answers the requests in this file, one per line: ADDRESS[:PORT] TIME [PROTOCOL], with TIME as for --at. Each answer \
+begins with the number of its line; the status is 1 if nobody had one of the endpoints";
 
 const FROM_LOG: &str =
-    "Answers from this log, or the pieces of one in their order, in place of captures; --config tells the pool";
+    "Answers from this log, or the pieces of one in their order, in place of captures; --config gives the pool";
 
 const AS_NAPT: &str =
-    "Tells of the run that napt makes of the captures, whatever numbers the captured gateway had";
+    "Uses the run that napt makes from the captures, whatever numbers the captured gateway used";
 
 const HOST: &str =
-    "Only the packets and bindings with this address or endpoint, inside or external";
+    "Prints only the packets and bindings with this address or endpoint, inside or external";
 
 const WRITTEN: &str = "File to write, which nothing else may name";
 
+const LOG_WRITTEN: &str =
+    "File to write the log to, which may have no text and which nothing else may name";
+
 const REPORT: &str =
-    "File for the report of the same run, as napt writes it; standard error then tells what the captures cannot show";
+    "File for the report of the same run, as napt writes it; what the captures cannot show is then printed on standard error";
 
 const PACKETS: &str =
-    "File for a row for each packet in CSV (docs/FORMATS.md): its number, time, side, outcome and cause, and the numbers of \
-the bindings through which it went out and came in";
+    "File for the packets in CSV (docs/FORMATS.md), a row for each: its number, time, side, outcome and cause, and the \
+numbers of the bindings through which it went out and came in";
 
 const NOT_WRITTEN: &str =
     "Never written: accepted as an option of napt or stream, and refused if that would refuse it";
@@ -70,16 +74,16 @@ const NOT_WRITTEN: &str =
 const RESUMED: &str =
     "State from which the run goes on, as napt and stream save it [default: the run begins anew]";
 
-/// The words of a call, the program's name first, and then always a command.
+/// The words of a call: the program's name first, and then always a command.
 #[derive(Drop)]
 pub struct CommandTexts {
     pub list: Vec<String>,
-    /// Whether they named it: else it is `show`, and the outputs of `napt` and the log of `stream` are options too.
+    /// Whether the words named the command. If not, it is `show` with the outputs of `napt` and the log of `stream`.
     is_named: bool,
 }
 
 impl CommandTexts {
-    /// The words given, with `show` where they begin with an option, or are none.
+    /// Takes the words of a call, and adds `show` if they begin with an option or if there are none.
     pub fn of(alloc: Global, given: Vec<String>) -> Result<CommandTexts, AllocError> {
         let is_named = given.get(1).is_some_and(|word| is_name(word));
         let mut list = Vec::new(alloc);
@@ -92,13 +96,13 @@ impl CommandTexts {
         Ok(CommandTexts { list, is_named })
     }
 
-    /// The command that they name, if `napt-analysis` has it.
+    /// Returns the command that the words name, if `napt-analysis` has it.
     pub fn moved(&self) -> Option<&'static str> {
         let command = self.list.get(1)?.as_str();
         MOVED.iter().find(|name| **name == command).copied()
     }
 
-    /// The command line that they are to be of.
+    /// Returns the command line that the words must match.
     pub fn command_line<'a>(
         &self,
         alloc: Global,
@@ -125,7 +129,7 @@ impl CommandTexts {
     }
 }
 
-/// Whether the first word of a call names a command, or asks for the help of them all or the version.
+/// Whether the first word of a call names a command, or requests the help of all commands or the version.
 fn is_name(word: &str) -> bool {
     !word.starts_with('-') || matches!(word, "-h" | "--help" | "-V" | "--version")
 }
@@ -214,7 +218,7 @@ fn configured<'a>(alloc: Global, name: &'a str, about: &'a str) -> Result<Comman
     captured(alloc, command.arg(resume(alloc))?)
 }
 
-/// The same with the options that name captures.
+/// Adds the options that name captures.
 fn captured<'a>(alloc: Global, command: Command<'a>) -> Result<Command<'a>, AllocError> {
     command
         .arg(inside(alloc))?
@@ -227,15 +231,15 @@ fn captured<'a>(alloc: Global, command: Command<'a>) -> Result<Command<'a>, Allo
         .arg(value(alloc, "replies", "FILE", REPLIES).conflicts_with("outside")?)
 }
 
-/// The same with the options that choose packets.
+/// Adds the options that select packets.
 fn chosen<'a>(alloc: Global, command: Command<'a>) -> Result<Command<'a>, AllocError> {
     command
-        .arg(flag(alloc, "dropped", "Only dropped packets"))?
+        .arg(flag(alloc, "dropped", "Prints only dropped packets"))?
         .arg(value(
             alloc,
             "only",
             "N",
-            "Only the packet with this number, and the bindings that it used",
+            "Prints only the packet with this number, and the bindings that it used",
         ))?
         .arg(value(alloc, "host", "ADDRESS[:PORT]", HOST))
 }
@@ -244,7 +248,7 @@ fn config<'a>(alloc: Global) -> Arg<'a> {
     value(alloc, "config", "FILE", CONFIG)
 }
 
-/// Where it is refused, it is hidden.
+/// The option of a state, which is hidden in commands that refuse it.
 fn resume<'a>(alloc: Global) -> Arg<'a> {
     value(alloc, "resume", "FILE", RESUMED)
 }
@@ -258,7 +262,7 @@ fn inside<'a>(alloc: Global) -> Arg<'a> {
     )
 }
 
-/// A plain option without a value.
+/// An option without a value.
 fn flag<'a>(alloc: Global, name: &'a str, meaning: &'a str) -> Arg<'a> {
     Arg::new(alloc, name)
         .long(name)
@@ -266,12 +270,12 @@ fn flag<'a>(alloc: Global, name: &'a str, meaning: &'a str) -> Arg<'a> {
         .help(meaning)
 }
 
-/// A plain option that takes a value.
+/// An option with a value.
 fn value<'a>(alloc: Global, name: &'a str, value: &'a str, meaning: &'a str) -> Arg<'a> {
     word(alloc, name, value, meaning).long(name).required(false)
 }
 
-/// A word without an option, which has to be there.
+/// A required word without an option.
 fn word<'a>(alloc: Global, name: &'a str, value: &'a str, meaning: &'a str) -> Arg<'a> {
     Arg::new(alloc, name)
         .action(ArgAction::Set)

@@ -1,9 +1,10 @@
-//! A run as it goes on, for one command.
+//! A run in progress, for one command.
 
 use crate::flaws::ConfigAdvice;
 use crate::options::ExplainOptions;
 use crate::progress::ExplainProgress;
-use napt_account::{LogEntry, RunFromState, TrackedRun};
+use napt_account::{LogEntry, LoggedRun, OpenLog, RunFromState};
+use napt_attribution::LogOpening;
 use napt_commands::{
     CommandOutput, Consumer, EndedRun, Exit, LossCounts, Page, RunPacket, RunStart, print_warning,
 };
@@ -15,38 +16,51 @@ use std::rt::Files;
 /// A run before its first packet.
 #[derive(Drop)]
 pub struct BegunRun<'a> {
-    run: TrackedRun<'a>,
-    /// The time from which it goes on, in ns.
+    run: LoggedRun<'a>,
+    /// The time from which the run goes on, in ns.
     clock: u64,
-    /// The entries of the log that ended there.
+    /// The log as it was saved.
+    pub before: OpenLog,
+    /// The entries that end there, and those that begin.
     pub ended: Vec<LogEntry>,
-    /// The entries of its bindings, in the order of their numbers.
-    pub living: Vec<LogEntry>,
+    pub made: Vec<LogEntry>,
 }
 
 impl<'a> BegunRun<'a> {
-    /// That of a start, whose log goes on if nothing of it ends there and nothing is made in its place.
+    /// That of a start.
     pub fn of(alloc: Global, start: &RunStart<'a>) -> Result<BegunRun<'a>, AllocError> {
-        let RunFromState { run, ended, made } = start.known_run(alloc)?;
-        let living = if ended.is_empty() && made.is_empty() {
-            Vec::from_slice(alloc, &start.log().living)?
-        } else {
-            made
-        };
+        let RunFromState {
+            run,
+            before,
+            ended,
+            made,
+        } = start.logged_run(alloc)?;
         Ok(BegunRun {
             run,
             clock: start.clock(),
+            before,
             ended,
-            living,
+            made,
         })
     }
 }
 
-/// A run as it goes on. `O` is what the command prints or writes of it.
+impl BegunRun<'_> {
+    /// How its log begins.
+    pub fn opening(&self) -> LogOpening<'_> {
+        LogOpening {
+            before: &self.before,
+            ended: &self.ended,
+            made: &self.made,
+        }
+    }
+}
+
+/// A run in progress. `O` is the output of the command.
 #[derive(Drop)]
 pub struct Explanation<'a, 'b, O> {
     options: &'a ExplainOptions<'a>,
-    running: TrackedRun<'a>,
+    running: LoggedRun<'a>,
     output: O,
     losses: LossCounts,
     remotes: Remotes,
@@ -55,14 +69,14 @@ pub struct Explanation<'a, 'b, O> {
     unmatched: UnmatchedSelection,
     progress: ExplainProgress,
     page: Page,
-    /// How many packets there were, the time from which the run goes on, and the latest time so far, in ns.
+    /// The number of packets, the time from which the run goes on, and the latest time so far, in ns.
     packets: u64,
     first: u64,
     last: u64,
 }
 
 impl<'a, 'b, O: Drop> Explanation<'a, 'b, O> {
-    /// Before the first packet. The packets from outside may be replies.
+    /// Begins the run, before its first packet.
     pub fn begin<R: Files + AllocGlobal>(
         rt: &R,
         options: &'a ExplainOptions<'a>,
@@ -77,7 +91,7 @@ impl<'a, 'b, O: Drop> Explanation<'a, 'b, O> {
             losses: LossCounts::new(alloc, begun.run.config())?,
             remotes: Remotes::new(alloc),
             replies,
-            unmatched: UnmatchedSelection::of(options.choice, &begun.living),
+            unmatched: UnmatchedSelection::of(options.choice, &begun.run.living(alloc)?),
             progress: ExplainProgress::of(rt),
             page: Page::new(alloc),
             packets: 0,
@@ -87,7 +101,7 @@ impl<'a, 'b, O: Drop> Explanation<'a, 'b, O> {
         })
     }
 
-    /// Tells what needs the end, behind all packets.
+    /// Prints what needs the end of the run, after all packets.
     pub fn end<R: Print + Eprint + AllocGlobal>(
         self,
         rt: &R,
@@ -155,10 +169,10 @@ impl<R: Print + Eprint + AllocGlobal, O: CommandOutput<R> + Drop> Consumer<R>
         self.last = self.last.max(input.clock);
         self.losses.take(config, input, &step.outcome);
         if self.replies.is_none() {
-            self.remotes.take(passing)?;
+            self.remotes.take(alloc, passing)?;
         }
         let line = PacketLine::of(passing, self.replies);
-        self.unmatched.take(alloc, line, &step.made)?;
+        self.unmatched.take(alloc, line, &step.part.made)?;
         self.output.take(rt, config, passing, &mut self.page.text)?;
         self.page.turn(rt)?;
         self.progress.tell(rt, number);

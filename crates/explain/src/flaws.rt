@@ -1,4 +1,4 @@
-//! What captures show against themselves.
+//! Flaws of captures: what in them may make a run wrong.
 
 use crate::options::OutputForm;
 use napt_commands::{Exit, OutsideCapture};
@@ -8,22 +8,22 @@ use napt_sequential::Input;
 /// What is printed about a capture that ends inside a record.
 const CUT: &str = "is cut: its last packet is not whole, and is left out";
 
-/// A second, in ns. A shorter step back is told only with times: a network card with several queues makes such.
+/// A second, in ns. Shorter steps back are printed only with times: network cards with several queues make them.
 const SECOND: u64 = 1_000_000_000;
 
-/// What captures show against themselves, once their end is reached.
+/// The flaws of captures, once their ends have been reached.
 #[derive(Clone, Copy)]
 pub struct ConfigAdvice {
-    /// Whether each capture ends inside a record. That record is left out.
+    /// Whether each capture ends inside a record, which is ignored.
     pub cuts: CutFlags,
-    /// What the outside capture holds.
+    /// What the outside capture contains.
     pub holds: OutsideCapture,
     pub back: StepBack,
 }
 
 impl ConfigAdvice {
-    /// Reports each capture that ends inside a record, whose last packet is left out; on standard error unless people
-    /// read standard output. A step back in time is always reported there.
+    /// Prints which captures end inside a record, whose last packet is ignored: on standard output if it is for people,
+    /// and otherwise on standard error. A step back in time is always printed there.
     pub fn tell<R: Print + Eprint>(self, rt: &R, form: OutputForm<'_>) -> Result<(), Exit> {
         self.back.tell(rt, form);
         let CutFlags { inside, outside } = self.cuts;
@@ -38,19 +38,19 @@ impl ConfigAdvice {
     }
 }
 
-/// The longest step back in time among the packets so far, behind the state that their run goes on from.
+/// The longest step back in time so far, among the packets and the state from which their run goes on.
 #[derive(Clone, Copy)]
 pub struct StepBack {
     latest: Stamp,
-    /// How far it goes back, in ns; 0 before the first.
+    /// The length of the step, in ns; 0 if there is none.
     far: u64,
-    /// The number of the latest packet before it, 0 if that is the state.
+    /// The number of the latest packet before the step, or 0 if that is the state.
     from: u64,
-    /// The number of the packet behind it.
+    /// The number of the packet after the step.
     to: u64,
 }
 
-/// The number of a packet, from 1, or 0 of the state, and its time in ns.
+/// The number of a packet, from 1, or 0 for the state, and its time in ns.
 #[derive(Clone, Copy)]
 struct Stamp {
     number: u64,
@@ -58,7 +58,7 @@ struct Stamp {
 }
 
 impl StepBack {
-    /// None so far, behind a state of this time, in ns; a run that begins anew has one of 0.
+    /// Returns no step, after a state of this time, in ns, which is 0 for a run that begins anew.
     pub fn from_state(time: u64) -> StepBack {
         StepBack {
             latest: Stamp { number: 0, time },
@@ -82,12 +82,12 @@ impl StepBack {
         }
     }
 
-    /// How far it goes back, in ns; 0 without one.
+    /// Returns the length of the step, in ns, or 0 if there is none.
     pub fn far(self) -> u64 {
         self.far
     }
 
-    /// Reports a step of more than a second; to those who read times any step.
+    /// Prints a step of more than a second, and any step if the output has times.
     fn tell<R: Eprint>(self, rt: &R, form: OutputForm<'_>) {
         if self.far == 0 || (self.far <= SECOND && !form.has_times()) {
             return;
@@ -95,7 +95,7 @@ impl StepBack {
         self.tell_step(rt);
         if form.asks_times() {
             let _ = eprintln!(rt;
-                "  answers are for that much longer than the time asked, with all who had it then"
+                "  answers cover that much more time than was asked about, with all who had the endpoint then"
             );
         }
         if self.far <= SECOND {
@@ -106,11 +106,11 @@ impl StepBack {
             _ => "were files joined in the wrong order",
         };
         let _ = eprintln!(rt;
-            "  until that time comes again no binding ends: {cause}, or was a clock set?"
+            "  no binding ends until that time is reached again: {cause}, or was a clock set?"
         );
     }
 
-    /// Prints how far it goes back, and between which packets.
+    /// Prints how long the step is, and between which packets.
     fn tell_step<R: Eprint>(self, rt: &R) {
         let (from, to) = (self.from, self.to);
         let (seconds, rest) = (self.far / SECOND, self.far % SECOND);

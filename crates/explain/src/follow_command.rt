@@ -1,4 +1,4 @@
-//! Replies, sent to where their inside endpoints are in a run.
+//! Writes replies as packets to the external endpoints that their inside endpoints have in a run.
 
 ghost use Rattle.std.specs.Prelude.{◌≡◌, ◌-◌, ◌^◌, ◌<◌, OnOk};
 
@@ -12,19 +12,19 @@ use std::fs::File;
 use std::io::{BufWriter, Write};
 use std::rt::Files;
 
-/// How many bytes are collected before they are written.
+/// The size of the write buffer in bytes.
 const BUFFERED: usize = 65_536;
 
-/// The greatest number of bytes of a record that is written.
+/// The greatest number of bytes in a record that can be written.
 const LARGEST: usize = napt_capture::LARGEST_RECORD as usize;
 
-/// The times that a capture can hold are before this one, in ns.
+/// The first time that a capture cannot contain, in ns.
 const END_OF_TIMES: u64 = 4_294_967_296_000_000_000;
 
-/// The most bytes that are written before a record.
+/// The greatest number of bytes before a record that can be written.
 const MOST_BEFORE: u64 = 4_611_686_018_427_387_904;
 
-/// Writes the capture of the inputs from outside to a file, and prints what there is to warn of in their run. If that fails,
+/// Writes the capture of the inputs from outside to a file, and prints the warnings of their run. If writing fails,
 /// prints the file and the system's reason.
 pub fn follow<R: Files + Eprint + AllocGlobal>(
     rt: &R,
@@ -50,7 +50,7 @@ pub fn follow<R: Files + Eprint + AllocGlobal>(
     if put_outside(&mut sink, inputs).is_ok() {
         return Ok(());
     }
-    // the device does not keep the system's reason: it is asked again
+    // The device has not kept the system's reason, so a flush asks for it again.
     let mut writer = sink.into_inner();
     match writer.flush() {
         Err(error) => Err(print_unwritten(rt, "FILE", path, &error)),
@@ -69,7 +69,7 @@ fn put_outside<W: Sink>(sink: &mut W, inputs: &[Input]) -> Result<(), WriteFault
     written.finish(sink)
 }
 
-/// Appends the record of an input. One that no capture can hold counts as a failed write.
+/// Appends the record of an input. One that no capture can contain counts as a failed write.
 fn put_record<W: Sink>(
     sink: &mut W,
     written: CaptureWriter,

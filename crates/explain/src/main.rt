@@ -1,8 +1,8 @@
-//! The program `explain`: what a run of `napt` does, for people to read.
+//! The program `explain`, which shows people what a run of `napt` does.
 //!
-//! Each question is a command. Over captures it makes the run of `napt` on one thread, and prints what is asked: lines,
-//! the log, who had an endpoint. It takes the arguments of `napt` and `stream` as they are, but never writes an output
-//! file of theirs. If they would refuse a file, `explain` prints why on standard error, and exits with the same status.
+//! Each question is a command. A command over captures makes the run of `napt` on one thread, and prints its lines, its
+//! log or who had an endpoint. It accepts the arguments of `napt` and `stream`, but never writes their output files. If
+//! they would refuse a file, `explain` prints why on standard error, and exits with the same status.
 #![tactic(auto)]
 
 mod captures;
@@ -21,15 +21,14 @@ mod run_setting;
 use crate::commands::CommandTexts;
 use crate::manual::{INSTALLED, OWN};
 use crate::options::{ExplainOptions, OutputForm, options_of};
-use crate::reading::{
-    WrittenOutput, answer, configuration, open_captures, read_given, requests_of,
-};
+use crate::reading::{answer, configuration, open_captures, read_given, requests_of};
 use crate::run_setting::RunSetting;
 use clap::Error;
 use clap::error::ErrorKind;
 use napt_attribution::{answer_by_blocks, tell_blocks};
 use napt_commands::Exit;
-use napt_program::{ProgramCall, StandardStreams, Stop};
+use napt_config::Config;
+use napt_program::{ProgramCall, StandardStreams, Stop, take_verbose};
 use std::env::Env;
 use std::process::ExitCode;
 use std::rt::Files;
@@ -46,7 +45,7 @@ fn main(rt: HostRuntime) -> ExitCode {
     }
 }
 
-/// Does what the command line asks for, under the name that it begins with.
+/// Runs the command of the command line, under the name of the program in it.
 fn called(rt: &HostRuntime, streams: StandardStreams) -> Result<(), Exit> {
     let call = ProgramCall::of(rt, streams, OWN.name);
     match call.as_called(rt, INSTALLED.name) {
@@ -55,8 +54,8 @@ fn called(rt: &HostRuntime, streams: StandardStreams) -> Result<(), Exit> {
     }
 }
 
-/// Does what the command line asks for. Help and the version are printed at once; a usage error is printed and returned
-/// as an error.
+/// Runs the command of the command line. Help and the version are printed at once; a usage error is printed and
+/// returned as an error.
 fn explained<R: Env + Files + Input + Print + Eprint + AllocGlobal>(
     rt: &R,
     streams: StandardStreams,
@@ -84,10 +83,15 @@ fn explained<R: Env + Files + Input + Print + Eprint + AllocGlobal>(
     }
 }
 
-/// The command line's arguments. One that is not UTF-8 is a usage error.
+/// The command line's arguments, without the `--verbose` of `napt`: the reason is printed in any case. One that is not
+/// UTF-8 is a usage error.
 fn arguments<R: Env + AllocGlobal>(rt: &R) -> Result<Vec<String>, Exit> {
     match env::args(rt) {
-        Ok(args) => Ok(args.collect(rt.alloc())?),
+        Ok(args) => {
+            let mut words = args.collect(rt.alloc())?;
+            take_verbose(&mut words);
+            Ok(words)
+        }
         Err(error) if error.kind() == io::ErrorKind::OutOfMemory => {
             Err(Exit::As(Stop::LineMemory))
         }
@@ -95,7 +99,7 @@ fn arguments<R: Env + AllocGlobal>(rt: &R) -> Result<Vec<String>, Exit> {
     }
 }
 
-/// Prints the message of `clap`: help and version to standard output, a usage error to standard error.
+/// Prints the message of `clap`: help and version on standard output, a usage error on standard error.
 fn told<R: Print + Eprint + AllocGlobal>(rt: &R, error: &Error) -> Result<(), Exit> {
     let text = error.to_string(rt.alloc())?;
     match error.kind() {
@@ -111,7 +115,7 @@ fn told<R: Print + Eprint + AllocGlobal>(rt: &R, error: &Error) -> Result<(), Ex
     }
 }
 
-/// Does what a command asks for.
+/// Runs a command with its options.
 fn explained_under<R: Files + Input + Print + Eprint + AllocGlobal>(
     rt: &R,
     streams: StandardStreams,
@@ -121,7 +125,7 @@ fn explained_under<R: Files + Input + Print + Eprint + AllocGlobal>(
         return answer(rt, streams, options);
     }
     match options.form {
-        OutputForm::Blocks => tell_blocks(rt, streams, &configuration(rt, options)?.config),
+        OutputForm::Blocks => tell_blocks(rt, streams, &configuration(rt, options)?),
         _ if options.is_of_gateway() && !options.shows_outside() => {
             told_without_outside(rt, streams, options)
         }
@@ -130,37 +134,37 @@ fn explained_under<R: Files + Input + Print + Eprint + AllocGlobal>(
 }
 
 /// Answers requests from the blocks of a configuration, and from captures if some are named. Without blocks, and for a
-/// log, packets from outside have to show that the captured gateway had the numbers of the run: that is reported.
+/// log, prints that packets from outside have to show that the captured gateway used the numbers of the run.
 fn told_without_outside<R: Files + Input + Print + Eprint + AllocGlobal>(
     rt: &R,
     streams: StandardStreams,
     options: &ExplainOptions<'_>,
 ) -> Result<(), Exit> {
-    let written = configuration(rt, options)?;
+    let config = configuration(rt, options)?;
     let is_log = matches!(options.form, OutputForm::Log(_));
-    if is_log || written.config.block().is_none() {
+    if is_log || config.block().is_none() {
         let command = if is_log { "log" } else { "who" };
         let _ = eprintln!(rt;
-            "explain: {command} answers for a run that napt makes: give what came from outside too (--outside), so that it \
-can be seen whether the gateway had the same numbers, or say --as-napt"
+            "explain: {command} answers from the run that napt makes: give the packets from outside, too (--outside), which show \
+whether the gateway used the same numbers, or give --as-napt"
         );
         return Err(Exit::Told(Stop::Usage));
     }
     if options.is_without_captures() {
         let asked = requests_of(rt, options.form)?;
-        return answer_by_blocks(rt, streams, &asked, &written.config);
+        return answer_by_blocks(rt, streams, &asked, &config);
     }
-    explained_run(rt, streams, options, Some(written))
+    explained_run(rt, streams, options, Some(config))
 }
 
-/// Reads the captures, and the configuration unless it was read, and tells of the run.
+/// Reads the captures, and the configuration unless it has been read, and runs the command over them.
 fn explained_run<R: Files + Input + Print + Eprint + AllocGlobal>(
     rt: &R,
     streams: StandardStreams,
     options: &ExplainOptions<'_>,
-    written: Option<WrittenOutput>,
+    config: Option<Config>,
 ) -> Result<(), Exit> {
-    let given = read_given(rt, streams, options, written)?;
+    let given = read_given(rt, streams, options, config)?;
     let starts = given.starts(rt, options)?;
     let files = open_captures(rt, options)?;
     RunSetting::new(streams, options, &given, &starts).read(rt, files)

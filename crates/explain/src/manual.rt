@@ -12,8 +12,8 @@ macro_rules! manual {
             name: $name,
             about: ABOUT,
             notes: concat!(
-                "Where no command is named, it is show: the arguments of napt can be given unchanged, and no output of napt is written.
-A FILE that is read, but that of --resume, may be -, standard input; a file of that name is ./-
+                "If no command is named, it is show: it accepts the arguments of napt unchanged, and writes no output of napt.
+A FILE that is read, except that of --resume, may be - for standard input; a file of that name is ./-
 
 Examples:
   ", $name, " --config napt.toml --inside inside.pcap --outside outside.pcap --dropped
@@ -25,16 +25,16 @@ Each line of show has a packet's number, time in seconds, side, the packet, what
   1 1.000000 inside  udp 10.0.0.2:5000 > 198.51.100.7:3000 | made a binding | udp 203.0.113.1:5000 > 198.51.100.7:3000
 For ICMP queries the number of an endpoint is the identifier, also in --host.
 
-The statuses are those of napt, and whatever it refuses is explained on standard error. Of compare the status is 1 if a
-packet differs, of who if nobody had an endpoint; of who it is 4 if a file is no log. It is 7 if who or log is asked of the
-captures of a gateway that had other numbers than napt has."
+The exit statuses are those of napt, and the reason for each refusal is printed on standard error. In addition, compare
+exits with 1 if a packet differs, who exits with 1 if nobody had an endpoint and with 4 if a file is not a log, and both who
+and log exit with 7 if the captured gateway used other numbers than napt."
             ),
         }
     };
 }
 
-/// The help of the program by its own name.
+/// The help under the program's own name.
 pub const OWN: Manual = manual!("explain");
 
-/// The same by the name under which it is installed.
+/// The help under the name as which the program is installed.
 pub const INSTALLED: Manual = manual!("napt-explain");

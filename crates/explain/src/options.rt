@@ -1,4 +1,4 @@
-//! What a command is to do, by its arguments.
+//! The options of a command, from its arguments.
 
 use crate::manual::INSTALLED;
 use clap::ArgMatches;
@@ -7,51 +7,44 @@ use napt_attribution::{LogPaths, party_of, span_of};
 use napt_commands::{Exit, OutsideCapture};
 use napt_lines::PacketSelection;
 use napt_log_text::{Request, TimeSpan};
-use napt_program::{FileRole, ProgramCall, Stop};
+use napt_program::{FileRole, NamedFiles, ProgramCall, Stop};
 use std::alloc::{AllocError, Global};
 use std::num::NonZeroU32;
 
-/// What is said of a state that is a standard stream.
+/// The message for a state that is a standard stream.
 const NO_FILE: &str = "expected a file";
 
-/// What to explain, and what to print of it.
+/// What to explain, and in which form.
 #[derive(Drop)]
 pub struct ExplainOptions<'m> {
     /// The files that `napt` would read and write with these arguments; the capture of replies is the outside one.
     pub files: napt_program::RunOptions,
-    /// The log that `stream` would write with them.
+    /// The log that `stream` would write with these arguments.
     pub log: Option<&'m str>,
-    /// What the outside capture holds.
+    /// What the outside capture contains.
     pub outside: OutsideCapture,
-    /// What split is called, beside a program that was called as this one was.
+    /// The command that runs split, from where this program was called.
     pub split: &'m str,
-    /// The pieces of the log that answers requests, if that is not the log of a run.
+    /// The pieces of the log from which requests are answered; none if they are answered from a run.
     pub pieces: Vec<String>,
     /// The configuration to compare with.
     pub other: Option<String>,
     pub form: OutputForm<'m>,
     pub choice: PacketSelection,
-    /// Whether the run that `napt` makes is asked about, whatever numbers the captured gateway had.
+    /// Whether the question is about the run of `napt`, whatever numbers the captured gateway used.
     pub is_of_napt: bool,
 }
 
 impl<'m> ExplainOptions<'m> {
-    /// The option of a role.
-    pub fn option_of(&self, role: FileRole) -> &'static str {
-        match role {
-            FileRole::Config => "--config",
-            FileRole::Resume => "--resume",
-            FileRole::Inside => "--inside",
-            FileRole::Outside => self.outside.option(),
-            FileRole::ToOutside => "--to-outside",
-            FileRole::ToInside => "--to-inside",
-            FileRole::Report => "--report",
-            FileRole::Save => "--save",
-            FileRole::Log => "--log",
+    /// The files of `napt`, with what the option of the outside capture is called here.
+    pub fn named(&self) -> NamedFiles<'_> {
+        NamedFiles {
+            files: &self.files,
+            outside: self.outside.option(),
         }
     }
 
-    /// The role of the first option that wants a standard stream which another has, the log last.
+    /// Returns the role of the first option whose standard stream another option already uses, the log last.
     pub fn standard_again(&self) -> Option<FileRole> {
         let files = &self.files;
         let has_output = files.is_standard(FileRole::ToOutside)
@@ -79,18 +72,18 @@ impl<'m> ExplainOptions<'m> {
             || files.is_stream(FileRole::Outside)
     }
 
-    /// Whether packets from outside are there as the gateway got them.
+    /// Whether there are packets from outside as the gateway received them.
     pub fn shows_outside(&self) -> bool {
         self.outside == OutsideCapture::Packets && self.files.outside.is_some()
     }
 
-    /// Whether no capture is named, and no state from which a run goes on.
+    /// Whether neither a capture nor a state is named.
     pub fn is_without_captures(&self) -> bool {
         let files = &self.files;
         files.inside.is_none() && files.outside.is_none() && files.resume.is_none()
     }
 
-    /// Why a state that is named is refused whatever it says, if it is.
+    /// Returns why a state is refused whatever it contains, if it is.
     fn why_anew(&self) -> Option<&'static str> {
         match (self.form, self.outside) {
             (OutputForm::Blocks, _) => Some("blocks are of the configuration alone"),
@@ -100,7 +93,7 @@ impl<'m> ExplainOptions<'m> {
         }
     }
 
-    /// Whether it is told as what the captured gateway did: who had which numbers.
+    /// Whether the output is about the captured gateway: who had which numbers.
     pub fn is_of_gateway(&self) -> bool {
         let is_asked = matches!(
             self.form,
@@ -109,7 +102,7 @@ impl<'m> ExplainOptions<'m> {
         is_asked && !self.is_of_napt
     }
 
-    /// How many of the other configuration, of the pieces of a log, and of files of requests come from standard input.
+    /// Returns how many of the other configuration, the pieces of a log and the file of requests are standard input.
     pub fn more_from_input(&self) -> usize {
         let named = self.other.iter().chain(&self.pieces);
         let many = named.filter(|path| path.as_str() == "-").count();
@@ -120,7 +113,7 @@ impl<'m> ExplainOptions<'m> {
     }
 }
 
-/// What is written.
+/// What a command writes.
 #[derive(Clone, Copy)]
 pub enum OutputForm<'m> {
     /// A line for each packet, the bindings and a summary.
@@ -129,20 +122,20 @@ pub enum OutputForm<'m> {
     Objects,
     /// Who had an external endpoint.
     Holders(Request),
-    /// Who had those that the file at this path asks for.
+    /// Who had the endpoints that the file at this path asks about.
     Requests(&'m str),
     /// The log, and the files that are written in addition to it.
     Log(LogPaths<'m>),
     /// The block of each inside host.
     Blocks,
-    /// What ends differently under another configuration.
+    /// The packets that have another outcome under another configuration.
     Differences,
-    /// The outside capture that follows, into the file at this path.
+    /// The outside capture that follows the run, written to the file at this path.
     Followed(&'m str),
 }
 
 impl<'m> OutputForm<'m> {
-    /// What names other files that are read.
+    /// The name in messages of other files that are read.
     pub fn name_of_read(self) -> &'static str {
         match self {
             OutputForm::Requests(_) => "--requests",
@@ -151,7 +144,7 @@ impl<'m> OutputForm<'m> {
         }
     }
 
-    /// What names each file that `explain` alone writes, and its path, if there is one.
+    /// The name in messages of each file that `explain` alone writes, and its path, if there is one.
     pub fn written(self) -> [(&'static str, Option<&'m str>); 2] {
         match self {
             OutputForm::Log(paths) => [("--to", paths.log), ("--packets", paths.packets)],
@@ -160,7 +153,7 @@ impl<'m> OutputForm<'m> {
         }
     }
 
-    /// Whether times of packets are in it.
+    /// Whether the output contains times of packets.
     pub fn has_times(self) -> bool {
         let is_shown = matches!(
             self,
@@ -169,7 +162,7 @@ impl<'m> OutputForm<'m> {
         is_shown || matches!(self, OutputForm::Holders(_) | OutputForm::Requests(_))
     }
 
-    /// Whether it is about times that are asked for.
+    /// Whether the output is about times that were asked for.
     pub fn asks_times(self) -> bool {
         match self {
             OutputForm::Holders(request) => request.at.is_some(),
@@ -178,14 +171,14 @@ impl<'m> OutputForm<'m> {
         }
     }
 
-    /// Whether it is for people: else programs read what is written, so that it may hold nothing else.
+    /// Whether the output is for people. Output for programs contains nothing else.
     pub fn is_for_people(self) -> bool {
         matches!(self, OutputForm::Lines | OutputForm::Differences)
     }
 }
 
-/// What a command is to do with its arguments. An invalid number, time or address is reported, and a state that it does not
-/// go on from, or that would be no file.
+/// Returns the options of a command from its arguments. Prints why a number, a time or an address is invalid, or a
+/// state is refused.
 pub fn options_of<'m, R: Eprint + AllocGlobal>(
     rt: &R,
     call: ProgramCall,
@@ -223,7 +216,7 @@ pub fn options_of<'m, R: Eprint + AllocGlobal>(
     Ok(options)
 }
 
-/// Refuses a state that is named, whatever it says: one that no run goes on from, and one that is no file.
+/// Refuses a state that cannot be used whatever it contains: the command makes no run from one, or it is not a file.
 fn refuse_states<R: Eprint>(
     rt: &R,
     matches: &ArgMatches<'_>,
@@ -238,7 +231,7 @@ fn refuse_states<R: Eprint>(
     Ok(())
 }
 
-/// Refuses pieces of a log that is no file, and seconds that are no number.
+/// Refuses pieces of a log that is not a file, and seconds that are not a number.
 fn refuse_pieces<R: Eprint>(
     rt: &R,
     matches: &ArgMatches<'_>,
@@ -266,7 +259,7 @@ fn refuse_pieces<R: Eprint>(
     }
 }
 
-/// What a command writes.
+/// Returns what a command writes.
 fn form_of<'m, R: Eprint>(
     rt: &R,
     command: &str,
@@ -287,7 +280,7 @@ fn form_of<'m, R: Eprint>(
     })
 }
 
-/// What `who` asks.
+/// Returns the request of `who`.
 fn asked_of<'m, R: Eprint>(rt: &R, matches: &'m ArgMatches<'_>) -> Result<OutputForm<'m>, Exit> {
     let at = matches.get_str("at");
     let at = parsed(rt, "--at ", at, at.map(moment_of))?;
@@ -344,14 +337,14 @@ fn file_of(
     }
 }
 
-/// Prints what is wrong with the text of an argument, behind the words for its name, and returns how the program stops.
+/// Prints what is wrong with an argument, after its name, and returns how the program stops.
 fn wrong<R: Eprint>(rt: &R, name: &str, text: &str, why: &str) -> Exit {
     let _ = eprintln!(rt; "explain: {name}{text}: {why}");
     Exit::Told(Stop::Usage)
 }
 
-/// The value of an argument, if it is there: what its text was parsed to. Why there is none is reported, behind the words
-/// for its name.
+/// Returns the value of an argument that is present, as its text was parsed. If it is invalid, prints why, after its
+/// name.
 fn parsed<R: Eprint, T: Drop>(
     rt: &R,
     name: &str,

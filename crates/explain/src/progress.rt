@@ -1,9 +1,9 @@
-//! Progress, for a user who waits at a terminal.
+//! Progress reports for a user who waits at a terminal.
 
 use std::fs;
 use std::rt::Files;
 
-/// How many packets there are between two reports; a run of fewer reports nothing.
+/// The number of packets between two reports; a shorter run has none.
 const EACH: u64 = 65_536;
 
 /// The progress of a run.
@@ -13,22 +13,22 @@ pub struct ExplainProgress {
 }
 
 impl ExplainProgress {
-    /// Reports if standard error is a terminal and standard output is not: there the lines themselves show the
-    /// progress.
+    /// Reports progress if standard error is a terminal and standard output is not. On a terminal the lines themselves
+    /// show the progress.
     pub fn of<R: Files + AllocGlobal>(rt: &R) -> ExplainProgress {
         ExplainProgress {
             is_told: is_terminal(rt, "/proc/self/fd/2") && !is_terminal(rt, "/proc/self/fd/1"),
         }
     }
 
-    /// Reports how many packets there were so far, in place of the report before.
+    /// Prints how many packets there have been so far, over the last report.
     pub fn tell<R: Eprint>(self, rt: &R, number: u64) {
         if self.is_told && number % EACH == 0 {
             let _ = eprint!(rt; "\rexplain: {number} packets    ");
         }
     }
 
-    /// Reports how many packets there were in all, and ends the line, if there was a report before.
+    /// Prints how many packets there were in all, and ends the line, if there was a report.
     pub fn tell_end<R: Eprint>(self, rt: &R, packets: u64) {
         if self.is_told && packets >= EACH {
             let _ = eprintln!(rt; "\rexplain: {packets} packets    ");

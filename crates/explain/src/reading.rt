@@ -1,60 +1,54 @@
-//! Reads the configurations and opens the captures as `napt` does, and explains what it refuses.
+//! Reads the configurations and opens the captures as `napt` does, and prints why it refuses them.
 
-ghost use Rattle.std.specs.Prelude.{IfOk, IfSome};
-ghost use Rattle.napt_account.specs.ResumedLogRuns.{IsFew};
-ghost use Rattle.napt_program.specs.State.{HasFew};
+ghost use Rattle.std.specs.Prelude.{IfOk};
+ghost use Rattle.napt_state.specs.Saved.{HasAccounts};
 
 use crate::options::{ExplainOptions, OutputForm};
 use crate::places::{refuse_log, refuse_written, tell_closed, tell_file, tell_shared};
 use crate::refusals;
-use napt_account::SavedLogState;
 use napt_attribution::{HolderRequest, answer_by_log, requests_at};
 use napt_commands::{Exit, RunStart, print_failed, text_at};
-use napt_config::{Config, ConfigFault};
-use napt_display::reasons::inside_prefixes;
+use napt_config::{Config, ConfigFault, ConfigPlace};
 use napt_program::{
     FileRole, InputFiles, MEMORY, StandardStreams, Stop, closed_stream, open_inputs, refuse_unmade,
 };
-use napt_rules::{State, StateBinding};
-use napt_state::{LogPosition, StateFileContents, read_state, take_up};
+use napt_rules::StateBinding;
+use napt_state::{SavedBinding, StateFileContents, TakenState, read_state};
 use std::alloc::{AllocError, Global};
 use std::fs::File;
 use std::io::BufReader;
 use std::rt::Files;
 
-/// The prefixes of inside hosts in the built-in configuration (RFC 1918, section 3).
-const BUILT_IN_PREFIXES: &str = "10.0.0.0/8 172.16.0.0/12 192.168.0.0/16";
-
-/// What a run needs beside its captures.
+/// What a run needs in addition to its captures.
 #[derive(Drop)]
 pub struct GivenLog {
-    pub written: WrittenOutput,
-    /// The one to compare with.
+    pub config: Config,
+    /// The configuration to compare with.
     pub other: Option<Config>,
     pub asked: Vec<HolderRequest>,
 }
 
-/// Where the run starts, and that of the configuration to compare with.
+/// Where the run starts, and where the one under the configuration to compare with does.
 #[derive(Drop)]
 pub struct RunStarts<'a> {
     pub first: RunStart<'a>,
     pub other: Option<RunStart<'a>>,
 }
 
-/// Reads the configuration, unless it was read before, and what else a run needs beside its captures. Fails as `napt` would,
-/// with the same fault first.
+/// Reads the configuration, unless it has been read, and what else a run needs in addition to its captures. Fails as
+/// `napt` would, with the same fault first.
 pub fn read_given<R: Files + Input + Eprint + AllocGlobal>(
     rt: &R,
     streams: StandardStreams,
     options: &ExplainOptions<'_>,
-    written: Option<WrittenOutput>,
+    config: Option<Config>,
 ) -> Result<GivenLog, Exit> {
     if let Some(role) = closed_stream(streams, &options.files) {
         return Err(tell_closed(rt, role));
     }
     refuse_shared(rt, options)?;
-    let written = match written {
-        Some(written) => written,
+    let config = match config {
+        Some(config) => config,
         None => configuration(rt, options)?,
     };
     let other = match &options.other {
@@ -63,14 +57,14 @@ pub fn read_given<R: Files + Input + Eprint + AllocGlobal>(
     };
     let asked = requests_of(rt, options.form)?;
     Ok(GivenLog {
-        written,
+        config,
         other,
         asked,
     })
 }
 
 impl GivenLog {
-    /// Where its runs start: from the state of `--resume`, if that is named. What `napt` refuses of it is explained.
+    /// Returns where the runs start: from the state of `--resume`, if one is named. If `napt` refuses it, prints why.
     pub fn starts<R: Files + Eprint + AllocGlobal>(
         &self,
         rt: &R,
@@ -84,13 +78,13 @@ impl GivenLog {
             }
             None => None,
         };
-        let first = start_under(rt, options, &self.written.config, saved)?;
+        let first = start_under(rt, options, &self.config, saved)?;
         Ok(RunStarts { first, other })
     }
 }
 
-/// Opens the captures, of which nothing is read. Fails as `napt` would. The outputs of `napt` are neither created nor
-/// emptied: one that could not be is refused as far as that can be known beforehand (`napt_program::unmade`).
+/// Opens the captures without reading them. Fails as `napt` would. The outputs of `napt` are neither created nor
+/// truncated: one that could not be written is refused as far as that is known beforehand (`napt_program::unmade`).
 pub fn open_captures<R: Files + Input + Eprint + AllocGlobal>(
     rt: &R,
     options: &ExplainOptions<'_>,
@@ -102,7 +96,7 @@ pub fn open_captures<R: Files + Input + Eprint + AllocGlobal>(
     Ok(files)
 }
 
-/// Answers requests by a saved log, under the configuration if one is named. What is refused is explained.
+/// Answers requests from a saved log, under the configuration if one is named. If a file is refused, prints why.
 pub fn answer<R: Files + Input + Print + Eprint + AllocGlobal>(
     rt: &R,
     streams: StandardStreams,
@@ -118,20 +112,16 @@ pub fn answer<R: Files + Input + Print + Eprint + AllocGlobal>(
     answer_by_log(rt, streams, &asked, &options.pieces, config.as_ref())
 }
 
-/// What the file of `--resume` says, or a state without bindings where none is named. A refusal is explained.
+/// Reads the state of `--resume`, or returns one without bindings if none is named. If it is refused, prints why.
 fn saved_at<R: Files + Eprint + AllocGlobal>(
     rt: &R,
     options: &ExplainOptions<'_>,
 ) -> Result<StateFileContents, Exit>
-    ensures { IfOk result HasFew }
+    ensures { IfOk result HasAccounts }
 {
     let alloc = rt.alloc();
     let Some(path) = &options.files.resume else {
-        let list = Vec::new(alloc);
-        return Ok(StateFileContents {
-            state: State { clock: 0, list },
-            log: None,
-        });
+        return Ok(StateFileContents::new(alloc, 0));
     };
     let file = match File::open(rt, path) {
         Ok(file) => file,
@@ -147,20 +137,18 @@ fn saved_at<R: Files + Eprint + AllocGlobal>(
     }
 }
 
-/// Where a run under a configuration starts, from what was saved. A refusal is explained.
+/// Returns where a run under a configuration starts, from a saved state. If it is refused, prints why.
 fn start_under<'a, R: Eprint + AllocGlobal>(
     rt: &R,
     options: &ExplainOptions<'_>,
     config: &'a Config,
     saved: StateFileContents,
 ) -> Result<RunStart<'a>, Exit>
-    requires { HasFew saved }
+    requires { HasAccounts saved }
 {
-    let StateFileContents { mut state, log } = saved;
-    let log = kept_of(rt.alloc(), log);
-    match take_up(rt.alloc(), config, &mut state)? {
-        None => Ok(RunStart::new(config, state, log)),
-        Some((row, misfit)) => {
+    match saved.take_up(rt.alloc(), config)? {
+        Ok(TakenState { state, log }) => Ok(RunStart::new(config, state, log)),
+        Err((row, misfit)) => {
             let path = options.files.resume.as_ref();
             let path = path.map_or("", |path| path.as_str());
             Err(refusals::tell_binding(rt, path, row, misfit))
@@ -168,45 +156,31 @@ fn start_under<'a, R: Eprint + AllocGlobal>(
     }
 }
 
-/// What is kept of a log, or nothing.
-fn kept_of(alloc: Global, log: Option<LogPosition>) -> SavedLogState
-    requires { IfSome log (λ kept. IsFew kept.log) }
-    ensures { IsFew result }
-{
-    match log {
-        Some(kept) => kept.log,
-        None => SavedLogState {
-            made: 0,
-            living: Vec::new(alloc),
-        },
-    }
-}
-
-/// The same without a log, once more.
+/// The same without accounts, once more.
 fn copied(alloc: Global, saved: &StateFileContents) -> Result<StateFileContents, AllocError>
-    ensures { IfOk result HasFew }
+    ensures { IfOk result HasAccounts }
 {
-    let mut list = Vec::new(alloc);
-    for binding in &saved.state.list {
-        list.push(StateBinding {
-            row: binding.row,
-            last: binding.last,
-            flows: Vec::from_slice(alloc, &binding.flows)?,
+    let mut copy = StateFileContents::new(alloc, saved.clock);
+    for binding in &saved.bindings {
+        copy.bindings.push(match binding {
+            SavedBinding::Live(StateBinding { row, last, flows }, _) => {
+                let flows = Vec::from_slice(alloc, flows)?;
+                let (row, last) = (*row, *last);
+                SavedBinding::Live(StateBinding { row, last, flows }, None)
+            }
+            SavedBinding::Ended(row, end) => SavedBinding::Ended(*row, *end),
         })?;
     }
-    Ok(StateFileContents {
-        state: State {
-            clock: saved.state.clock,
-            list,
-        },
-        log: None,
-    })
+    Ok(copy)
 }
 
-/// Refuses the first option that wants a standard stream which another has, and prints why.
-fn refuse_shared<R: Eprint>(rt: &R, options: &ExplainOptions<'_>) -> Result<(), Exit> {
+/// Refuses the first option whose standard stream another option already uses, and prints why.
+fn refuse_shared<R: Eprint + AllocGlobal>(
+    rt: &R,
+    options: &ExplainOptions<'_>,
+) -> Result<(), Exit> {
     if let Some(role) = options.standard_again() {
-        return Err(tell_shared(rt, options.option_of(role), role));
+        return Err(tell_shared(rt, options.named().option_of(role), role));
     }
     refuse_more_input(
         rt,
@@ -218,7 +192,7 @@ fn refuse_shared<R: Eprint>(rt: &R, options: &ExplainOptions<'_>) -> Result<(), 
 
 /// Refuses standard input for more than one of the configurations, the requests and the pieces of a log, or for one if
 /// another file has it, and prints why, with what names such a file.
-fn refuse_more_input<R: Eprint>(
+fn refuse_more_input<R: Eprint + AllocGlobal>(
     rt: &R,
     options: &ExplainOptions<'_>,
     is_taken: bool,
@@ -231,7 +205,7 @@ fn refuse_more_input<R: Eprint>(
     Ok(())
 }
 
-/// What was opened. If a file was refused, prints why.
+/// Returns what was opened. If a file was refused, prints why.
 fn explain_file<R: Files + Eprint + AllocGlobal, T: Drop>(
     rt: &R,
     options: &ExplainOptions<'_>,
@@ -244,67 +218,35 @@ fn explain_file<R: Files + Eprint + AllocGlobal, T: Drop>(
     }
 }
 
-/// A configuration, with its text if it has one.
-#[derive(Drop)]
-pub struct WrittenOutput {
-    pub config: Config,
-    text: Option<Vec<u8>>,
-}
-
-impl WrittenOutput {
-    /// The prefixes of inside hosts, with spaces between them.
-    pub fn prefixes(&self, alloc: Global) -> Result<String, AllocError> {
-        match &self.text {
-            Some(text) => inside_prefixes(alloc, text),
-            None => String::from_str(alloc, BUILT_IN_PREFIXES),
-        }
-    }
-}
-
-/// The configuration in the file, or the built-in one if none is named. A refusal is explained.
+/// Reads the configuration in the file, or the built-in one if none is named. If it is refused, prints why.
 pub fn configuration<R: Files + Input + Eprint + AllocGlobal>(
     rt: &R,
     options: &ExplainOptions<'_>,
-) -> Result<WrittenOutput, Exit> {
+) -> Result<Config, Exit> {
     if let Some(path) = &options.files.config {
-        return written_at(rt, "--config", path);
+        return configuration_at(rt, "--config", path);
     }
     match Config::built_in(rt.alloc()) {
-        Ok(config) => Ok(WrittenOutput { config, text: None }),
+        Ok(config) => Ok(config),
         Err(_) => Err(Exit::As(Stop::Config(ConfigFault::Memory))),
     }
 }
 
-/// The configuration in a file, with what names it. A refusal is explained.
+/// Reads the configuration in a file, which `name` names. If it is refused, prints why.
 fn configuration_at<R: Files + Input + Eprint + AllocGlobal>(
     rt: &R,
     name: &str,
     path: &str,
 ) -> Result<Config, Exit> {
-    Ok(written_at(rt, name, path)?.config)
-}
-
-/// The same with its text.
-fn written_at<R: Files + Input + Eprint + AllocGlobal>(
-    rt: &R,
-    name: &str,
-    path: &str,
-) -> Result<WrittenOutput, Exit> {
     let text = text_at(rt, name, path)?;
-    let fault = match Config::read(rt.alloc(), &text) {
-        Ok(config) => {
-            return Ok(WrittenOutput {
-                config,
-                text: Some(text),
-            });
-        }
-        Err(fault) => fault,
-    };
-    refusals::tell_config(rt, path, &text, fault)?;
-    Err(Exit::Told(Stop::Config(fault)))
+    let mut place = ConfigPlace::new();
+    match Config::read_at(rt.alloc(), &text, &mut place) {
+        Ok(config) => Ok(config),
+        Err(fault) => Err(refusals::tell_config(rt, name, path, &place, fault)),
+    }
 }
 
-/// The requests of a form, none if it has none. A file that is refused is reported.
+/// Returns the requests of a form, or none if it has none. If their file is refused, prints why.
 pub fn requests_of<R: Files + Input + Eprint + AllocGlobal>(
     rt: &R,
     form: OutputForm<'_>,

@@ -1,4 +1,4 @@
-//! A run over captures, as the command line asks for it.
+//! A run over captures, as the command line requests it.
 
 use crate::captures::{CaptureInputs, OpenCaptures, RefusedRun, StartedCaptures};
 use crate::explanation::{BegunRun, Explanation};
@@ -9,15 +9,13 @@ use napt_attribution::{Holders, begin_run_log};
 use napt_capture::{EmptySource, Source, Watched};
 use napt_commands::{CommandOutput, Exit, RunStart, take_all};
 use napt_lines::{PacketLines, PacketObjects, Replies, RunComparison, SinglePacket, ends_of};
-use napt_log_text::TimeStamp;
-use napt_program::{InputFiles, StandardStreams};
+use napt_program::{InputFiles, StandardStreams, print_new_entries};
 use napt_sequential::Input;
 use napt_wire::Side;
-use std::alloc::AllocError;
 use std::io::Read;
 use std::rt::Files;
 
-/// What is asked for, and under which configurations.
+/// The options of a run, with its configurations and where it starts.
 #[derive(Clone, Copy)]
 pub struct RunSetting<'a> {
     streams: StandardStreams,
@@ -44,7 +42,7 @@ impl<'a> RunSetting<'a> {
     fn refusing(self) -> RefusedRun<'a> {
         RefusedRun {
             options: self.options,
-            written: &self.given.written,
+            config: &self.given.config,
         }
     }
 
@@ -105,7 +103,7 @@ impl<'a> RunSetting<'a> {
         }
     }
 
-    /// Explains what ends differently under another configuration.
+    /// Explains which packets have another outcome under another configuration.
     fn explain_against<R: Print + Eprint + AllocGlobal, A: Source, B: Source>(
         self,
         rt: &R,
@@ -128,7 +126,7 @@ impl<'a> RunSetting<'a> {
         against.tell(rt, options.outside, [name, other])
     }
 
-    /// Explains the packets as they come, or once all are there if replies follow the run.
+    /// Explains the packets as they are read, or after all have been read if replies follow the run.
     fn explain_run<R: Files + Print + Eprint + AllocGlobal, A: Source, B: Source>(
         self,
         rt: &R,
@@ -145,7 +143,7 @@ impl<'a> RunSetting<'a> {
         self.explain_packets(rt, captures, Some(inputs.as_slice()), replies)
     }
 
-    /// Explains the packets, which were kept or else come from the captures, by what the command prints or writes.
+    /// Explains the packets, from memory or from the captures, in the output of the command.
     fn explain_packets<R: Files + Print + Eprint + AllocGlobal, A: Source, B: Source>(
         self,
         rt: &R,
@@ -166,9 +164,11 @@ impl<'a> RunSetting<'a> {
                 packets.explain(rt, captures, begun, PacketObjects { choice, replies })
             }
             (OutputForm::Log(paths), _) => {
-                tell_new_entries(rt, start)?;
+                if start.begins_entries() {
+                    print_new_entries(rt, alloc, "explain", start.clock())?;
+                }
                 let is_held = options.is_of_gateway();
-                let log = begin_run_log(rt, paths, is_held, start.config(), &begun.living)?;
+                let log = begin_run_log(rt, paths, is_held, start.config(), begun.opening())?;
                 packets.explain(rt, captures, begun, log)
             }
             (OutputForm::Holders(_) | OutputForm::Requests(_), _) => {
@@ -184,7 +184,7 @@ impl<'a> RunSetting<'a> {
         }
     }
 
-    /// Writes the outside capture that replies make, once all packets are there.
+    /// Writes the outside capture that the replies make, after all packets have been read.
     fn write_followed<R: Files + Print + Eprint + AllocGlobal, A: Source, B: Source>(
         self,
         rt: &R,
@@ -201,7 +201,7 @@ impl<'a> RunSetting<'a> {
     }
 }
 
-/// The packets of a run that is explained: they come from captures, or were kept since replies follow the run.
+/// The packets of a run that is explained: from captures, or from memory if replies follow the run.
 #[derive(Clone, Copy)]
 struct RunPackets<'a, 'i, 'k> {
     options: &'a ExplainOptions<'a>,
@@ -210,7 +210,7 @@ struct RunPackets<'a, 'i, 'k> {
 }
 
 impl<'a, 'i, 'k> RunPackets<'a, 'i, 'k> {
-    /// Hands the packets to what a command prints or writes.
+    /// Passes the packets to the output of a command.
     fn explain<R, A: Source, B: Source, O: CommandOutput<R> + Drop>(
         self,
         rt: &R,
@@ -228,19 +228,4 @@ impl<'a, 'i, 'k> RunPackets<'a, 'i, 'k> {
         }
         explanation.end(rt, captures.flaws())
     }
-}
-
-/// Prints where the log begins new entries for the bindings of the state, if the saved log does not have them.
-fn tell_new_entries<R: Eprint + AllocGlobal>(
-    rt: &R,
-    start: &RunStart<'_>,
-) -> Result<(), AllocError> {
-    if start.begins_entries(rt.alloc())? {
-        let mut date = String::new(rt.alloc());
-        TimeStamp(u128::from(start.clock())).add_date(&mut date)?;
-        let _ = eprintln!(rt;
-            "explain: the log begins a new entry for each binding of the state, at {date}"
-        );
-    }
-    Ok(())
 }

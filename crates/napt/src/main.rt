@@ -3,11 +3,13 @@
 
 mod program;
 
-use napt_program::{ProgramCall, StandardStreams};
+use napt_program::{ProgramCall, StandardStreams, StopReason};
 use std::process::ExitCode;
 
 fn main(rt: HostRuntime) -> ExitCode {
     let streams = StandardStreams::open_now(&rt);
     let call = ProgramCall::of(&rt, streams, "napt");
-    call.ended(&rt, &program::serve(&rt, streams, call))
+    let mut reason = StopReason::new(call.at_terminal);
+    let answer = program::serve(&rt, streams, call, &mut reason);
+    call.ended(&rt, &answer, &reason)
 }

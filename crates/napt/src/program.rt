@@ -7,16 +7,18 @@ ghost use Rattle.napt_program.specs.{CommandLine.{files_with_log, line_of_words}
 use napt_pool::OpenGate;
 use napt_program::{
     CountedSource, MEMORY, OptionsWithLog, OutputDevices, ProgramCall, ProgramHost,
-    RunDevices as OpenedDevices, RunResources, StandardStreams, Stop, answer_line, open,
-    parse_words, stop_of_run, words,
+    RunDevices as OpenedDevices, RunResources, StandardStreams, Stop, StopReason, answer_line,
+    open, parse_words, stop_of_run, take_verbose, words,
 };
 use napt_run::{Devices, NoLog, RunEnd, Start, run_captures};
+use napt_state::StateFileContents;
 use std::alloc::Global;
 use std::io::{Read, Write};
 use std::sync::Arc;
 
 /// Does what the command line requests: runs over the files that it names, with a worker thread for
-/// each external address, or prints help or the version. At a terminal, it reports cut captures.
+/// each external address, or prints help or the version. At a terminal and with
+/// `--verbose` it warns of cut and swapped captures.
 ///
 /// Before any capture is opened, fails if the arguments are not understood or memory for them is
 /// refused, if a needed standard stream is closed, or if the configuration is refused; after that,
@@ -25,10 +27,17 @@ pub fn serve<R: ProgramHost>(
     rt: &R,
     streams: StandardStreams,
     call: ProgramCall,
+    reason: &mut StopReason,
 ) -> Result<(), Stop>
     ensures { IfErr result IsStopUnderOpenGate }
 {
-    serve_words(rt, streams, call, words(rt)?)
+    let mut words = words(rt)?;
+    let mut call = call;
+    if take_verbose(&mut words) {
+        reason.is_requested = true;
+        call = call.verbose();
+    }
+    serve_words(rt, streams, call, words, reason)
 }
 
 /// Does what these arguments request; the first is the program's name. If it succeeds, they were
@@ -38,6 +47,7 @@ pub fn serve_words<R: ProgramHost>(
     streams: StandardStreams,
     call: ProgramCall,
     words: Vec<String>,
+    reason: &mut StopReason,
 ) -> Result<(), Stop>
     ensures taken { OnOk result (LineIsTaken (line_of_words (map string_bytes words.items))) }
     ensures stop { IfErr result
@@ -50,7 +60,9 @@ pub fn serve_words<R: ProgramHost>(
                 log: None,
                 log_each: None,
             };
-            run(rt, streams, call, &options)
+            let answer = run(rt, streams, call, &options, reason);
+            reason.find(rt, streams, &options, &answer);
+            answer
         }
         Err(fault) => answer_line(rt, fault),
     }
@@ -62,6 +74,7 @@ fn run<R: ProgramHost>(
     streams: StandardStreams,
     call: ProgramCall,
     options: &OptionsWithLog,
+    reason: &mut StopReason,
 ) -> Result<(), Stop>
     ensures { IfErr result (IsRunStop streams (files_with_log options.now)) }
 {
@@ -71,27 +84,31 @@ fn run<R: ProgramHost>(
         devices,
         save,
         ..
-    } = open(rt, streams, options)?;
+    } = open(rt, streams, options, &mut reason.place)?;
     let start = Start {
         config: &config,
         state: &state,
     };
     let end = run_over(rt, call, options, start, devices)?;
+    let (end, outputs) = end;
     let state = end.passed.into_state_if(save.is_some(), rt.alloc())?;
     if let (Some(save), Some(state)) = (save, state) {
-        save.finish(rt, rt.alloc(), &state, None)?;
+        let contents = StateFileContents::of(rt.alloc(), &config, state, None)?;
+        outputs.sync()?;
+        save.finish(rt, rt.alloc(), &contents)?;
     }
     Ok(())
 }
 
-/// Runs over the devices, and prints at a terminal which captures end inside a record.
+/// Runs over the devices, and prints what the captures show against themselves, at a terminal and
+/// with `--verbose`. Returns the outputs too, which have been flushed.
 fn run_over<R: ProgramHost, S: Read + Drop, T: Write + Drop, F: Read + Write + Drop>(
     rt: &R,
     call: ProgramCall,
     options: &OptionsWithLog,
     start: Start<'_>,
     opened: OpenedDevices<S, T, F>,
-) -> Result<RunEnd, Stop>
+) -> Result<(RunEnd, OutputDevices<T, F>), Stop>
     requires { TakesState start.config.now start.state.now }
     ensures { (streams : Known) → IfErr result
         (IsRunStop streams (files_with_log options.now)) }
@@ -108,20 +125,25 @@ fn run_over<R: ProgramHost, S: Read + Drop, T: Write + Drop, F: Read + Write + D
     } = outputs;
     let gate = gate(rt.alloc())?;
     let mut devices = Devices {
-        inside: CountedSource::over(inside, call.at_terminal),
-        outside: CountedSource::over(outside, call.at_terminal),
+        inside: CountedSource::over(inside, call.is_verbose),
+        outside: CountedSource::over(outside, call.is_verbose),
         to_outside,
         to_inside,
         report,
         log: NoLog,
     };
-    match run_captures(rt, rt.alloc(), start, &mut devices, gate) {
-        Ok(end) => {
-            call.print_cuts(rt, &devices.inside, &devices.outside);
-            Ok(end)
-        }
-        Err(fault) => Err(stop_of_run(options, fault)),
-    }
+    let config = start.config;
+    let end = match run_captures(rt, rt.alloc(), start, &mut devices, gate) {
+        Ok(end) => end,
+        Err(fault) => return Err(stop_of_run(options, fault)),
+    };
+    call.print_flaws(rt, config, &devices.inside, &devices.outside);
+    let outputs = OutputDevices {
+        to_outside: devices.to_outside,
+        to_inside: devices.to_inside,
+        report: devices.report,
+    };
+    Ok((end, outputs))
 }
 
 /// Returns the gate of a run, which is always open. Fails with `MEMORY` if memory is refused.

@@ -1,21 +1,21 @@
--- What is kept of a log, put in its places entry by entry.
+-- The saved entries of a log, inserted one by one.
 use Rattle.std.proofs.lemmas.{Grind.common_steps, Bool.Decides.nat_tests}
 use Rattle.std.proofs.Common.{◌≡◌, ℕ, ◌+◌, ◌<◌, ◌≤◌, inl, inr, true, false, cond, List, [], ◌∷◌, ◌++◌, length, map, take, get_or, Option, Some, None, refl, sym, ◌∙◌, ap, subst, arith}
 use Rattle.std.{specs.Prelude.filter, proofs.lemmas.{Bool.true≢false, List.{take_all, take_more}, Option.same_Some}}
 use Rattle.napt_rules.specs.Prelude.{Each}
 use Rattle.napt_account.specs.declared.{log.LogEntry.LogEntry, open_entries.{DueEntry.DueEntry, EntryKey.EntryKey, Open.Open, OpenEntries.OpenEntries}}
-use Rattle.napt_account.specs.{ResumedLogRuns.{LogStateModel, filled, kept_at}, LogStates.AreKeyed, LogParts.{is_open, numbered_entries}}
-use Rattle.napt_account.specs.OpenEntries.{entry_key, external_eq, open_at, listed_at, is_queued, IsIndexed, IsIndexedBut, OpenEntriesShow}
-use Rattle.napt_account.proofs.{EndOrder.{has_listed, listed_has}, InOrder.{Has, each_has, filter_has, has_filter, has_left, has_parts}, Keyed.keyed_before}
-use Rattle.napt_account.proofs.OpenEntries.{external_flip, external_itself, indexed_but, open_listed, under}
+use Rattle.napt_account.specs.{Log.LogModel, LogParts.{IsNumbered, Rises, is_open, kept_at}}
+use Rattle.napt_account.specs.OpenEntries.{AreKeyed, Has, entry_key, external_eq, open_at, entry_at, is_queued, IsIndexed, IsIndexedBut, OpenEntriesShow}
+use Rattle.napt_account.proofs.{InOrder.{each_has, filter_has, has_left, has_parts}, Keyed.keyed_before}
+use Rattle.napt_account.proofs.OpenEntries.{external_flip, external_itself, indexed_but, open_entry, under}
 
 module _ (ls : List LogEntry) (keyed : AreKeyed (map (λ l. l.entry.binding) ls)) (many : ℕ) where
-  -- it has the first of them, and no others
+  -- The map has the first entries, and no others.
   pub record HasFirst (k : ℕ) (all : OpenEntries) : Type 0 where
     pub indexed : IsIndexed all
     pub made : all.made ≡ many
-    pub there : (x : EntryKey) (l : LogEntry) → listed_at all x ≡ Some l → Has (take k ls) l
-    pub has : (l : LogEntry) → Has (take k ls) l → listed_at all (entry_key l.entry.binding) ≡ Some l
+    pub there : (x : EntryKey) (l : LogEntry) → entry_at all x ≡ Some l → Has (take k ls) l
+    pub has : (l : LogEntry) → Has (take k ls) l → entry_at all (entry_key l.entry.binding) ≡ Some l
 
   pub has_none : (all : OpenEntries) → ((x : EntryKey) → open_at all x ≡ None) →
       ((d : DueEntry) → is_queued all d ≡ false) → all.made ≡ many → HasFirst 0 all
@@ -52,9 +52,9 @@ module _ (ls : List LogEntry) (keyed : AreKeyed (map (λ l. l.entry.binding) ls)
     free : (o : Option Open) → open_at old key ≡ o → o ≡ None
     free None at = refl
     free (Some o) at =
-        let here = open_listed old key o at in
-        absurd (true≢false (sym (external_itself key) ∙ (ap (external_eq key) (under old has.indexed key o.listed here)
-        ∙ other o.listed (has.there key o.listed here))))
+        let here = open_entry old key o at in
+        absurd (true≢false (sym (external_itself key) ∙ (ap (external_eq key) (under old has.indexed key o.numbered here)
+        ∙ other o.numbered (has.there key o.numbered here))))
 
     pub but : IsIndexedBut key None old
     but = let none = free (open_at old key) refl in grind (arith, common_steps, indexed_but)
@@ -69,51 +69,46 @@ module _ (ls : List LogEntry) (keyed : AreKeyed (map (λ l. l.entry.binding) ls)
         has_right [] = inl refl
         has_right (x ∷ xs) = inr (has_right xs)
 
-    pub has_next : new.made ≡ old.made → IsIndexed new → ((x : EntryKey) → listed_at new x
-        ≡ cond (external_eq key x) (Some l) (listed_at old x)) → HasFirst (k + 1) new
+    pub has_next : new.made ≡ old.made → IsIndexed new → ((x : EntryKey) → entry_at new x
+        ≡ cond (external_eq key x) (Some l) (entry_at old x)) → HasFirst (k + 1) new
     has_next made indexed entries = record {
       indexed = indexed;
       made = made ∙ has.made;
       there = λ x m at. subst (λ (ms : List LogEntry). Has ms m) (sym first_next)
-          (elim (external_eq key x) as (λ v. cond v (Some l) (listed_at old x) ≡ Some m → Has (take k ls ++ l ∷ []) m) [
+          (elim (external_eq key x) as (λ v. cond v (Some l) (entry_at old x) ≡ Some m → Has (take k ls ++ l ∷ []) m) [
             | true ↦ λ here. subst (Has (take k ls ++ l ∷ [])) (same_Some l m here) last
             | false ↦ λ there. has_left (take k ls) (l ∷ []) m (has.there x m there)
           ] (sym (entries x) ∙ at));
       has = λ m h. elim (has_parts (take k ls) (l ∷ []) m (subst (λ (ms : List LogEntry). Has ms m) first_next h)) [
         | inl first ↦ entries (entry_key m.entry.binding)
-            ∙ (ap (λ v. cond v (Some l) (listed_at old (entry_key m.entry.binding))) (other m first)
+            ∙ (ap (λ v. cond v (Some l) (entry_at old (entry_key m.entry.binding))) (other m first)
             ∙ has.has m first)
         | inr one ↦ elim one [
-          | inl same ↦ subst (λ (n : LogEntry). listed_at new (entry_key n.entry.binding) ≡ Some n) same
-              (entries key ∙ ap (λ v. cond v (Some l) (listed_at old key)) (external_itself key))
+          | inl same ↦ subst (λ (n : LogEntry). entry_at new (entry_key n.entry.binding) ≡ Some n) same
+              (entries key ∙ ap (λ v. cond v (Some l) (entry_at old key)) (external_itself key))
           | inr none ↦ absurd none
         ]
       ];
     }
 
 -- all of them
-pub has_all : (log : LogStateModel) (keyed : AreKeyed (map (λ l. l.entry.binding) log.living)) (k : ℕ)
-    (all : OpenEntries) →
-    length log.living ≤ k → HasFirst log.living keyed log.made k all → (now most : ℕ) →
-    kept_at now (filled log) ≡ log → Each (λ l. (l.entry.sent ≤ most) × (l.entry.received ≤ most)) log.living →
-    OpenEntriesShow now most (filled log) all
-has_all log keyed k all past has now most kept few =
-    let whole : take k log.living ≡ log.living = take_all k log.living past in
-    let same : filter (is_open now) (numbered_entries (filled log))
-    ≡ log.living = ap (λ (l : LogStateModel). l.living) kept in
-    let there : (x : EntryKey) (l : LogEntry) → listed_at all x ≡ Some l → Has log.living l =
+pub has_all : (log : LogModel) (keyed : AreKeyed (map (λ l. l.entry.binding) log.entries)) (k : ℕ) (all : OpenEntries) →
+    length log.entries ≤ k → HasFirst log.entries keyed log.made k all → (now most : ℕ) →
+    kept_at now log ≡ log → IsNumbered log → Rises 1 log.entries →
+    Each (λ l. (l.entry.sent ≤ most) × (l.entry.received ≤ most)) log.entries → OpenEntriesShow now most log all
+has_all log keyed k all past has now most kept numbered rises few =
+    let whole : take k log.entries ≡ log.entries = take_all k log.entries past in
+    let same : filter (is_open now) log.entries ≡ log.entries = ap (λ (l : LogModel). l.entries) kept in
+    let there : (x : EntryKey) (l : LogEntry) → entry_at all x ≡ Some l → Has log.entries l =
     λ x l at. subst (λ (ls : List LogEntry). Has ls l) whole (has.there x l at) in
-    let among : (x : EntryKey) (l : LogEntry) → listed_at all x ≡ Some l →
-    Has (numbered_entries (filled log)) l × (is_open now l ≡ true) =
-    λ x l at. filter_has (is_open now) (numbered_entries (filled log)) l
-    (subst (λ (ls : List LogEntry). Has ls l) (sym same) (there x l at)) in
     record {
       indexed = has.indexed;
-      made = has.made ∙ sym (ap (λ (l : LogStateModel). l.made) kept);
-      has = λ l at opens. has.has l (subst (λ (ls : List LogEntry). Has ls l) (sym whole)
-          (subst (λ (ls : List LogEntry). Has ls l) same
-          (has_filter (is_open now) (numbered_entries (filled log)) l (listed_has (filled log) l at) opens)));
-      there = λ x l at. has_listed (filled log) l (among x l at).0;
-      unended = λ x l at. (among x l at).1;
-      few = λ x l at. each_has (λ l. (l.entry.sent ≤ most) × (l.entry.received ≤ most)) log.living l few (there x l at);
+      made = has.made;
+      numbered = numbered;
+      rises = rises;
+      has = λ l at opens. has.has l (subst (λ (ls : List LogEntry). Has ls l) (sym whole) at);
+      there = there;
+      unended = λ x l at. (filter_has (is_open now) log.entries l
+          (subst (λ (ls : List LogEntry). Has ls l) (sym same) (there x l at))).1;
+      few = λ x l at. each_has (λ l. (l.entry.sent ≤ most) × (l.entry.received ≤ most)) log.entries l few (there x l at);
     }

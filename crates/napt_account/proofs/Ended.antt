@@ -2,11 +2,13 @@
 use Rattle.std.proofs.lemmas.{Grind.common_steps, Bool.Decides.nat_tests}
 use Rattle.std.proofs.Common.{◌≡◌, ℕ, zero, suc, ◌+◌, ◌≤◌, max, false, List, [], ◌∷◌, ◌++◌, length, map, Option, Some, ◌∙◌, ap, subst, arith}
 use Rattle.std.{specs.List.{fold, slice_get}, proofs.lemmas.Option.same_Some}
-use Rattle.napt_config.specs.{Rules.Rules, declared.settings.Timers.Timers}
+use Rattle.napt_config.specs.Rules.{Rules}
 use Rattle.napt_binding.{specs.Ends.is_before, proofs.FirstEnds.before_sooner}
-use Rattle.napt_rules.specs.{declared.Leg.Leg, Prelude.{BindingUse, Binding, act, opening, LegAct, RunEffect, effect_then, step, run, run_from, last_clock}}
+use Rattle.napt_rules.specs.Prelude.{Binding, act, LegAct, RunEffect, effect_then, step, run_from, effect_from, last_clock}
 use Rattle.napt_laws.proofs.{OneMoreInput.run_append, Turns.{InTurn, run_turn}}
-use Rattle.napt_account.{specs.{declared.log.Entry.Entry, EndedEntries.EndedEntriesStay, Log.{first_entry, entries_after_leg, logged, log_of}}, proofs.Books.fold_joined}
+use Rattle.napt_sequential.specs.declared.passage.Passage.{Passage}
+use Rattle.napt_account.specs.{declared.log.{Entry.Entry, LogEntry.LogEntry}, EndedEntries.EndedEntriesStay, Log.{LogModel, after_leg, after_record, log_on}, LogParts.is_open}
+use Rattle.napt_account.proofs.GoingOn.{fold_joined}
 
 -- LISTS
 
@@ -28,41 +30,42 @@ pub ended_later : (now later : ℕ) → now ≤ later → (end : Option ℕ) →
     is_before later end ≡ false
 ended_later now later le end ended = grind (arith, common_steps, nat_tests, before_sooner)
 
-leg_leaves : (timers : Timers) (leg : Leg) (went : Option BindingUse) (now : ℕ) → now ≤ leg.now → (entries : List Entry)
-    (i : ℕ) (e : Entry) → slice_get entries i ≡ Some e → is_before now e.end ≡ false →
-    slice_get (entries_after_leg timers leg went entries) i ≡ Some e
-leg_leaves timers leg went now h entries i e k g =
+leg_leaves : (now : ℕ) (p : Passage) (at : ℕ) → now ≤ at → (log : LogModel) (i : ℕ) (n : LogEntry) →
+    slice_get log.entries i ≡ Some n → is_open now n ≡ false → slice_get (after_leg at p log).entries i ≡ Some n
+leg_leaves now p at le log i n k ended =
     grind (arith, common_steps, nat_tests, ended_later, get_joined, get_mapped)
 
 acts_leave : (rules : Rules) (clock : ℕ) (list : List Binding) (acts : List LegAct) (last : ℕ) (new : List Binding) →
-    InTurn rules clock list acts last new → (entries : List Entry) (i : ℕ) (e : Entry) →
-    slice_get entries i ≡ Some e → is_before clock e.end ≡ false →
-    slice_get (fold (logged rules.timers) entries acts) i ≡ Some e
-acts_leave rules clock list [] last new turns entries i e at ended = at
-acts_leave rules clock list (a ∷ acts) last new turns entries i e at ended =
+    InTurn rules clock list acts last new → (log : LogModel) (i : ℕ) (n : LogEntry) →
+    slice_get log.entries i ≡ Some n → is_open clock n ≡ false →
+    slice_get (fold (after_record rules.timers) log acts).entries i ≡ Some n
+acts_leave rules clock list [] last new turns log i n at ended = at
+acts_leave rules clock list (a ∷ acts) last new turns log i n at ended =
     let le : clock ≤ a.leg.now = turns.0.later in
     acts_leave rules a.leg.now (act rules a.address a.leg list).list acts last new turns.1
-    (logged rules.timers entries a) i e (leg_leaves rules.timers a.leg a.through clock le entries i e at ended)
-    (ended_later clock a.leg.now le e.end ended)
+    (after_record rules.timers log a) i n (leg_leaves clock _ a.leg.now le log i n at ended)
+    (ended_later clock a.leg.now le n.entry.end ended)
 
 -- ALL INPUTS
 
 pub ended_stay : EndedEntriesStay
-unfolding log_of
-ended_stay rules front next rest place entry at ended =
-    let entries : List Entry = map (first_entry rules.timers 0) (opening rules) in
-    let first : RunEffect = run rules front (opening rules) in
-    let told : List Entry = fold (logged rules.timers) entries first.acts in
-    let number : ℕ = length front in
-    let time : ℕ = max (last_clock 0 front) next.clock in
-    let later : RunEffect = run_from rules number (last_clock 0 front) (next ∷ rest) first.list in
-    let whole : RunEffect = run_from rules number time (next ∷ rest) first.list in
+unfolding log_on
+ended_stay rules state log front next rest place numbered at ended =
+    let first : RunEffect = effect_from rules state front in
+    let told : LogModel = fold (after_record rules.timers) log first.acts in
+    let many : ℕ = length front in
+    let was : ℕ = last_clock state.clock front in
+    let time : ℕ = max was next.clock in
+    let later : RunEffect = run_from rules many was (next ∷ rest) first.list in
+    let whole : RunEffect = run_from rules many time (next ∷ rest) first.list in
     let same : max time next.clock ≡ time = omega arith in
-    ap (λ (c : RunEffect). slice_get (fold (logged rules.timers) entries c.acts) place)
-    (run_append rules 0 0 front (next ∷ rest) (opening rules) number (omega arith))
-    ∙ (ap (λ (es : List Entry). slice_get es place) (fold_joined (logged rules.timers) first.acts later.acts entries)
-    ∙ subst (λ (now : ℕ). slice_get (fold (logged rules.timers) told
-    (effect_then (step rules number now next first.list)
-    (run_from rules (number + 1) now rest (step rules number now next first.list).list)).acts) place ≡ Some entry) same
+    ap (λ (c : RunEffect). slice_get (fold (after_record rules.timers) log c.acts).entries place)
+    (run_append rules 0 state.clock front (next ∷ rest) state.list many (omega arith))
+    ∙ (ap (λ (l : LogModel). slice_get l.entries place)
+    (fold_joined (after_record rules.timers) first.acts later.acts log)
+    ∙ subst (λ (now : ℕ). slice_get (fold (after_record rules.timers) told
+    (effect_then (step rules many now next first.list)
+    (run_from rules (many + 1) now rest (step rules many now next first.list).list)).acts).entries place
+    ≡ Some numbered) same
     (acts_leave rules time first.list whole.acts (last_clock time (next ∷ rest)) whole.list
-    (run_turn rules number time (next ∷ rest) first.list) told place entry at ended))
+    (run_turn rules many time (next ∷ rest) first.list) told place numbered at ended))

@@ -1,4 +1,4 @@
--- The open entries are the live bindings, each with its end; an act keeps it so, and does not change the past.
+-- The open entries are the live bindings, each with its end; an act keeps that so, and does not change the past.
 use Rattle.std.proofs.lemmas.{Grind.common_steps, Bool.Decides.nat_tests}
 use Rattle.std.proofs.Common.{◌≡◌, ℕ, ◌<◌, ◌≤◌, Bool, true, false, ◌&&◌, cond, List, [], ◌∷◌, ◌++◌, map, Option, Some, refl, sym, ◌∙◌, ap, subst, arith, append-nil}
 use Rattle.std.{specs.{Prelude.{filter, find, nat_le}, List.fold}, proofs.lemmas.{Bool.{and_parts, and_from}, Option.same_Some}}
@@ -7,14 +7,14 @@ use Rattle.napt_rules.{specs.declared.{Row.Row, Leg.Leg}, proofs.{Lists.{each_fi
 use Rattle.napt_laws.proofs.Lists.{filter_narrow, find_passes, each_weaker, each_pushed}
 use Rattle.napt_laws.proofs.{Endpoints.{protocol_is, end_is, same_itself, end_itself}, FreshBindings.{IsFresh, fresh_purged}, Turns.InTurn}
 use Rattle.napt_binding.{specs.Ends.{end_of, is_before, EndsAreFirst}, proofs.FirstEnds.{before_sooner, end_without_dead}}
-use Rattle.napt_account.specs.{declared.log.Entry.Entry, Log.{first_entry, shares, counted, entry_through, entries_after_leg, logged, stands_at}}
+use Rattle.napt_account.specs.{declared.log.Entry.Entry, Log.{first_entry, shares, counted, entry_through, stands_at}}
 use Rattle.napt_account.proofs.Lists.{filter_seen, filter_agrees, filter_agrees_each, filter_joined, map_joined, map_twice, map_agrees, each_mapped, each_shown}
-use Rattle.napt_account.proofs.Moves.{Differ, AllDiffer, differ_kept, differ_act, of_moves}
+use Rattle.napt_account.proofs.{Moves.{Differ, AllDiffer, differ_kept, differ_act, of_moves}, Plain.{logged_by, logged}}
 
 abbrev pub living : Timers → ℕ → List Binding → List Binding
 living timers now list = filter (is_live timers now) list
 
--- a binding's row and its end, and those that an entry tells
+-- The row and the end of a binding, and those in an entry.
 abbrev pub hold_of : Timers → Binding → Row × Option ℕ
 hold_of timers binding = (row binding, end_of timers binding)
 
@@ -27,14 +27,14 @@ binding_of entry = entry.binding
 abbrev pub is_open : ℕ → Entry → Bool
 is_open now entry = is_before now entry.end
 
--- the rows of the entries that stand at a time
+-- The rows of the entries that are open at a time.
 abbrev pub named : ℕ → List Entry → List Row
 named now entries = map binding_of (filter (stands_at now) entries)
 
 abbrev Holds : Timers → ℕ → List Binding → List Entry → Type 0
 Holds timers now live entries = map hold (filter (is_open now) entries) ≡ map (hold_of timers) live
 
--- what entries are after the legs up to a time, that left the list
+-- The entries after the legs up to a time that led to the list.
 pub record Tells (timers : Timers) (now : ℕ) (list : List Binding) (entries : List Entry) : Type 0 where
   pub made : Each (λ e. e.made ≤ now) entries
   pub holds : Holds timers now (living timers now list) entries
@@ -99,7 +99,7 @@ module _ (way : Way) (now : ℕ) (r : Row) (end : Option ℕ) (opened : is_befor
   pub changed_made : (e : Entry) → (changed e).made ≡ e.made
   changed_made e = grind (arith, common_steps, counted_made)
 
-  -- it has ended by an earlier time as before
+  -- Whether the entry has ended by an earlier time does not change.
   pub changed_before : (past : ℕ) → past ≤ now → (e : Entry) → is_before past (changed e).end ≡ is_before past e.end
   changed_before past le e = grind (arith, common_steps, nat_tests, counted_end, before_sooner, and_parts)
 
@@ -129,7 +129,7 @@ module _ (timers : Timers) (p : Binding → Bool) (f : Binding → Binding) (b :
   at_others [] h = refl
   at_others (x ∷ xs) h = grind (arith, common_steps, nat_tests, at_others xs h.1)
 
-  -- where the rows differ, a change of the end there is the change of the first that passes
+  -- If the rows differ, a change of the end there is the change of the first binding that passes.
   pub change_holds : (xs : List Binding) → AllDiffer (map row xs) → find p xs ≡ Some b →
       map at_b (map (hold_of timers) xs) ≡ map (hold_of timers) (change_first p f xs)
   change_holds [] h e = cc
@@ -183,7 +183,7 @@ module _ (ends : EndsAreFirst) (timers : Timers) (t : AreTimers timers) where
     differ = tells.differ;
   }
 
-  -- the rows of the entries that stand are those of the bindings that live
+  -- The rows of the open entries are those of the live bindings.
   pub named_now : (now : ℕ) (list : List Binding) (entries : List Entry) → Tells timers now list entries →
       named now entries ≡ map row (living timers now list)
   named_now now list entries tells = ap (map binding_of)
@@ -203,8 +203,8 @@ module _ (ends : EndsAreFirst) (rules : Rules) (t : AreTimers rules.timers) (add
   -- what entries are beside what lives
   abbrev Now : List Entry → Option BindingUse → List Binding → Type 0
   Now entries went left =
-      Each (λ e. e.made ≤ leg.now) (entries_after_leg rules.timers leg went entries)
-      × Holds rules.timers leg.now left (entries_after_leg rules.timers leg went entries)
+      Each (λ e. e.made ≤ leg.now) (logged_by rules.timers leg went entries)
+      × Holds rules.timers leg.now left (logged_by rules.timers leg went entries)
 
   new_open : (b : Binding) → IsFresh rules.timers leg.now b → is_before leg.now (end_of rules.timers b) ≡ true
   new_open b fresh = sym (ends rules.timers t leg.now b) ∙ fresh.live
@@ -214,7 +214,7 @@ module _ (ends : EndsAreFirst) (rules : Rules) (t : AreTimers rules.timers) (add
 
   pub tells_act : (entries : List Entry) → Tells rules.timers leg.now list entries →
       Tells rules.timers leg.now (act rules address leg list).list
-      (entries_after_leg rules.timers leg (act rules address leg list).through entries)
+      (logged_by rules.timers leg (act rules address leg list).through entries)
   tells_act entries tells =
       let holds : Holds rules.timers leg.now own entries =
       tells.holds ∙ sym (purge_holds rules.timers t leg.now list) in
@@ -260,13 +260,13 @@ module _ (ends : EndsAreFirst) (rules : Rules) (t : AreTimers rules.timers) (add
         differ = differ_act rules address leg list tells.differ;
       }
 
-  -- what was named before the leg's time
+  -- What was named before the leg's time does not change.
   pub past_act : (past : ℕ) → past < leg.now → (entries : List Entry) →
-      named past (entries_after_leg rules.timers leg (act rules address leg list).through entries) ≡ named past entries
+      named past (logged_by rules.timers leg (act rules address leg list).through entries) ≡ named past entries
   past_act past lt entries =
       let fresh : Each (IsFresh rules.timers leg.now) own = fresh_purged rules.timers leg.now list in
       of_moves rules t address leg list
-      (λ went left. named past (entries_after_leg rules.timers leg went entries) ≡ named past entries) refl
+      (λ went left. named past (logged_by rules.timers leg went entries) ≡ named past entries) refl
       (λ p f b found same keeps.
       let new : IsFresh rules.timers leg.now (f b) = keeps b (find_passes p (IsFresh rules.timers leg.now) own b fresh
       found).1 in
@@ -302,7 +302,7 @@ module _ (ends : EndsAreFirst) (rules : Rules) (t : AreTimers rules.timers) wher
   told_turn clock list (a ∷ acts) last new entries p tells =
       told_turn a.leg.now (act rules a.address a.leg list).list acts last new (logged rules.timers entries a) p.1
       (subst (λ (went : Option BindingUse). Tells rules.timers a.leg.now (act rules a.address a.leg list).list
-      (entries_after_leg rules.timers a.leg went entries)) (sym p.0.through)
+      (logged_by rules.timers a.leg went entries)) (sym p.0.through)
       (tells_act ends rules t a.address a.leg list entries
       (tells_later ends rules.timers t clock a.leg.now p.0.later list entries tells)))
 
@@ -314,5 +314,5 @@ module _ (ends : EndsAreFirst) (rules : Rules) (t : AreTimers rules.timers) wher
       let le : clock ≤ a.leg.now = p.0.later in
       past_turn past a.leg.now (omega arith) (act rules a.address a.leg list).list acts last new
       (logged rules.timers entries a) p.1
-      ∙ (ap (λ (went : Option BindingUse). named past (entries_after_leg rules.timers a.leg went entries)) p.0.through
+      ∙ (ap (λ (went : Option BindingUse). named past (logged_by rules.timers a.leg went entries)) p.0.through
       ∙ past_act ends rules t a.address a.leg list past (omega arith) entries)

@@ -1,5 +1,4 @@
--- A number goes to another inside endpoint only once its last binding had ended the hold before, in the words of the
--- log.
+-- A number goes to another inside endpoint only after the hold of its last binding, in terms of the log.
 use Rattle.std.proofs.lemmas.Grind.{common_steps}
 use Rattle.std.proofs.Common.{◌≡◌, ℕ, ◌≤◌, Bool, true, false, ◌&&◌, cond, List, [], ◌∷◌, ◌++◌, map, filter, find, Option, Some, Ok, inl, inr, refl, sym, ◌∙◌, ap, subst, arith, true≢false}
 use Rattle.std.{specs.List.fold, proofs.lemmas.{Bool.{and_parts, and_from}, Option.same_Some}}
@@ -12,9 +11,9 @@ use Rattle.napt_laws.proofs.{Accounts.{taken_accounted, out_keeps_accounts, in_k
 use Rattle.napt_laws.proofs.{StepsSound.{purge_stays_sound, out_stays_sound, in_stays_sound}, HeldNumbers.each_rows, Lists.each_weaker, Turns.{IsServed, InTurn, run_turn}}
 use Rattle.napt_laws.proofs.Endpoints.{protocol_is, same_itself, end_itself, end_is}
 use Rattle.napt_binding.specs.Ends.{end_of, is_before, EndsAreFirst}
-use Rattle.napt_account.specs.{declared.log.Entry.Entry, Log.{first_entry, shares, counted, entry_through, entries_after_leg, logged, log_of}}
+use Rattle.napt_account.specs.{declared.log.Entry.Entry, Log.{first_entry, shares, counted, entry_through, unnumbered, log_of}}
 use Rattle.napt_account.specs.HeldNumbers.{AreEntriesApart, EntriesStayApart, HeldNumbersHaveOneHolder}
-use Rattle.napt_account.proofs.{Moves.of_moves, Entries.{counted_end, counted_made, counted_binding}}
+use Rattle.napt_account.proofs.{Moves.of_moves, Plain.{logged_by, logged, plain_log}, Entries.{counted_end, counted_made, counted_binding}}
 
 -- AN ENTRY AND A HOLDER
 
@@ -35,7 +34,7 @@ alike_push timers [] (k ∷ hs) e h a l = absurd a
 alike_push timers (d ∷ es) [] e h a l = absurd a
 alike_push timers (d ∷ es) (k ∷ hs) e h a l = (a.0, alike_push timers es hs e h a.1 l)
 
--- a live holder of the row's external endpoint is of its inside endpoint
+-- A live holder of the row's external endpoint has the row's inside endpoint.
 abbrev IsOne : Timers → ℕ → Row → Holder → Type 0
 IsOne timers now r h = is_live timers now h.binding ≡ true → r.protocol ≡ (row h.binding).protocol →
     r.external ≡ (row h.binding).external → r.inside ≡ (row h.binding).inside
@@ -50,7 +49,7 @@ module _ (ends : EndsAreFirst) (timers : Timers) (t : AreTimers timers) (now : �
   abbrev change : Entry → Entry
   change = counted way now (end_of timers went)
 
-  -- both change, or neither
+  -- Both change, or neither does.
   like_through : (e : Entry) (h : Holder) → IsLike timers e h → IsOne timers now (row went) h →
       IsLike timers (entry_through now (row went) change e) (holder_after timers now went h)
   like_through e h l one =
@@ -118,7 +117,7 @@ module _ (timers : Timers) (h : Holder) (r : Row) where
   abbrev IsRow : Binding → Type 0
   IsRow x = row x ≡ r
 
-  -- what covers the holder, and what has the row, are one if they have one external endpoint
+  -- A binding that covers the holder and one with the row are the same if they have one external endpoint.
   one_inside : (xs : List Binding) → AreBindingsApart (map row xs) → HasOne (HolderCoversBinding timers h) xs →
       HasOne IsRow xs →
       r.protocol ≡ (row h.binding).protocol → r.external ≡ (row h.binding).external →
@@ -138,7 +137,7 @@ module _ (timers : Timers) (h : Holder) (r : Row) where
       (ap (λ (r : Row). r.external) o ∙ (x ∙ sym is.ends.external)))
   one_inside (b ∷ xs) apart (inr c) (inr o) p x = one_inside xs apart.1 c o p x
 
--- what is found of what is seen is of the list
+-- An element that is found in the images of a list is in the list.
 one_found : (p q : Binding → Bool) (f : Binding → Binding) → ((x : Binding) → row (f x) ≡ row x) → (xs : List Binding)
     (b : Binding) → find p (map f (filter q xs)) ≡ Some b → HasOne (λ x. row x ≡ row b) xs
 one_found p q f rows [] b e = cc
@@ -168,7 +167,7 @@ module _ (ends : EndsAreFirst) (carry : PacketsCarryNumbers) (rules : Rules) (ke
   dead : (n m : ℕ) → n ≤ m → (b : Binding) → is_live timers n b ≡ false → is_live timers m b ≡ false
   dead n m le b e = grind (arith, common_steps, true≢false, lived)
 
-  -- a leg that changes nothing
+  -- A leg that does not change the bindings.
   later_one : (h : Holder) → IsAccounted timers (hold_ago timers clock) list h →
       IsAccounted timers (hold_ago timers leg.now) list h
   later_one h (inl d) =
@@ -222,7 +221,7 @@ module _ (ends : EndsAreFirst) (carry : PacketsCarryNumbers) (rules : Rules) (ke
       kept_goes (kind leg.packet) at (carry Inside was.0 leg.packet was.1)
   kept_by Incoming at read = kept_comes (kind leg.packet)
 
-  -- the holders that are live now are those that the list has
+  -- The holders that are live now are in the list.
   ones : (b : Binding) → HasOne (λ x. row x ≡ row b) all → (hs : List Holder) →
       Each (IsAccounted timers (hold_ago timers leg.now) all) hs → Each (IsOne timers leg.now (row b)) hs
   ones b there [] k = tt
@@ -237,11 +236,11 @@ module _ (ends : EndsAreFirst) (carry : PacketsCarryNumbers) (rules : Rules) (ke
   )
 
   alike_act : (entries : List Entry) → Alike timers entries holders →
-      Alike timers (entries_after_leg timers leg (act rules address leg list).through entries)
+      Alike timers (logged_by timers leg (act rules address leg list).through entries)
       (holders_after timers leg.now (act rules address leg list).through holders)
   alike_act entries alike =
       of_moves rules keeps.timers address leg list (λ went left.
-      Alike timers (entries_after_leg timers leg went entries) (holders_after timers leg.now went holders)) alike
+      Alike timers (logged_by timers leg went entries) (holders_after timers leg.now went holders)) alike
       (λ p f b found same fresh. alike_through ends timers keeps.timers leg.now leg.way (f b) entries holders alike
       (ones (f b) (subst (λ (r : Row). HasOne (λ x. row x ≡ r) all) (sym (same b))
       (one_found p (is_live timers leg.now) (with_live_flows timers leg.now) (λ x. refl) all b
@@ -303,17 +302,15 @@ held_turn ends carry rules keeps clock list (x ∷ acts) last new entries holder
     let kept = kept_act ends carry rules keeps x.address x.leg list clock p.0.later holders s a p.0.served in
     let after : List Holder = holders_after rules.timers x.leg.now acted.through holders in
     held_turn ends carry rules keeps x.leg.now acted.list acts last new (logged rules.timers entries x) after p.1 kept.0
-    kept.1 (subst (λ (went : Option BindingUse). Alike rules.timers
-    (entries_after_leg rules.timers x.leg went entries) after)
+    kept.1 (subst (λ (went : Option BindingUse). Alike rules.timers (logged_by rules.timers x.leg went entries) after)
     (sym p.0.through)
     (alike_act ends carry rules keeps x.address x.leg list clock p.0.later holders s a entries alike))
 
 pub held_numbers : EndsAreFirst → PacketsCarryNumbers → OpeningIsSound → HeldNumbersHaveOneHolder
-unfolding log_of
 held_numbers ends carry begins rules keeps inputs =
     let opened : List Binding = opening rules in
     let sound : IsSound (pair_of rules) opened = begins rules keeps in
-    held_turn ends carry rules keeps 0 opened (run rules inputs opened).acts (last_clock 0 inputs)
+    subst (EntriesStayApart rules.timers) (sym (plain_log rules keeps.timers inputs)) (held_turn ends carry rules keeps 0 opened (run rules inputs opened).acts (last_clock 0 inputs)
     (run rules inputs opened).list (map (first_entry rules.timers 0) opened)
     (map (λ b. record { made = 0; binding = b }) opened) (run_turn rules 0 0 inputs opened) sound
-    (accounts_begin (pair_of rules) rules.timers 0 opened sound) (alike_begun ends rules.timers keeps.timers opened)
+    (accounts_begin (pair_of rules) rules.timers 0 opened sound) (alike_begun ends rules.timers keeps.timers opened))

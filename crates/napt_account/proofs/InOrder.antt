@@ -1,14 +1,9 @@
 -- Lists in order of end: two with the same elements are the same.
 use Rattle.std.proofs.lemmas.{Grind.common_steps, Bool.Decides.nat_tests}
 use Rattle.std.proofs.Common.{◌≡◌, ◌≢◌, ℕ, zero, suc, ◌+◌, ◌⊎◌, inl, inr, Bool, true, false, ◌&&◌, ◌||◌, cond, List, [], ◌∷◌, ◌++◌, Option, Some, None, refl, sym, ◌∙◌, ap, subst, arith}
-use Rattle.std.{specs.{Prelude.{filter, not, nat_lt}, List.slice_get}, proofs.lemmas.Option.same_Some}
+use Rattle.std.specs.Prelude.{filter, not, nat_lt}
 use Rattle.napt_rules.specs.Prelude.{Each}
-use Rattle.napt_account.specs.declared.log.{Entry.Entry, LogEntry.LogEntry}
-use Rattle.napt_account.specs.LogParts.{numbered_from, is_sooner, ends_first, placed, in_order_of_end}
-
-abbrev pub Has : {X : Type 0} → List X → X → Type 0
-Has [] x = ⊥
-Has (y ∷ ys) x = (y ≡ x) ⊎ Has ys x
+use Rattle.napt_account.specs.{declared.log.LogEntry.LogEntry, OpenEntries.Has, LogParts.{is_sooner, ends_first, placed, in_order_of_end}}
 
 pub each_has : {X : Type 0} (P : X → Type 0) (xs : List X) (x : X) → Each P xs → Has xs x → P x
 each_has P [] x each h = absurd h
@@ -49,7 +44,7 @@ has_parts (y ∷ xs) ys x (inr h) = elim (has_parts xs ys x h) [ inl here ↦ in
 
 -- LISTS IN AN ORDER
 
--- it holds of each and all behind it
+-- The relation holds between each element and all after it.
 abbrev pub Along : {X : Type 0} → (X → X → Type 0) → List X → Type 0
 Along R [] = Unit {0}
 Along R (x ∷ xs) = Each (R x) xs × Along R xs
@@ -58,7 +53,7 @@ module _ {X : Type 0} (before : X → X → Bool) where
   abbrev pub InTurn : List X → Type 0
   InTurn = Along (λ x y. before x y ≡ true)
 
-  -- two with the same elements are the same
+  -- Two such lists with the same elements are the same.
   pub same_turn : ((x y : X) → before x y ≡ true → before y x ≡ true → ⊥) → (xs ys : List X) → InTurn xs → InTurn ys →
       ((x : X) → Has xs x → Has ys x) → ((x : X) → Has ys x → Has xs x) → xs ≡ ys
   same_turn one_way [] [] s t f g = refl
@@ -177,49 +172,12 @@ order_is (l ∷ xs) differ = placed_order l (in_order_of_end xs) (order_is xs di
     (has_each (λ y. l.number ≢ y.number) (in_order_of_end xs) (λ y there.
     each_has (λ z. l.number ≢ z.number) xs y differ.0 (order_has xs y there)))
 
--- a list in order with the elements of another is that one put in order
+-- A list in order with the elements of another one is that one put in order.
 pub is_order : (xs ys : List LogEntry) → InOrder xs → Differ ys → ((x : LogEntry) → Has xs x → Has ys x) →
     ((x : LogEntry) → Has ys x → Has xs x) → xs ≡ in_order_of_end ys
 is_order xs ys s differ f g = same_turn ends_first
     (λ x y. not_both x.entry.end y.entry.end x.number y.number) xs (in_order_of_end ys) s (order_is ys differ)
     (λ x h. has_order ys x (f x h)) (λ x h. g x (order_has ys x h))
-
--- NUMBERED ENTRIES
-
-pub has_number : (n : ℕ) (es : List Entry) (i : ℕ) (e : Entry) → slice_get es i ≡ Some e → (m : ℕ) → m ≡ n + i →
-    Has (numbered_from n es) (record { number = m; entry = e })
-has_number n [] i e at m is = cc
-has_number n (x ∷ es) zero e at m is = grind (arith, common_steps, nat_tests, same_Some)
-has_number n (x ∷ es) (suc i) e at m is = inr (has_number (n + 1) es i e at m (omega arith))
-
--- the place of a number from another on
-pub record IsNumbered (n : ℕ) (es : List Entry) (l : LogEntry) : Type 0 where
-  pub place : ℕ
-  pub is : l.number ≡ n + place
-  pub there : slice_get es place ≡ Some l.entry
-
-pub number_has : (n : ℕ) (es : List Entry) (l : LogEntry) → Has (numbered_from n es) l → IsNumbered n es l
-number_has n [] l h = absurd h
-number_has n (x ∷ es) l (inl is) = record {
-  place = 0;
-  is = (let same : n ≡ l.number = ap (λ (y : LogEntry). y.number) is in omega arith);
-  there = ap (λ (y : LogEntry). Some y.entry) is;
-}
-number_has n (x ∷ es) l (inr h) =
-    let rest = number_has (n + 1) es l h in
-    record {
-      place = suc rest.place;
-      is = (let next = rest.is in omega (arith, next));
-      there = rest.there;
-    }
-
-numbers_differ : (n : ℕ) (es : List Entry) → Differ (numbered_from n es)
-numbers_differ n [] = tt
-numbers_differ n (x ∷ es) = (
-  has_each (λ (y : LogEntry). n ≢ y.number) (numbered_from (n + 1) es) (λ y there.
-      let at = number_has (n + 1) es y there in λ same. let is = at.is in absurd (omega (arith, same, is))),
-  numbers_differ (n + 1) es,
-)
 
 pub differ_filter : (p : LogEntry → Bool) (xs : List LogEntry) → Differ xs → Differ (filter p xs)
 differ_filter p [] h = tt
@@ -231,6 +189,3 @@ differ_filter p (x ∷ xs) h = elim (p x) as (λ v. Differ (cond v (x ∷ filter
   )
   | false ↦ differ_filter p xs h.1
 ]
-
-pub numbered_differ : (p : LogEntry → Bool) (es : List Entry) → Differ (filter p (numbered_from 1 es))
-numbered_differ p es = differ_filter p (numbered_from 1 es) (numbers_differ 1 es)

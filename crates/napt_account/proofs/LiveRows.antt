@@ -1,4 +1,4 @@
--- The bindings of a state that live under a configuration: the redirects, and the others of the state.
+-- The bindings of a state that are live under a configuration: the redirects, and the others of the state.
 use Rattle.std.proofs.Common.{◌≡◌, ℕ, ◌+◌, ◌*◌, ◌<◌, Bool, true, false, not, cond, List, [], ◌∷◌, ◌++◌, length, get_or, take, drop, map, filter, refl, sym, ◌∙◌, ap, subst, arith}
 use Rattle.std.proofs.lemmas.List.{append_assoc, take_more, take-append-drop}
 use Rattle.napt_config.specs.{Rules.{Rules, RulesInvariant, pair_of}, declared.settings.{Redirect.Redirect, Timers.Timers}}
@@ -7,14 +7,14 @@ use Rattle.napt_laws.proofs.{Lists.{each_weaker, filter_map, filter_swap}, SeenE
 use Rattle.napt_table.specs.{declared.TimedRow.TimedRow, TimedRows.timed_row}
 use Rattle.napt_account.proofs.Lists.{filter_joined, map_joined}
 
-abbrev is_loose : Binding → Bool
+abbrev pub is_loose : Binding → Bool
 is_loose b = not b.row.fixed
 
--- those that are no redirects
+-- The bindings other than redirects.
 abbrev pub live_of : Timers → ℕ → List Binding → List Binding
 live_of timers now list = purge timers now (filter is_loose list)
 
-purge_joined : (timers : Timers) (now : ℕ) (xs ys : List Binding) → purge timers now (xs ++ ys)
+pub purge_joined : (timers : Timers) (now : ℕ) (xs ys : List Binding) → purge timers now (xs ++ ys)
     ≡ purge timers now xs ++ purge timers now ys
 purge_joined timers now xs ys = ap (map (with_live_flows timers now)) (filter_joined (is_live timers now) xs ys)
     ∙ map_joined (with_live_flows timers now) (filter (is_live timers now) xs) (filter (is_live timers now) ys)
@@ -45,7 +45,7 @@ module _ (rules : Rules) (state : State) where
       (λ b. refl) ∙ ap (map (with_live_flows timers ago)) (filter_swap is_loose (is_live timers ago) state.list))
       ∙ purge_purge timers ago now (ago_before timers now) (filter is_loose state.list)
 
-  -- the redirects, and then the first bindings of the state
+  -- The redirects, and then the first bindings of the state.
   abbrev pub live_to : ℕ → List TimedRow
   live_to k = map (timed_row timers) (opening rules) ++ map (timed_row timers) (live_of timers now (take k state.list))
 

@@ -7,11 +7,11 @@ use Rattle.napt_laws.proofs.{Passes.in_passed, Acts.of_act, Lists.{any_none, fin
 use Rattle.napt_laws.proofs.{FreshBindings.{IsFresh, sent_fresh, received_fresh}, HeldNumbers.each_rows, SeenElements.purge_taken, StepRows.{purge_keeps, out_keeps, in_keeps}}
 use Rattle.napt_laws.proofs.{StepsLive.{sent_seen, made_is_seen, made_is_fresh, received_seen}, Quotas.granted_is_chosen, StepsSound.chosen_free}
 
--- two rows of one protocol have not one external endpoint
+-- Two rows of one protocol do not have one external endpoint.
 abbrev pub Differ : Row → Row → Type 0
 Differ a b = a.protocol ≡ b.protocol → a.external ≡ b.external → ⊥
 
--- no two have
+-- No two rows have one.
 abbrev pub AllDiffer : List Row → Type 0
 AllDiffer [] = Unit {0}
 AllDiffer (r ∷ rs) = Each (Differ r) rs × AllDiffer rs
@@ -34,7 +34,7 @@ differ_push (x ∷ rs) r h g = (each_pushed (Differ x) rs r h.0 g.0, differ_push
 -- A NUMBER THAT IS GRANTED
 
 module _ (t : Binding → Bool) where
-  -- the others differ from the first that passes
+  -- The others differ from the first binding that passes.
   others_differ : (xs : List Binding) (b : Binding) → AllDiffer (map row xs) → find t xs ≡ Some b →
       Each (λ y. t y ≡ false → Differ (row y) (row b)) xs
   others_differ [] b h e = tt
@@ -61,7 +61,7 @@ module _ (t : Binding → Bool) where
         Each Q (map row (cond (not v) (x ∷ filter (λ y. not (t y)) xs) (filter (λ y. not (t y)) xs))))
         [ true ↦ λ e. each_other xs h.1 | false ↦ λ e. (h.0 e, each_other xs h.1) ] refl
 
-    -- of those that are seen, none of which passes
+    -- The images of bindings none of which passes.
     each_seen : (q : Binding → Bool) (f : Binding → Binding) → ((x : Binding) → t (f x) ≡ t x) →
         ((x : Binding) → row (f x) ≡ row x) → (xs : List Binding) → Each (λ y. t y ≡ false → Q (row y)) xs →
         find t (map f (filter q xs)) ≡ None → Each Q (map row (map f (filter q xs)))
@@ -104,7 +104,7 @@ module _ (granting : AssignmentRules) (address : ℕ) (packet : OutboundPacket) 
       (g ∙ (λ k. record { address = sym parts.address_is k; number = sym number k }))) list
       (others_differ (is_of_source address packet) list b differ is)
 
--- a leg leaves rows that differ so
+-- The rows after a leg still differ.
 pub differ_act : (rules : Rules) (address : ℕ) (leg : Leg) (list : List Binding) → AllDiffer (map row list) →
     AllDiffer (map row (act rules address leg list).list)
 differ_act rules address leg list differ =
@@ -122,7 +122,7 @@ differ_act rules address leg list differ =
 
 module _ (rules : Rules) (t : AreTimers rules.timers) (address : ℕ) (leg : Leg) (list : List Binding)
     (P : Option BindingUse → List Binding → Type 0) where
-  -- what lives
+  -- The live bindings.
   abbrev own : List Binding
   own = purge rules.timers leg.now list
 

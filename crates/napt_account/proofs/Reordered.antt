@@ -1,4 +1,4 @@
--- A list in the order that another has of what is seen of it.
+-- A list in the order of its images in another list.
 use Rattle.std.proofs.Common.{◌≡◌, ℕ, ◌<◌, Bool, true, not, List, [], ◌∷◌, ◌++◌, map, length, get_or, set, filter, refl, sym, ◌∙◌, ap, arith, append-nil}
 use Rattle.std.specs.List.{swap, Sorted.IsPermutation}
 use Rattle.std.proofs.lemmas.List.{length-map, map-set, get_or-map, Elements.filter-append}
@@ -16,7 +16,7 @@ module _ {X Y : Type 0} (f : X → Y) where
     get_or-map f (x ∷ xs) j x (f x) q,
   ) refl
 
-  -- what is seen of a list, in another order, is seen of the list in another order
+  -- If the images of a list are reordered, they are the images of the reordered list.
   seen_moved : (xs : List X) (ys : List Y) → IsPermutation (map f xs) ys →
       (zs : List X) × IsPermutation xs zs × (map f zs ≡ ys)
   seen_moved xs = IsPermutation-keeps (map f xs) (λ ys. (zs : List X) × IsPermutation xs zs × (map f zs ≡ ys))
@@ -35,7 +35,7 @@ module _ {X Y : Type 0} (f : X → Y) where
     none_pass [] = refl
     none_pass (x ∷ xs) = grind (arith, none_pass xs)
 
-    -- the same of those that pass a test
+    -- The same for the elements that pass a test.
     pub reordered : (xs : List X) (ys : List Y) → IsPermutation (map f (filter p xs)) ys →
         (zs : List X) × IsPermutation xs zs × (map f (filter p zs) ≡ ys)
     reordered xs ys s =

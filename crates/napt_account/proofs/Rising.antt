@@ -1,24 +1,13 @@
--- Entries that are kept, their numbers ascending.
+-- Entries whose numbers rise.
 use Rattle.std.proofs.lemmas.{Grind.common_steps, Bool.Decides.nat_tests}
-use Rattle.std.proofs.Common.{◌≡◌, ◌≢◌, inl, inr, ℕ, zero, suc, ◌+◌, ◌<◌, ◌≤◌, Bool, true, false, cond, List, [], ◌∷◌, length, get_or, drop, ◌&&◌, refl, sym, ◌∙◌, ap, subst, arith, add-one, drop-cons, eqb-true}
-use Rattle.std.{specs.Prelude.{filter, ◌==◌, nat_le, nat_lt}, proofs.lemmas.{Bool.{and_parts, and_from}, Option.slice_get_within}}
-use Rattle.std.specs.{Ordering.nat_cmp, List.Sorted.IsSortedByKey}
-use Rattle.napt_rules.specs.Prelude.{Each}
-use Rattle.napt_account.specs.{declared.log.{Entry.Entry, LogEntry.LogEntry}, ResumedLogRuns.{LogStateModel, entries_by, entry_by, filled, gone}, LogStates.SavedLogInvariant, LogParts.{is_open, numbered_entries, numbered_from}}
-use Rattle.napt_account.proofs.{GoingOn.{by_none, never, skipped}, InOrder.{Differ, Has, InTurn, same_turn, each_has, filter_has, has_each, number_has}, Sorted.sorted_turn}
-
--- from a number on
-abbrev pub Rises : ℕ → List LogEntry → Type 0
-Rises n [] = Unit {0}
-Rises n (l ∷ ls) = (n ≤ l.number) × Rises (l.number + 1) ls
-
--- the entry is open at a time, was made by then and is among so many
-abbrev pub IsIn : ℕ → ℕ → LogEntry → Type 0
-IsIn now many l = (l.number ≤ many) × (l.entry.made ≤ now) × (is_open now l ≡ true)
-
-abbrev pub AreIn : ℕ → ℕ → ℕ → List LogEntry → Type 0
-AreIn now many n [] = Unit {0}
-AreIn now many n (l ∷ ls) = (n ≤ l.number) × IsIn now many l × AreIn now many (l.number + 1) ls
+use Rattle.std.proofs.Common.{◌≡◌, ◌≢◌, inl, inr, ℕ, suc, ◌+◌, ◌<◌, ◌≤◌, Bool, true, false, cond, List, [], ◌∷◌, ◌++◌, map, filter, refl, sym, ◌∙◌, ap, subst, arith}
+use Rattle.std.specs.{Prelude.nat_lt, Ordering.nat_cmp, List.{fold, Sorted.IsSortedByKey}}
+use Rattle.napt_wire.specs.declared.Way.TheVariants.{Outgoing, Incoming}
+use Rattle.napt_rules.specs.Prelude.{LegAct, Each, Timers}
+use Rattle.napt_laws.proofs.Lists.{each_weaker}
+use Rattle.napt_sequential.specs.declared.passage.Passage.{Passage, TheVariants.{Nothing, Made, Out, In, Dropped}}
+use Rattle.napt_account.specs.{declared.log.{Entry.Entry, LogEntry.LogEntry}, Log.{LogModel, after_leg, after_record, made_by, numbered_from, use_entry}, OpenEntries.Has, LogParts.{IsNumbered, Rises}}
+use Rattle.napt_account.proofs.{GoingOn.numbered_leg, InOrder.{Differ, InTurn, same_turn, each_has, has_each}, Sorted.sorted_turn}
 
 rises_less : (m n : ℕ) → m ≤ n → (ls : List LogEntry) → Rises n ls → Rises m ls
 rises_less m n le [] h = tt
@@ -29,141 +18,73 @@ rises_above n [] h = tt
 rises_above n (l ∷ ls) h =
     (h.0, rises_above n ls (rises_less n (l.number + 1) (let first = h.0 in omega (arith, first)) ls h.1))
 
-pub rises_numbered : (now n : ℕ) (es : List Entry) → Rises n (filter (is_open now) (numbered_from n es))
-rises_numbered now n [] = tt
-rises_numbered now n (e ∷ es) =
-    let rest : List LogEntry = filter (is_open now) (numbered_from (n + 1) es) in
-    let later : Rises (n + 1) rest = rises_numbered now (n + 1) es in
-    elim (is_open now (record { number = n; entry = e })) as (λ v.
-    Rises n (cond v (record { number = n; entry = e } ∷ rest) rest))
-    [ true ↦ (omega arith, later) | false ↦ rises_less n (n + 1) (omega arith) rest later ]
+-- those of them that pass a test
+pub rises_filter : (p : LogEntry → Bool) (n : ℕ) (ls : List LogEntry) → Rises n ls → Rises n (filter p ls)
+rises_filter p n [] h = tt
+rises_filter p n (l ∷ ls) h = elim (p l) as (λ v. Rises n (cond v (l ∷ filter p ls) (filter p ls))) [
+  | true ↦ (h.0, rises_filter p (l.number + 1) ls h.1)
+  | false ↦ rises_less n (l.number + 1) (let first = h.0 in omega (arith, first)) (filter p ls)
+      (rises_filter p (l.number + 1) ls h.1)
+]
 
--- THEY ARE WHAT IS KEPT OF WHAT THEY FILL
+-- one more behind all
+pub rises_pushed : (n : ℕ) (ls : List LogEntry) (l : LogEntry) → Rises n ls →
+    Each (λ m. m.number + 1 ≤ l.number) ls → n ≤ l.number → Rises n (ls ++ l ∷ [])
+rises_pushed n [] l h behind first = (first, tt)
+rises_pushed n (m ∷ ls) l h behind first = (h.0, rises_pushed (m.number + 1) ls l h.1 behind.1 behind.0)
 
-none_open : (now n many : ℕ) → filter (is_open now) (numbered_from n (entries_by n many [])) ≡ []
-none_open now n zero = refl
-none_open now n (suc many) =
-    ap (λ v. cond v (record { number = n; entry = gone } ∷ filter (is_open now)
-    (numbered_from (n + 1) (entries_by (n + 1) many []))) (filter (is_open now)
-    (numbered_from (n + 1) (entries_by (n + 1) many [])))) (never now) ∙ none_open now (n + 1) many
-
-pub kept_rising : (now many total n : ℕ) (ls : List LogEntry) → AreIn now total n ls → n + many ≡ total + 1 →
-    filter (is_open now) (numbered_from n (entries_by n many ls)) ≡ ls
-kept_rising now many total n [] h e = none_open now n many
-kept_rising now zero total n (l ∷ ls) h e =
-    let first = h.0 in let last = h.1.0 in absurd (omega (arith, first, last, e))
-kept_rising now (suc many) total n (l ∷ ls) h e =
-    let kept : List LogEntry → List LogEntry = λ all. filter (is_open now)
-    (numbered_from (n + 1) (entries_by (n + 1) many all)) in
-    elim (l.number == n) as (λ v. (l.number == n) ≡ v → filter (is_open now)
-    (record { number = n; entry = cond v l.entry (entry_by n ls) } ∷ numbered_from (n + 1)
-    (entries_by (n + 1) many (l ∷ ls))) ≡ l ∷ ls) [
-      | true ↦ λ is.
-          let here : l.number ≡ n = eqb-true l.number n is in
-          let rest : kept (l ∷ ls) ≡ ls = ap (λ (es : List Entry). filter (is_open now) (numbered_from (n + 1) es))
-          (skipped l ls (n + 1) many (omega (arith, here)))
-          ∙ kept_rising now many total (n + 1) ls
-          (subst (λ (k : ℕ). AreIn now total (k + 1) ls) here h.2) (omega (arith, e)) in
-          ap (λ v. cond v (record { number = n; entry = l.entry } ∷ kept (l ∷ ls)) (kept (l ∷ ls))) h.1.2
-          ∙ (ap (λ (k : ℕ). record { number = k; entry = l.entry } ∷ kept (l ∷ ls)) (sym here)
-          ∙ ap (λ (all : List LogEntry). l ∷ all) rest)
-      | false ↦ λ isnt.
-          let above : n + 1 ≤ l.number = (let first = h.0 in grind (arith, nat_tests)) in
-          let none : entry_by n ls ≡ gone = by_none n ls (λ m has is.
-          let more = each_has (λ k. l.number + 1 ≤ k.number) ls m (above_of now total (l.number + 1) ls h.2) has in
-          omega (arith, more, is, above)) in
-          ap (λ (e : Entry). cond (is_open now (record { number = n; entry = e }))
-          (record { number = n; entry = e } ∷ kept (l ∷ ls)) (kept (l ∷ ls))) none
-          ∙ (ap (λ v. cond v (record { number = n; entry = gone } ∷ kept (l ∷ ls)) (kept (l ∷ ls))) (never now)
-          ∙ kept_rising now many total (n + 1) (l ∷ ls) (above, h.1, h.2) (omega (arith, e)))
-    ] refl
-  where
-    above_of : (now total n : ℕ) (ls : List LogEntry) → AreIn now total n ls → Each (λ l. n ≤ l.number) ls
-    above_of now total n [] h = tt
-    above_of now total n (l ∷ ls) h = (
-      h.0,
-      has_each (λ k. n ≤ k.number) ls (λ m has.
-          let more = each_has (λ k. l.number + 1 ≤ k.number) ls m (above_of now total (l.number + 1) ls h.2) has in
-          let first = h.0 in omega (arith, more, first)),
-    )
-
--- AND ONLY SUCH ARE
-
-all_in : (now many n : ℕ) (ls : List LogEntry) → Rises n ls → ((l : LogEntry) → Has ls l → IsIn now many l) →
-    AreIn now many n ls
-all_in now many n [] rises each = tt
-all_in now many n (l ∷ ls) rises each =
-    (rises.0, each l (inl refl), all_in now many (l.number + 1) ls rises.1 (λ m has. each m (inr has)))
-
-made_in : (now many n : ℕ) (ls : List LogEntry) → AreIn now many n ls → Each (λ l. l.entry.made ≤ now) ls
-made_in now many n [] h = tt
-made_in now many n (l ∷ ls) h = (h.1.1, made_in now many (l.number + 1) ls h.2)
-
-long_by : (n many : ℕ) (ls : List LogEntry) → length (entries_by n many ls) ≡ many
-long_by n zero ls = refl
-long_by n (suc many) ls = ap suc (long_by (n + 1) many ls)
-
-pub kept_are_in : (now : ℕ) (log : LogStateModel) → SavedLogInvariant now log → AreIn now log.made 1 log.living
-kept_are_in now log kept =
-    let same : filter (is_open now) (numbered_entries (filled log))
-    ≡ log.living = ap (λ (l : LogStateModel). l.living) kept.0 in
-    all_in now log.made 1 log.living (subst (Rises 1) same (rises_numbered now 1 (filled log))) (λ l has.
-    let parts = filter_has (is_open now) (numbered_entries (filled log)) l
-    (subst (λ (ls : List LogEntry). Has ls l) (sym same) has) in
-    let at = number_has 1 (filled log) l parts.0 in
-    let within = slice_get_within (filled log) at.place l.entry at.there in
-    let number = at.is in
-    let long = long_by 1 log.made log.living in (
-      omega (arith, within, number, long),
-      each_has (λ k. k.entry.made ≤ now) log.living l kept.1 has,
-      parts.1,
-    ))
-
-pub in_are_kept : (now : ℕ) (log : LogStateModel) → AreIn now log.made 1 log.living → SavedLogInvariant now log
-in_are_kept now log h = (
-  λ i. record {
-    made = long_by 1 log.made log.living i;
-    living = kept_rising now log.made log.made 1 log.living h (omega arith) i;
-  },
-  made_in now log.made 1 log.living h,
+-- changed, but not in number
+pub rises_mapped : (f : LogEntry → LogEntry) → ((l : LogEntry) → (f l).number ≡ l.number) → (n : ℕ)
+    (ls : List LogEntry) → Rises n ls → Rises n (map f ls)
+rises_mapped f same n [] h = tt
+rises_mapped f same n (l ∷ ls) h = (
+  subst (λ (k : ℕ). n ≤ k) (sym (same l)) h.0,
+  subst (λ (k : ℕ). Rises (k + 1) (map f ls)) (sym (same l)) (rises_mapped f same (l.number + 1) ls h.1),
 )
 
--- ONE MORE
+-- no two have one number
+pub rises_differ : (n : ℕ) (ls : List LogEntry) → Rises n ls → Differ ls
+rises_differ n [] h = tt
+rises_differ n (l ∷ ls) h = (
+  has_each (λ m. l.number ≢ m.number) ls (λ m has same.
+      let above = each_has (λ k. l.number + 1 ≤ k.number) ls m (rises_above (l.number + 1) ls h.1) has in
+      absurd (omega (arith, above, same))),
+  rises_differ (l.number + 1) ls h.1,
+)
 
-module _ (now before : ℕ) (log : LogStateModel) (many : ℕ) (made : many ≡ log.made) (all : List LogEntry)
-    (same : all ≡ log.living) (k : ℕ) (d : LogEntry) (lt : k < length all) where
-  abbrev l : LogEntry
-  l = get_or all k d
+pub same_number : (ls : List LogEntry) → Differ ls → (l m : LogEntry) → Has ls l → Has ls m →
+    l.number ≡ m.number → l ≡ m
+same_number [] differ l m h k same = absurd h
+same_number (x ∷ ls) differ l m (inl a) (inl b) same = sym a ∙ b
+same_number (x ∷ ls) differ l m (inl a) (inr b) same =
+    absurd (each_has (λ y. x.number ≢ y.number) ls m differ.0 b (ap (λ (y : LogEntry). y.number) a ∙ same))
+same_number (x ∷ ls) differ l m (inr a) (inl b) same =
+    absurd (each_has (λ y. x.number ≢ y.number) ls l differ.0 a (ap (λ (y : LogEntry). y.number) b ∙ sym same))
+same_number (x ∷ ls) differ l m (inr a) (inr b) same = same_number ls differ.1 l m a b same
 
-  -- those from it on, and those behind it
-  abbrev Here : Type 0
-  Here = AreIn now log.made (before + 1) (drop k log.living)
+-- A LEG LEAVES THEM RISING
 
-  abbrev Behind : Type 0
-  Behind = AreIn now log.made (l.number + 1) (drop (k + 1) log.living)
+pub rises_leg : (now : ℕ) (p : Passage) (log : LogModel) → IsNumbered log → Rises 1 log.entries →
+    Rises 1 (after_leg now p log).entries
+rises_leg now Nothing log numbered rises = rises
+rises_leg now (Made timed) log numbered rises =
+    rises_pushed 1 log.entries (record { number = log.made + 1; entry = made_by now timed }) rises
+    (each_weaker (λ n. n.number ≤ log.made) (λ n. n.number + 1 ≤ log.made + 1) (λ n le. omega arith) log.entries numbered)
+    (omega arith)
+rises_leg now (Out timed) log numbered rises = rises_mapped (use_entry Outgoing now timed) (λ l. refl) 1 log.entries rises
+rises_leg now (In timed) log numbered rises = rises_mapped (use_entry Incoming now timed) (λ l. refl) 1 log.entries rises
+rises_leg now (Dropped loss) log numbered rises = rises
 
-  split : drop k log.living ≡ l ∷ drop (k + 1) log.living
-  split = subst (λ (xs : List LogEntry). drop k xs ≡ l ∷ drop (k + 1) xs) same (rw (add-one, drop-cons all k d) refl)
+pub rises_all : (timers : Timers) (acts : List LegAct) (log : LogModel) → IsNumbered log → Rises 1 log.entries →
+    Rises 1 (fold (after_record timers) log acts).entries
+rises_all timers [] log numbered rises = rises
+rises_all timers (a ∷ acts) log numbered rises =
+    rises_all timers acts (after_record timers log a) (numbered_leg a.leg.now _ log numbered)
+    (rises_leg a.leg.now _ log numbered rises)
 
-  abbrev passes : Bool
-  passes = nat_lt before l.number && (nat_le l.number many && (nat_le l.entry.made now && is_open now l))
-
-  pub in_more : passes ≡ true → Behind → Here
-  in_more h rest = subst (AreIn now log.made (before + 1)) (sym split) (
-    grind (arith, common_steps, nat_tests, and_parts),
-    (
-      grind (arith, common_steps, nat_tests, and_parts),
-      grind (arith, common_steps, nat_tests, and_parts),
-      grind (arith, common_steps, nat_tests, and_parts),
-    ),
-    rest,
-  )
-
-  pub in_less : Here → (passes ≡ true) × Behind
-  in_less h =
-      let all : AreIn now log.made (before + 1) (l ∷ drop (k + 1) log.living) =
-      subst (AreIn now log.made (before + 1)) split h in
-      (grind (arith, common_steps, nat_tests, and_from), all.2)
+pub rises_from : (n : ℕ) (es : List Entry) → Rises n (numbered_from n es)
+rises_from n [] = tt
+rises_from n (e ∷ es) = (omega arith, rises_from (n + 1) es)
 
 -- SORTED, THEY RISE
 
@@ -179,9 +100,15 @@ rising_turn n (x ∷ xs) h = (
   rising_turn (x.number + 1) xs h.1,
 )
 
-pub sorted_rising : (xs zs : List LogEntry) → IsSortedByKey (λ l. l.number) nat_cmp xs → Differ xs → Rises 1 zs →
+-- two that rise and have the same elements are the same
+pub rises_same : (n : ℕ) (xs ys : List LogEntry) → Rises n xs → Rises n ys → ((l : LogEntry) → Has xs l → Has ys l) →
+    ((l : LogEntry) → Has ys l → Has xs l) → xs ≡ ys
+rises_same n xs ys rises other = same_turn before (λ x y h k. grind (arith, nat_tests)) xs ys (rising_turn n xs rises)
+    (rising_turn n ys other)
+
+pub sorted_rising : (n : ℕ) (xs zs : List LogEntry) → IsSortedByKey (λ l. l.number) nat_cmp xs → Differ xs → Rises n zs →
     ((l : LogEntry) → Has xs l → Has zs l) → ((l : LogEntry) → Has zs l → Has xs l) → xs ≡ zs
-sorted_rising xs zs sorted differ rises = same_turn before (λ x y h k. grind (arith, nat_tests)) xs zs
+sorted_rising n xs zs sorted differ rises = same_turn before (λ x y h k. grind (arith, nat_tests)) xs zs
     (sorted_turn (λ (l : LogEntry). l.number) nat_cmp before (λ x y. x.number ≢ y.number)
     (λ x y apart h. grind (arith, common_steps, nat_tests)) (λ x y z h k. grind (arith, nat_tests)) xs sorted differ)
-    (rising_turn 1 zs rises)
+    (rising_turn n zs rises)

@@ -1,28 +1,38 @@
--- What each input of a run did to the bindings, act by act, and which entries of the log are theirs.
-use Rattle.std.specs.{Prelude.{ℕ, ◌+◌, max, cond, length, List, [], ◌∷◌, map, Option, Some, None}, Option.option_or, List.fold}
-use Rattle.napt_rules.specs.Prelude.{Way, Outgoing, Incoming, Rules}
-use Rattle.napt_rules.specs.{Prelude.{BindingUse, Binding, opening, Arrival, row, LegAct, RunEffect, step}, declared.Leg.Leg}
-use Rattle.napt_account.specs.{declared.{log.Entry.Entry, account.{LogNote.LogNote, BindingTally.BindingTally}}, Log.{first_entry, logged, entry_place}}
-use Rattle.napt_account.specs.declared.account.LogNote.TheVariants as notes
+-- What an input did to the bindings that it used, by the log before it.
+use Rattle.std.specs.{Prelude.{ℕ, ◌+◌, cond, find, Option, Some, None}, Option.option_or}
+use Rattle.napt_wire.specs.declared.Way.{Way, TheVariants.{Outgoing, Incoming}}
+use Rattle.napt_rules.specs.declared.Row.{Row}
+use Rattle.napt_sequential.specs.declared.passage.{Passage.{Passage, TheVariants.{Made, Out, In}}, Trace.Trace}
+use Rattle.napt_account.specs.{declared.{log.{Entry.Entry, LogEntry.LogEntry}, binding_tally.{LogNote.LogNote, BindingTally.BindingTally}}, Log.{LogModel, after_leg, entry_is_of}}
+use Rattle.napt_account.specs.declared.binding_tally.LogNote.TheVariants as notes
 
--- none was used
+-- No binding was used.
 abbrev pub no_use : BindingTally
 no_use = record { note = notes.Nothing; out = None; into = None }
 
-abbrev pub note_of : BindingUse → LogNote
-note_of went = cond went.made notes.Made (cond went.binding.row.fixed notes.Redirect notes.Found)
+abbrev pub tally_used : Way → LogNote → ℕ → BindingTally
+tally_used Outgoing note number = record { note = note; out = Some number; into = None }
+tally_used Incoming note number = record { note = note; out = None; into = Some number }
 
-abbrev pub tally_used : Way → LogNote → Option ℕ → BindingTally
-tally_used Outgoing note place = record { note = note; out = place; into = None }
-tally_used Incoming note place = record { note = note; out = None; into = place }
+-- the open entry of a row
+abbrev pub open_of : ℕ → Row → LogModel → Option LogEntry
+open_of now wanted log = find (λ numbered. entry_is_of now wanted numbered.entry) log.entries
 
--- a leg, by the entries before it: the binding that it made has the next place
-abbrev pub use_by : List Entry → Leg → Option BindingUse → BindingTally
-use_by entries leg None = no_use
-use_by entries leg (Some went) = tally_used leg.way (note_of went)
-    (cond went.made (Some (length entries)) (entry_place leg.now (row went.binding) entries))
+abbrev pub noted : Entry → LogNote
+noted entry = cond entry.binding.fixed notes.Redirect notes.Found
 
--- both legs of an input
+-- a leg found it
+abbrev pub use_found : Way → Option LogEntry → BindingTally
+use_found way None = no_use
+use_found way (Some numbered) = tally_used way (noted numbered.entry) numbered.number
+
+abbrev pub leg_use : ℕ → Passage → LogModel → BindingTally
+leg_use now (Made timed) log = tally_used Outgoing notes.Made (log.made + 1)
+leg_use now (Out timed) log = use_found Outgoing (open_of now timed.row log)
+leg_use now (In timed) log = use_found Incoming (open_of now timed.row log)
+leg_use now _ log = no_use
+
+-- The notes of both legs of an input.
 abbrev pub first_note : LogNote → LogNote → LogNote
 first_note notes.Nothing second = second
 first_note first second = first
@@ -34,18 +44,6 @@ both_uses first second = record {
   into = option_or first.into second.into;
 }
 
-abbrev pub use_of : Rules → List Entry → List LegAct → BindingTally
-use_of rules entries [] = no_use
-use_of rules entries (a ∷ acts) =
-    both_uses (use_by entries a.leg a.through) (use_of rules (logged rules.timers entries a) acts)
-
-abbrev pub uses_from : Rules → ℕ → ℕ → List Arrival → List Binding → List Entry → List BindingTally
-uses_from rules number clock [] list entries = []
-uses_from rules number clock (input ∷ inputs) list entries =
-    let now : ℕ = max clock input.clock in
-    let course : RunEffect = step rules number now input list in
-    use_of rules entries course.acts
-    ∷ uses_from rules (number + 1) now inputs course.list (fold (logged rules.timers) entries course.acts)
-
-abbrev pub uses_of : Rules → List Arrival → List BindingTally
-uses_of rules inputs = uses_from rules 0 0 inputs (opening rules) (map (first_entry rules.timers 0) (opening rules))
+abbrev pub use_of : LogModel → Trace → BindingTally
+use_of log effects = both_uses (leg_use effects.now effects.first log)
+    (leg_use effects.now effects.second (after_leg effects.now effects.first log))

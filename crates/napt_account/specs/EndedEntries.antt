@@ -1,12 +1,12 @@
 -- An entry that has ended is final.
 use Rattle.std.specs.{Prelude.{◌≡◌, ℕ, max, false, List, ◌∷◌, ◌++◌, Some}, List.slice_get}
-use Rattle.napt_rules.specs.Prelude.{Arrival, last_clock, Rules}
-use Rattle.napt_binding.specs.Ends.{is_before}
-use Rattle.napt_account.specs.{declared.log.Entry.Entry, Log.log_of}
+use Rattle.napt_rules.specs.Prelude.{Arrival, last_clock, Rules, State}
+use Rattle.napt_account.specs.{declared.log.LogEntry.LogEntry, Log.{LogModel, log_on}, LogParts.is_open}
 
--- an entry whose end is not after the time of the next input is at its place in the log of each longer run
+-- An entry whose end is not after the time of the next input is at its index in the log of each longer run.
 abbrev pub EndedEntriesStay : Type 0
-EndedEntriesStay = (rules : Rules) (front : List Arrival) (next : Arrival) (rest : List Arrival) (place : ℕ)
-    (entry : Entry) → slice_get (log_of rules front).entries place ≡ Some entry →
-    is_before (max (last_clock 0 front) next.clock) entry.end ≡ false →
-    slice_get (log_of rules (front ++ next ∷ rest)).entries place ≡ Some entry
+EndedEntriesStay = (rules : Rules) (state : State) (log : LogModel) (front : List Arrival) (next : Arrival)
+    (rest : List Arrival) (place : ℕ) (numbered : LogEntry) →
+    slice_get (log_on rules state log front).entries place ≡ Some numbered →
+    is_open (max (last_clock state.clock front) next.clock) numbered ≡ false →
+    slice_get (log_on rules state log (front ++ next ∷ rest)).entries place ≡ Some numbered

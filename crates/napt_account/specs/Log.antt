@@ -1,20 +1,20 @@
 -- The log of a run: an entry for each binding that was ever made, redirects too, in the order in which they were made,
--- and the packets that got none.
+-- and the packets that got none. It is one fold over what the legs of the run did.
 --
 -- RFC 6888, section 4: it can be found out afterwards who had which external endpoint at a time. RFC 8158: that a host
 -- has its quota, and that a pool has no port left, are events of their own.
-use Rattle.std.specs.{Prelude.{ℕ, suc, ◌+◌, nat_le, Bool, true, false, ◌&&◌, cond, List, [], ◌∷◌, ◌++◌, map, flat_map, Option, Some, None}, List.fold}
-use Rattle.std.specs.Option.{option_map}
-use Rattle.napt_rules.specs.Prelude.{Protocol, Way, Outgoing, Incoming, Cause, OverQuota, NoPort, source, kind, Rules, Timers}
-use Rattle.napt_rules.specs.{Prelude.{BindingUse, Binding, same_protocol, same_endpoint, opening, Arrival, row, LegAct, run}, declared.{Row.Row, Leg.Leg, End.End}}
-use Rattle.napt_rules.specs.declared.End.TheVariants.{Dropped}
-use Rattle.napt_translate.specs.CarriedPackets.{packet_carried}
-use Rattle.napt_account.specs.declared.log.{Entry.Entry, Shortage.Shortage}
+use Rattle.std.specs.{Prelude.{ℕ, ◌+◌, nat_le, Bool, true, false, ◌&&◌, cond, length, List, [], ◌∷◌, ◌++◌, map, Option}, List.fold}
+use Rattle.napt_rules.specs.Prelude.{Way, Outgoing, Incoming, Cause, OverQuota, NoPort, Rules, Timers}
+use Rattle.napt_rules.specs.{Prelude.{Binding, same_protocol, same_endpoint, Arrival, row, LegAct, State, initial_state, effect_from, purge}, declared.Row.Row}
+use Rattle.napt_table.specs.declared.TimedRow.{TimedRow}
 use Rattle.napt_binding.specs.Ends.{end_of, is_before}
+use Rattle.napt_sequential.specs.declared.passage.{Passage.{Passage, TheVariants.{Made, Out, In, Dropped}}, Trace.Trace, DroppedPacket.DroppedPacket}
+use Rattle.napt_sequential.specs.Traces.{passage_of}
+use Rattle.napt_account.specs.declared.log.{Entry.Entry, LogEntry.LogEntry, Shortage.Shortage}
 
--- ENTRIES
+-- AN ENTRY
 
--- the entry of a binding that is made at a time and has this end, before a packet went through it
+-- that of a binding which is made at a time and has this end, before a packet went through it
 abbrev pub unused_entry : Row → ℕ → Option ℕ → Entry
 unused_entry binding made end = record {
   binding = binding;
@@ -29,76 +29,111 @@ unused_entry binding made end = record {
 abbrev pub first_entry : Timers → ℕ → Binding → Entry
 first_entry timers made binding = unused_entry (row binding) made (end_of timers binding)
 
--- whether a row has the protocol and the external endpoint of another
-abbrev pub shares : Row → Row → Bool
-shares wanted other = same_protocol wanted.protocol other.protocol && same_endpoint wanted.external other.external
-
--- whether an entry has not ended by a time and has the external endpoint of a row
-abbrev pub entry_is_of : ℕ → Row → Entry → Bool
-entry_is_of now wanted entry = is_before now entry.end && shares wanted entry.binding
-
--- an entry after a packet went through its binding at a time, which has this end then: out, and in
+-- after a packet went through its binding at a time, which has this end then: out, and in
 abbrev pub counted : Way → ℕ → Option ℕ → Entry → Entry
 counted Outgoing now end entry = record entry { end = end; sent = entry.sent + 1; last = now; last_sent = now }
 counted Incoming now end entry = record entry { end = end; received = entry.received + 1; last = now }
 
--- the place, from 0, of the open entry of a row
-abbrev pub entry_place : ℕ → Row → List Entry → Option ℕ
-entry_place now wanted [] = None
-entry_place now wanted (entry ∷ entries) =
-    cond (entry_is_of now wanted entry) (Some 0) (option_map suc (entry_place now wanted entries))
+-- that of a binding which a packet makes, and goes out through
+abbrev pub made_by : ℕ → TimedRow → Entry
+made_by now timed = counted Outgoing now timed.end (unused_entry timed.row now timed.end)
 
--- the open entry of a binding changes
+-- whether a row has the protocol and the external endpoint of another
+abbrev pub shares : Row → Row → Bool
+shares wanted other = same_protocol wanted.protocol other.protocol && same_endpoint wanted.external other.external
+
+-- Whether an entry has not ended by a time and has the external endpoint of a row.
+abbrev pub entry_is_of : ℕ → Row → Entry → Bool
+entry_is_of now wanted entry = is_before now entry.end && shares wanted entry.binding
+
+-- the open entry of a row changes
 abbrev pub entry_through : ℕ → Row → (Entry → Entry) → Entry → Entry
 entry_through now wanted change entry = cond (entry_is_of now wanted entry) (change entry) entry
 
--- the entries after a leg: the binding that it made gets one, and that of the binding that it found changes
-abbrev pub entries_after_leg : Timers → Leg → Option BindingUse → List Entry → List Entry
-entries_after_leg timers leg None entries = entries
-entries_after_leg timers leg (Some went) entries =
-    let change : Entry → Entry = counted leg.way leg.now (end_of timers went.binding) in
-    cond went.made (entries ++ change (first_entry timers leg.now went.binding) ∷ [])
-    (map (entry_through leg.now (row went.binding) change) entries)
+-- A LOG
 
-abbrev pub logged : Timers → List Entry → LegAct → List Entry
-logged timers entries a = entries_after_leg timers a.leg a.through entries
+pub record LogModel : Type 0 where
+  -- how many entries were made so far
+  pub made : ℕ
+  -- entries with their numbers, in the order of making: of a whole run all; of one that goes on from a state also
+  -- those that had not ended there
+  pub entries : List LogEntry
+  -- the packets that got no binding, in their order
+  pub shortages : List Shortage
 
--- the redirects are there before the first act
-abbrev pub log_entries : Rules → List LegAct → List Entry
-log_entries rules acts = fold (logged rules.timers) (map (first_entry rules.timers 0) (opening rules)) acts
+-- its entries, without their numbers
+abbrev pub unnumbered : LogModel → List Entry
+unnumbered log = map (λ numbered. numbered.entry) log.entries
 
--- SHORTAGES
+-- one entry more, with the next number
+abbrev pub with_entry : Entry → LogModel → LogModel
+with_entry entry log = record log {
+  made = log.made + 1;
+  entries = log.entries ++ record { number = log.made + 1; entry = entry } ∷ [];
+}
+
+-- a packet went through a binding
+abbrev pub use_entry : Way → ℕ → TimedRow → LogEntry → LogEntry
+use_entry way now timed numbered =
+    record numbered { entry = entry_through now timed.row (counted way now timed.end) numbered.entry }
+
+abbrev pub with_use : Way → ℕ → TimedRow → LogModel → LogModel
+with_use way now timed log = record log { entries = map (use_entry way now timed) log.entries }
 
 abbrev pub is_shortage : Cause → Bool
 is_shortage OverQuota = true
 is_shortage NoPort = true
 is_shortage _ = false
 
-abbrev pub shortage_by : Leg → Option Protocol → Cause → List Shortage
-shortage_by leg None cause = []
-shortage_by leg (Some protocol) cause = cond (is_shortage cause)
-    (record { at = leg.now; cause = cause; protocol = protocol; host = (source leg.packet).address } ∷ []) []
+-- a packet was dropped
+abbrev pub shortages_of : ℕ → DroppedPacket → List Shortage
+shortages_of now loss = cond (is_shortage loss.cause)
+    (record { at = now; cause = loss.cause; protocol = loss.protocol; host = loss.host } ∷ []) []
 
-abbrev pub shortage_at : Leg → End → List Shortage
-shortage_at leg (Dropped cause) = shortage_by leg (packet_carried (kind leg.packet)) cause
-shortage_at leg _ = []
+-- by a leg, and by the legs of an input
+abbrev pub shortages_by : ℕ → Passage → List Shortage
+shortages_by now (Dropped loss) = shortages_of now loss
+shortages_by now _ = []
 
-abbrev pub shortages : List LegAct → List Shortage
-shortages acts = flat_map (λ a. shortage_at a.leg a.end) acts
+abbrev pub shortages_in : Trace → List Shortage
+shortages_in effects = shortages_by effects.now effects.first ++ shortages_by effects.now effects.second
 
--- THE LOG
+-- THE FOLD: the log after a leg at a time, after the legs of an input, and after those of a run
 
-pub record Logged : Type 0 where
-  -- one for each binding that was ever made, in the order in which they were made
-  pub entries : List Entry
-  -- one for each packet that got no binding, in their order
-  pub shortages : List Shortage
+abbrev pub after_leg : ℕ → Passage → LogModel → LogModel
+after_leg now (Made timed) log = with_entry (made_by now timed) log
+after_leg now (Out timed) log = with_use Outgoing now timed log
+after_leg now (In timed) log = with_use Incoming now timed log
+after_leg now (Dropped loss) log = record log { shortages = log.shortages ++ shortages_of now loss }
+after_leg now _ log = log
 
-unfoldable pub log_of : Rules → List Arrival → Logged
-log_of rules inputs =
-    let acts : List LegAct = (run rules inputs (opening rules)).acts in
-    record { entries = log_entries rules acts; shortages = shortages acts }
+abbrev pub after_input : LogModel → Trace → LogModel
+after_input log effects = after_leg effects.now effects.second (after_leg effects.now effects.first log)
 
--- whether the binding of an entry was made by a time and has not ended by then
+abbrev pub after_record : Timers → LogModel → LegAct → LogModel
+after_record timers log a = after_leg a.leg.now (passage_of timers a) log
+
+-- of a run from a state, whose log is this there
+unfoldable pub log_on : Rules → State → LogModel → List Arrival → LogModel
+log_on rules state log inputs = fold (after_record rules.timers) log (effect_from rules state inputs).acts
+
+-- WHERE IT BEGINS
+
+-- entries with numbers from one on
+abbrev pub numbered_from : ℕ → List Entry → List LogEntry
+numbered_from number [] = []
+numbered_from number (entry ∷ entries) = record { number = number; entry = entry } ∷ numbered_from (number + 1) entries
+
+-- behind so many, one for each binding that lives in a state, made at its clock
+abbrev pub begun_behind : ℕ → Rules → State → LogModel
+begun_behind before rules state =
+    let entries : List Entry = map (first_entry rules.timers state.clock) (purge rules.timers state.clock state.list) in
+    record { made = before + length entries; entries = numbered_from (before + 1) entries; shortages = [] }
+
+-- of a run that begins anew, with the redirects
+abbrev pub log_of : Rules → List Arrival → LogModel
+log_of rules inputs = log_on rules (initial_state rules) (begun_behind 0 rules (initial_state rules)) inputs
+
+-- Whether the binding of an entry was made by a time and has not ended by then.
 abbrev pub stands_at : ℕ → Entry → Bool
 stands_at now entry = nat_le entry.made now && is_before now entry.end

@@ -1,65 +1,71 @@
--- What the log tells with each input, as the run goes on, and which bindings it has left at the end.
-use Rattle.std.specs.Prelude.{ℕ, ◌+◌, max, nat_lt, Bool, true, false, not, ◌&&◌, ◌||◌, cond, length, List, [], ◌∷◌, ◌++◌, drop, filter, Option, Some, None}
-use Rattle.napt_rules.specs.Prelude.{Arrival, last_clock, Rules}
+-- What the log tells with each input as the run goes on, and which entries it has left.
+use Rattle.std.specs.Prelude.{◌≤◌, ℕ, ◌+◌, nat_lt, Bool, true, false, not, ◌&&◌, ◌||◌, cond, length, List, [], ◌∷◌, drop, filter, Option, Some, None}
+use Rattle.napt_rules.specs.Prelude.{Each}
 use Rattle.napt_binding.specs.Ends.{is_before}
-use Rattle.napt_account.specs.{declared.log.{Entry.Entry, LogEntry.LogEntry, Shortage.Shortage}, Log.{Logged, log_of}}
+use Rattle.napt_account.specs.{declared.log.{LogEntry.LogEntry, Shortage.Shortage}, Log.LogModel}
 
--- entries with their numbers, in the order of making: from a number on, and from 1 on
-abbrev pub numbered_from : ℕ → List Entry → List LogEntry
-numbered_from number [] = []
-numbered_from number (entry ∷ entries) = record { number = number; entry = entry } ∷ numbered_from (number + 1) entries
-
-abbrev pub numbered_entries : List Entry → List LogEntry
-numbered_entries entries = numbered_from 1 entries
-
--- whether it has not ended by a time
+-- Whether the entry has not ended by a time.
 abbrev pub is_open : ℕ → LogEntry → Bool
-is_open now listed = is_before now listed.entry.end
+is_open now numbered = is_before now numbered.entry.end
 
--- whether it ends after a time, and by another
+-- Whether the entry ends after a time, and by another.
 abbrev pub ends_within : ℕ → ℕ → LogEntry → Bool
-ends_within was now listed = is_open was listed && not (is_open now listed)
+ends_within was now numbered = is_open was numbered && not (is_open now numbered)
 
--- whether an end comes before another; that of a redirect never comes
+-- Whether an end is before another; that of a redirect never comes.
 abbrev pub is_sooner : Option ℕ → Option ℕ → Bool
 is_sooner (Some end) (Some other) = nat_lt end other
 is_sooner (Some end) None = true
 is_sooner None other = false
 
--- whether it stands before another: by end, equal ends by number
+-- Whether an entry is before another, by end and, at equal ends, by number.
 abbrev pub ends_first : LogEntry → LogEntry → Bool
-ends_first listed other = is_sooner listed.entry.end other.entry.end
-    || (not (is_sooner other.entry.end listed.entry.end) && nat_lt listed.number other.number)
+ends_first numbered other = is_sooner numbered.entry.end other.entry.end
+    || (not (is_sooner other.entry.end numbered.entry.end) && nat_lt numbered.number other.number)
 
--- put before the first that it stands before
+-- Inserts an entry before the first one that it is before.
 abbrev pub placed : LogEntry → List LogEntry → List LogEntry
-placed listed [] = listed ∷ []
-placed listed (other ∷ others) = cond (ends_first listed other) (listed ∷ other ∷ others) (other ∷ placed listed others)
+placed numbered [] = numbered ∷ []
+placed numbered (other ∷ others) =
+    cond (ends_first numbered other) (numbered ∷ other ∷ others) (other ∷ placed numbered others)
 
 abbrev pub in_order_of_end : List LogEntry → List LogEntry
 in_order_of_end [] = []
-in_order_of_end (listed ∷ more) = placed listed (in_order_of_end more)
+in_order_of_end (numbered ∷ more) = placed numbered (in_order_of_end more)
 
--- what the log tells with an input
+-- what is told with an input
 pub record LogDelta : Type 0 where
-  -- what ended since the clock of the input before
+  -- the entries that ended since the time of the input before
   pub ended : List LogEntry
-  -- what the log has more with it
+  -- those that it made
   pub made : List LogEntry
   pub refused : List Shortage
 
-unfoldable pub part_told : Rules → List Arrival → Arrival → LogDelta
-part_told rules before input =
-    let earlier : Logged = log_of rules before in
-    let later : Logged = log_of rules (before ++ input ∷ []) in
-    let was : ℕ = last_clock 0 before in
-    record {
-      ended = in_order_of_end (filter (ends_within was (max was input.clock)) (numbered_entries earlier.entries));
-      made = drop (length earlier.entries) (numbered_entries later.entries);
-      refused = drop (length earlier.shortages) later.shortages;
-    }
+-- whether it has a number behind so many
+abbrev pub is_behind : ℕ → LogEntry → Bool
+is_behind made numbered = nat_lt made numbered.number
 
--- what has not ended by the last clock
-unfoldable pub living_of : Rules → List Arrival → List LogEntry
-living_of rules inputs =
-    in_order_of_end (filter (is_open (last_clock 0 inputs)) (numbered_entries (log_of rules inputs).entries))
+-- by the log at a time, and the log after the input at a later one
+abbrev pub part_between : ℕ → ℕ → LogModel → LogModel → LogDelta
+part_between was now earlier later = record {
+  ended = in_order_of_end (filter (ends_within was now) earlier.entries);
+  made = filter (is_behind earlier.made) later.entries;
+  refused = drop (length earlier.shortages) later.shortages;
+}
+
+-- the entries that have not ended by a time, by end
+abbrev pub living_at : ℕ → LogModel → List LogEntry
+living_at now log = in_order_of_end (filter (is_open now) log.entries)
+
+-- what is kept of a log at a time: a log of its own, with which a run can go on
+abbrev pub kept_at : ℕ → LogModel → LogModel
+kept_at now log = record log { entries = filter (is_open now) log.entries; shortages = [] }
+
+-- its numbers are among those that were given
+abbrev pub IsNumbered : LogModel → Type 0
+IsNumbered log = Each (λ numbered. numbered.number ≤ log.made) log.entries
+
+-- numbers rise, from one on
+abbrev pub Rises : ℕ → List LogEntry → Type 0
+Rises number [] = Unit {0}
+Rises number (numbered ∷ more) = (number ≤ numbered.number) × Rises (numbered.number + 1) more

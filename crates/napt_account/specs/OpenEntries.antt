@@ -1,7 +1,7 @@
 -- The entries that have not ended, as they are kept while a run goes on: found by their endpoints, and queued by the
 -- times at which they are looked at.
-use Rattle.std.specs.Prelude.{◌≡◌, ℕ, ◌+◌, ◌^◌, ◌<◌, ◌≤◌, ◌==◌, nat_le, Bool, true, false, ◌&&◌, cond, List, length, map, filter, Option, Some, None, unwrap_or}
-use Rattle.std.specs.{List.slice_get, Option.{option_and_then, option_map}, Ordering.{ordering_then, nat_cmp, bool_cmp}, declared.cmp.Ordering.Ordering}
+use Rattle.std.specs.Prelude.{◌≡◌, ◌⊎◌, ℕ, ◌+◌, ◌^◌, ◌<◌, ◌≤◌, ◌==◌, nat_le, Bool, true, false, ◌&&◌, cond, List, [], ◌∷◌, length, map, filter, Option, Some, None, unwrap_or}
+use Rattle.std.specs.{List.IsDistinct, Option.{option_and_then, option_map}, Ordering.{ordering_then, nat_cmp, bool_cmp}, declared.cmp.Ordering.Ordering}
 use Rattle.std.specs.BTreeSet as sorted
 use Rattle.std.specs.HashMap as hash
 use denote.Enum.Bare.{sameb}
@@ -9,9 +9,8 @@ use Rattle.napt_wire.specs.contracts.Protocol.{the_type}
 use Rattle.napt_wire.specs.contracts.ProtocolOrd.TheImpl as protocols
 use Rattle.napt_rules.specs.declared.Row.{Row}
 use Rattle.napt_binding.specs.Ends.{is_before}
-use Rattle.napt_sequential.specs.declared.passage.Passage.{Passage, TheVariants.{Out, In}}
-use Rattle.napt_account.specs.declared.{log.{Entry.Entry, LogEntry.LogEntry}, open_entries.{DueEntry.DueEntry, EndKey.EndKey, EntryKey.EntryKey, Open.Open}}
-use Rattle.napt_account.specs.{declared.open_entries.OpenEntries.OpenEntries, LogParts.is_open}
+use Rattle.napt_account.specs.declared.{log.LogEntry.LogEntry, open_entries.{DueEntry.DueEntry, EndKey.EndKey, EntryKey.EntryKey, Open.Open}}
+use Rattle.napt_account.specs.{declared.open_entries.OpenEntries.OpenEntries, Log.LogModel, LogParts.{IsNumbered, Rises, is_open}}
 
 -- KEYS
 
@@ -23,9 +22,9 @@ end_key_of None number = record { is_endless = true; end = 0; number = number }
 end_key_of (Some end) number = record { is_endless = false; end = end; number = number }
 
 abbrev pub end_key : LogEntry → EndKey
-end_key listed = end_key_of listed.entry.end listed.number
+end_key numbered = end_key_of numbered.entry.end numbered.number
 
--- as the keys of a map are compared
+-- The comparison of the keys of a map.
 abbrev pub external_eq : EntryKey → EntryKey → Bool
 external_eq a b = (a.address == b.address) && ((a.number == b.number) && sameb the_type a.protocol b.protocol)
 
@@ -46,8 +45,8 @@ abbrev pub open_at : OpenEntries → EntryKey → Option Open
 open_at all x = hash.get external_eq all.by_external x
 
 -- the entry of an endpoint, and when it is looked at next
-abbrev pub listed_at : OpenEntries → EntryKey → Option LogEntry
-listed_at all x = option_map (λ (o : Open). o.listed) (open_at all x)
+abbrev pub entry_at : OpenEntries → EntryKey → Option LogEntry
+entry_at all x = option_map (λ (o : Open). o.numbered) (open_at all x)
 
 abbrev pub due_at : OpenEntries → EntryKey → Option ℕ
 due_at all x = option_and_then (λ (o : Open). o.due) (open_at all x)
@@ -59,53 +58,48 @@ abbrev pub entry_is_at : Option ℕ → ℕ → Bool
 entry_is_at None time = false
 entry_is_at (Some at) time = at == time
 
--- all, in no particular order
+-- All entries, in no particular order.
 abbrev pub kept : OpenEntries → List LogEntry
-kept all = map (λ (o : Open). o.listed) (hash.values all.by_external)
+kept all = map (λ (o : Open). o.numbered) (hash.values all.by_external)
 
--- how many are to be looked at by a time
+-- The number of entries that are to be checked by a time.
 abbrev pub due_within : ℕ → OpenEntries → ℕ
 due_within now all = length (filter (λ (due : DueEntry). nat_le due.at now) all.queue.keys)
 
--- it is under its endpoint, and looked at no later than at its end
+-- The entry is under its endpoint, and checked no later than at its end.
 abbrev pub IsPlaced : EntryKey → Open → Type 0
-IsPlaced x o = (x ≡ entry_key o.listed.entry.binding)
-    × ((time : ℕ) → time < unwrap_or o.due (2 ^ 64) → is_open time o.listed ≡ true)
+IsPlaced x o = (x ≡ entry_key o.numbered.entry.binding)
+    × ((time : ℕ) → time < unwrap_or o.due (2 ^ 64) → is_open time o.numbered ≡ true)
 
--- each is in its place, and the queue has the time of each that has one, and nothing else
+-- Each entry is at its endpoint, and the queue has the time of each that has one, and nothing else.
 pub record IsIndexed (all : OpenEntries) : Type 0 where
   pub placed : (x : EntryKey) (o : Open) → open_at all x ≡ Some o → IsPlaced x o
   pub queued : (due : DueEntry) → is_queued all due ≡ entry_is_at (due_at all due.key) due.at
 
--- the same but for one endpoint, which the queue has at another time
+-- The same except for one endpoint, which the queue has at another time.
 pub record IsIndexedBut (key : EntryKey) (at : Option ℕ) (all : OpenEntries) : Type 0 where
   pub placed : (x : EntryKey) (o : Open) → open_at all x ≡ Some o → IsPlaced x o
   pub queued : (due : DueEntry) → is_queued all due
       ≡ entry_is_at (cond (external_eq key due.key) at (due_at all due.key)) due.at
 
--- it is one of these entries, with its number
-pub record EntryIsListed (entries : List Entry) (l : LogEntry) : Type 0 where
-  pub place : ℕ
-  pub number : l.number ≡ place + 1
-  pub there : slice_get entries place ≡ Some l.entry
+-- it is in the list
+abbrev pub Has : {X : Type 0} → List X → X → Type 0
+Has [] x = ⊥
+Has (y ∷ ys) x = (y ≡ x) ⊎ Has ys x
 
--- the entry at a place, with its number
-abbrev pub listed_as : ℕ → Entry → LogEntry
-listed_as place entry = record { number = place + 1; entry = entry }
+-- no two rows have one protocol and external endpoint
+abbrev pub AreKeyed : List Row → Type 0
+AreKeyed rows = IsDistinct (λ a b. external_eq (entry_key a) (entry_key b)) rows
 
--- of these entries it has those that have not ended by a time; none counts more than `most` packets either way
-pub record OpenEntriesShow (now most : ℕ) (entries : List Entry) (all : OpenEntries) : Type 0 where
+-- of this log it has the entries that have not ended by a time; none counts more than `most` packets either way
+pub record OpenEntriesShow (now most : ℕ) (log : LogModel) (all : OpenEntries) : Type 0 where
   pub indexed : IsIndexed all
-  pub made : all.made ≡ length entries
-  pub has : (l : LogEntry) → EntryIsListed entries l → is_open now l ≡ true →
-      listed_at all (entry_key l.entry.binding) ≡ Some l
-  pub there : (x : EntryKey) (l : LogEntry) → listed_at all x ≡ Some l → EntryIsListed entries l
-  pub unended : (x : EntryKey) (l : LogEntry) → listed_at all x ≡ Some l → is_open now l ≡ true
-  pub few : (x : EntryKey) (l : LogEntry) → listed_at all x ≡ Some l →
-      (l.entry.sent ≤ most) × (l.entry.received ≤ most)
-
--- the leg leaves its binding an end that is to come
-abbrev pub LeavesOpen : ℕ → Passage → Type 0
-LeavesOpen now (Out timed) = is_before now timed.end ≡ true
-LeavesOpen now (In timed) = is_before now timed.end ≡ true
-LeavesOpen now _ = Unit {0}
+  pub made : all.made ≡ log.made
+  pub numbered : IsNumbered log
+  pub rises : Rises 1 log.entries
+  pub has : (n : LogEntry) → Has log.entries n → is_open now n ≡ true →
+      entry_at all (entry_key n.entry.binding) ≡ Some n
+  pub there : (x : EntryKey) (n : LogEntry) → entry_at all x ≡ Some n → Has log.entries n
+  pub unended : (x : EntryKey) (n : LogEntry) → entry_at all x ≡ Some n → is_open now n ≡ true
+  pub few : (x : EntryKey) (n : LogEntry) → entry_at all x ≡ Some n →
+      (n.entry.sent ≤ most) × (n.entry.received ≤ most)

@@ -3,11 +3,11 @@ use Rattle.std.specs.Prelude.{ℕ, ◌==◌, Bool, true, ◌&&◌, Option, Some,
 use Rattle.napt_wire.specs.declared.Endpoint.{Endpoint}
 use Rattle.napt_account.specs.declared.question.Party.{Party}
 
--- no number means any
+-- Without a number, every number counts.
 abbrev pub is_party_number : Option ℕ → ℕ → Bool
 is_party_number None number = true
 is_party_number (Some wanted) number = wanted == number
 
--- whether an endpoint is the one asked about, or one of the address asked about
+-- Whether an endpoint is the requested one, or one of the requested address.
 abbrev pub is_meant : Party → Endpoint → Bool
 is_meant party endpoint = (endpoint.address == party.address) && is_party_number party.number endpoint.number

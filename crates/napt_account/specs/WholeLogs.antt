@@ -1,37 +1,34 @@
--- What is told with the inputs of a run, and what it has left, is its log.
-use Rattle.std.specs.{Prelude.{◌≡◌, ℕ, List, [], ◌∷◌, ◌++◌, map}, List.Sorted.IsPermutation}
+-- The parts that are told with the inputs of a run, and what it has left, are its log.
+use Rattle.std.specs.{Prelude.{◌≡◌, ℕ, true, List, [], ◌∷◌, ◌++◌, map}, List.Sorted.IsPermutation}
 use Rattle.napt_config.specs.Rules.{Rules, RulesInvariant}
-use Rattle.napt_rules.specs.{Prelude.Arrival, declared.Row.Row}
-use Rattle.napt_account.specs.{declared.log.{LogEntry.LogEntry, Shortage.Shortage}, Log.log_of, LogParts.{numbered_entries, part_told, living_of}}
+use Rattle.napt_rules.specs.{Prelude.{Arrival, Each, State, last_clock}, declared.Row.Row}
+use Rattle.napt_account.specs.{declared.log.{LogEntry.LogEntry, Shortage.Shortage}, Log.{LogModel, log_on}, LogParts.{LogDelta, IsNumbered, is_open, living_at}, ResumedLogRuns.part_of}
 
--- what each of the inputs gives, by all before it, joined
+-- what each input's part has, parts_joined
 abbrev pub parts_joined : {X : Type 0} → (List Arrival → Arrival → List X) → List Arrival → List Arrival → List X
-parts_joined gives before [] = []
-parts_joined gives before (input ∷ inputs) = gives before input ++ parts_joined gives (before ++ input ∷ []) inputs
+parts_joined part before [] = []
+parts_joined part before (input ∷ inputs) = part before input ++ parts_joined part (before ++ input ∷ []) inputs
 
--- what is told with all inputs: of bindings that were made, of those that ended, and of refused packets
-abbrev pub all_made : Rules → List Arrival → List LogEntry
-all_made rules inputs = parts_joined (λ before input. (part_told rules before input).made) [] inputs
+abbrev pub all_parts : {X : Type 0} → (LogDelta → List X) → Rules → State → LogModel → List Arrival → List X
+all_parts of_part rules state log inputs =
+    parts_joined (λ before input. of_part (part_of rules state log before input)) [] inputs
 
-abbrev pub all_ended : Rules → List Arrival → List LogEntry
-all_ended rules inputs = parts_joined (λ before input. (part_told rules before input).ended) [] inputs
-
-abbrev pub all_refused : Rules → List Arrival → List Shortage
-all_refused rules inputs = parts_joined (λ before input. (part_told rules before input).refused) [] inputs
-
--- what is final of an entry as soon as its binding is made: its number, its binding, and when it was made
+-- The part of an entry that is final when its binding is made: its number, its binding, and the time of making.
 abbrev pub origin : LogEntry → ℕ × (Row × ℕ)
-origin listed = (listed.number, (listed.entry.binding, listed.entry.made))
+origin numbered = (numbered.number, (numbered.entry.binding, numbered.entry.made))
 
--- of what is told with all inputs: the entries of ended bindings, with those that are left, are the entries of the log,
--- each once, with its number; the bindings that were made, behind the redirects, are those of the log, in its order;
--- and the refused packets are its shortages, in its order
-pub record EntryIsTold (rules : Rules) (inputs : List Arrival) : Type 0 where
-  pub entries : IsPermutation (all_ended rules inputs ++ living_of rules inputs)
-      (numbered_entries (log_of rules inputs).entries)
-  pub made : map origin (numbered_entries (log_of rules []).entries ++ all_made rules inputs)
-      ≡ map origin (numbered_entries (log_of rules inputs).entries)
-  pub refused : all_refused rules inputs ≡ (log_of rules inputs).shortages
+-- the entries that are told as ended, with those that are left, are the entries of the log, each once, with its number;
+-- those that are told as made, behind the first, are those of the log, in its order; and so are the refused packets
+pub record ArePartsOfLog (rules : Rules) (state : State) (log : LogModel) (inputs : List Arrival) : Type 0 where
+  pub entries : IsPermutation (all_parts (λ part. part.ended) rules state log inputs
+      ++ living_at (last_clock state.clock inputs) (log_on rules state log inputs))
+      (log_on rules state log inputs).entries
+  pub made : map origin (log.entries ++ all_parts (λ part. part.made) rules state log inputs)
+      ≡ map origin (log_on rules state log inputs).entries
+  pub refused : log.shortages ++ all_parts (λ part. part.refused) rules state log inputs
+      ≡ (log_on rules state log inputs).shortages
 
-abbrev pub ToldIsTheLog : Type 0
-ToldIsTheLog = (rules : Rules) → RulesInvariant rules → (inputs : List Arrival) → EntryIsTold rules inputs
+abbrev pub PartsAreTheLog : Type 0
+PartsAreTheLog = (rules : Rules) → RulesInvariant rules → (state : State) (log : LogModel) → IsNumbered log →
+    Each (λ numbered. is_open state.clock numbered ≡ true) log.entries → (inputs : List Arrival) →
+    ArePartsOfLog rules state log inputs

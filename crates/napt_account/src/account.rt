@@ -1,25 +1,154 @@
-//! What a run tells of a packet: what it did to the bindings.
+//! What a state keeps of a log: an account for each binding that has an entry.
 
-/// What a packet did to the binding that it used first.
+ghost use Rattle.std.specs.Prelude.{◌≡◌, ◌∷◌, [], Some, None, cond, nat_lt, IfOk, true};
+ghost use Rattle.napt_account.specs.LogStarts as starts;
+
+use crate::binding_end::dynamic_end;
+use crate::log::{Entry, LogEntry};
+use crate::open_entries::{EntryKey, external_key};
+use napt_config::Config;
+use napt_rules::State;
+use napt_table::Row;
+use std::alloc::{AllocError, Global};
+use std::collections::HashSet;
+use std::marker::Model;
+
+/// The greatest number of entries, and of packets of one entry, that a state may keep.
+const MOST_SAVED: u64 = 2_305_843_009_213_693_952;
+
+/// The account of a binding: what its entry of the log says in addition to its row and its end. Times are in ns.
 #[derive(Clone, Copy, Debug, PartialEq, Eq)]
-pub enum LogNote {
-    /// It used none: it was dropped before, is an error, or found none.
-    Nothing,
-    /// It made one.
-    Made,
-    /// It found one.
-    Found,
-    /// It found a redirect.
-    Redirect,
+pub struct Account {
+    /// The number of the entry, from 1.
+    pub number: u64,
+    /// When the binding was made; 0 for a redirect of the first configuration.
+    pub made: u64,
+    /// How many packets went out through it.
+    pub sent: u64,
+    /// How many packets came in through it.
+    pub received: u64,
+    /// When a packet last went through it, either way.
+    pub last: u64,
+    /// When a packet last went out through it.
+    pub last_sent: u64,
 }
 
-/// What a packet did to the bindings, and which entries of the log are theirs.
-#[derive(Clone, Copy, Debug, PartialEq, Eq)]
-pub struct BindingTally {
-    /// What it did to the binding that it used first.
-    pub note: LogNote,
-    /// The entry of the binding that it went out through.
-    pub out: Option<usize>,
-    /// That of the binding that it came in through; a hairpin has both.
-    pub into: Option<usize>,
+/// What a state keeps of a log. It stands beside a state, whose bindings it counts.
+#[derive(Drop)]
+pub struct SavedLogState {
+    /// How many entries the log has so far.
+    pub made: u64,
+    /// For each binding of the state, in its order, the account of its entry; `None` for a binding without an entry that
+    /// has not ended. Bindings past the last account have none.
+    pub accounts: Vec<Option<Account>>,
+}
+
+impl Model for SavedLogState {
+    ghost use Rattle.napt_account.specs.LogStarts.{SavedLogStateModel};
+
+    ghost Value = { SavedLogStateModel };
+
+    ghost view = { λ it. record { made = it.made; accounts = it.accounts.items } };
+}
+
+impl Account {
+    /// Returns the account of an entry.
+    pub fn from_entry(numbered: &LogEntry) -> Account
+        ensures { result ≡ starts.account_of_entry numbered.now }
+    {
+        Account {
+            number: numbered.number,
+            made: numbered.entry.made,
+            sent: numbered.entry.sent,
+            received: numbered.entry.received,
+            last: numbered.entry.last,
+            last_sent: numbered.entry.last_sent,
+        }
+    }
+
+    /// Returns the entry of a binding with this account and an end, in ns.
+    pub(crate) fn to_entry(self, binding: Row, end: Option<u128>) -> LogEntry
+        ensures { result ≡ starts.entry_by_account binding end self }
+    {
+        LogEntry {
+            number: self.number,
+            entry: Entry {
+                binding,
+                made: self.made,
+                end,
+                sent: self.sent,
+                received: self.received,
+                last: self.last,
+                last_sent: self.last_sent,
+            },
+        }
+    }
+
+    /// Returns whether its number is among so many, its binding was made by a time, in ns, and it counts few packets.
+    fn is_within(self, made: u64, clock: u64) -> bool
+        ensures { result ≡ starts.is_account made clock self }
+    {
+        (0 < self.number && self.number <= made)
+            && (self.made <= clock && (self.sent <= MOST_SAVED && self.received <= MOST_SAVED))
+    }
+}
+
+impl SavedLogState {
+    /// Returns what the state of a run without a log keeps.
+    pub fn none(alloc: Global) -> SavedLogState
+        ensures { result ≡ starts.no_saved_log }
+    {
+        SavedLogState {
+            made: 0,
+            accounts: Vec::new(alloc),
+        }
+    }
+
+    /// Returns whether a binding of a state that is no redirect lives under a configuration, and no binding has an account.
+    pub fn lacks_all(&self, config: &Config, state: &State) -> bool {
+        let (timers, now) = (config.timers(), u128::from(state.clock));
+        let mut lives = false;
+        for binding in &state.list {
+            lives = lives || !binding.row.fixed && now < dynamic_end(timers, binding);
+        }
+        lives && self.accounts.iter().all(|account| account.is_none())
+    }
+
+    /// Returns the account of the binding at a place of the state.
+    pub(crate) fn account(&self, place: usize) -> Option<Account>
+        ensures { result ≡ starts.account_in self.now.accounts place }
+    {
+        match self.accounts.get(place) {
+            Some(account) => *account,
+            None => None,
+        }
+    }
+
+    /// Returns whether a run with a log can begin with it at a state: it has at most 2^61 entries and packets, each number is
+    /// among those of the log, each binding was made by the clock, and no two accounts have one number or one external
+    /// endpoint. What a run leaves is so. Linear in the size of the state. Fails only if memory is refused.
+    pub fn is_valid(&self, alloc: Global, state: &State) -> Result<bool, AllocError>
+        ensures { IfOk result (λ is. is ≡ starts.is_saved_log_state state.now self.now) }
+    {
+        if self.made > MOST_SAVED {
+            return Ok(false);
+        }
+        let mut numbers: HashSet<u64> = HashSet::new(alloc);
+        let mut endpoints: HashSet<EntryKey> = HashSet::new(alloc);
+        for place in 0..state.list.len() {
+            let Some(account) = self.account(place) else {
+                continue;
+            };
+            let key = external_key(state.list[place].row);
+            if !account.is_within(self.made, state.clock)
+                || numbers.contains(&account.number)
+                || endpoints.contains(&key)
+            {
+                return Ok(false);
+            }
+            numbers.insert(account.number)?;
+            endpoints.insert(key)?;
+        }
+        Ok(true)
+    }
 }

@@ -1,24 +1,29 @@
-//! The log of a run as it goes on: what each packet did to the bindings, and how long each binding lived. It is proved to
-//! name whoever had an external endpoint.
+//! The log of a run in progress: what each packet did to the bindings, and how long each binding was live. It is proved
+//! to name whoever had an external endpoint.
 #![tactic(auto)]
 
 mod account;
+mod binding_end;
+mod binding_tally;
 mod legs;
 mod live_rows;
 mod log;
-mod log_state;
+mod log_builder;
+mod log_start;
+mod logged_run;
 mod open_entries;
+mod open_log;
 mod question;
-mod tracked_log;
-mod tracked_run;
-mod uses;
 
-pub use crate::account::{BindingTally, LogNote};
+pub use crate::account::{Account, SavedLogState};
+pub use crate::binding_tally::{BindingTally, LogNote};
 pub use crate::log::{
-    Entry, LogEntry, Shortage, ended_entries_stay, held_numbers_have_one_holder,
-    in_order_of_making, log_attributes, logs_go_on, redirected, what_is_told_is_the_log,
+    Entry, LogEntry, Shortage, effects_are_the_log, ended_entries_stay,
+    held_numbers_have_one_holder, in_order_of_making, log_attributes, logs_go_on,
+    parts_are_the_log, redirected,
 };
-pub use crate::log_state::SavedLogState;
+pub use crate::log_builder::{InputPart, LogBuilder};
+pub use crate::log_start::{LogFromState, started_logs_go_on};
+pub use crate::logged_run::{LogStep, LoggedRun, RunFromState};
+pub use crate::open_log::OpenLog;
 pub use crate::question::Party;
-pub use crate::tracked_log::{LogFromState, LogTrace, TrackedLog, traces_tell_the_log};
-pub use crate::tracked_run::{LogStep, RunFromState, TrackedRun};

@@ -1,4 +1,4 @@
-//! The bindings of a state that live under a configuration, as a log has them.
+//! The bindings of a state that are live under a configuration, as a log has them.
 
 ghost use Rattle.std.specs.Prelude.{◌≡◌, [], ◌∷◌, map, filter, not, true, false, IfOk, OnOk, option_to_list};
 ghost use Rattle.napt_rules.specs.Prelude.{TakesState, flows_share, is_live, opening, purge, with_redirects, with_live_flows};
@@ -12,8 +12,8 @@ use napt_rules::{State, StateBinding};
 use napt_table::TimedRow;
 use std::alloc::{AllocError, Global};
 
-/// The bindings that live at the clock of a state under a configuration: its redirects, and then those of the state that
-/// are no redirects.
+/// Returns the bindings that are live at the clock of a state under a configuration: its redirects, and then those of
+/// the state that are not redirects.
 pub(crate) fn live_rows(
     alloc: Global,
     config: &Config,
@@ -34,7 +34,7 @@ pub(crate) fn live_rows(
 }
 
 /// The redirects of a configuration.
-fn redirects(alloc: Global, config: &Config) -> Result<Vec<TimedRow>, AllocError>
+pub(crate) fn redirects(alloc: Global, config: &Config) -> Result<Vec<TimedRow>, AllocError>
     ensures all { IfOk result (λ made. made.items
         ≡ map (timed_row config.now.timers) (opening config.now)) }
     ensures kept { OnOk result (RulesInvariant config.now) }
@@ -49,7 +49,7 @@ fn redirects(alloc: Global, config: &Config) -> Result<Vec<TimedRow>, AllocError
     Ok(made)
 }
 
-/// A binding of a state, if it is no redirect and lives at a time, in ns.
+/// Returns a binding of a state, if it is not a redirect and is live at a time, in ns.
 fn live_row(
     alloc: Global,
     binding: &StateBinding,

@@ -2,9 +2,8 @@
 
 ghost use Rattle.std.specs.{Prelude.{◌≡◌, ◌+◌, ◌<◌, ◌^◌, List, map, IfOk}, List.Sorted.IsPermutation};
 ghost use Rattle.napt_config.specs.Rules.{pair_of};
-ghost use Rattle.napt_rules.specs.Prelude.{redirect_binding, row};
-ghost use Rattle.napt_account.specs.{Log.is_shortage, Attribution.{LogNamesTheHolders, LogListsTheLiving}, HeldNumbers.HeldNumbersHaveOneHolder, EndedEntries.EndedEntriesStay, WholeLogs.ToldIsTheLog, ResumedLogRuns.{LogsBegin, UsesBegin, LogsGoOn, SavedLogsGoOn, LogsAreOfTheirStates}};
-ghost use Rattle.napt_account.specs.{LogParts.numbered_entries, declared.log.Entry.Entry as Logged};
+ghost use Rattle.napt_rules.specs.Prelude.{Arrival, Rules, redirect_binding, row};
+ghost use Rattle.napt_account.specs.{Log.{is_shortage, log_of, unnumbered}, Attribution.{LogNamesTheHolders, LogListsTheLiving}, HeldNumbers.HeldNumbersHaveOneHolder, EndedEntries.EndedEntriesStay, WholeLogs.PartsAreTheLog, Effects.{EffectsAreTheLog, EffectsCome}, ResumedLogRuns.{LogsAreOfTheirStates, LogsGoOn, SavedLogsGoOn}};
 ghost use Rattle.napt_binding.specs.Ends.{EndsAreFirst, is_before};
 
 use napt_config::{Config, Redirect};
@@ -13,31 +12,30 @@ use napt_table::{Row, TimedRow, opening_is_sound};
 use napt_wire::{Cause, Endpoint, Protocol, Way, packets_carry_numbers};
 use std::alloc::{AllocError, Global};
 
-/// A binding of a run, from when it was made until it ended, with times in ns.
+/// A binding of a run, from its making until its end, with times in ns.
 #[derive(Clone, Copy, Debug, PartialEq, Eq)]
 pub struct Entry {
-    /// Its protocol and both its endpoints, and whether it is a redirect.
+    /// The protocol and both endpoints of the binding, and whether it is a redirect.
     pub binding: Row,
-    /// When it was made; 0 for a redirect, which exists before the first packet.
+    /// The time when the binding was made; 0 for a redirect, which exists before the first packet.
     pub made: u64,
-    /// The first time at which it is no longer live, if no packet comes after the last input; `None` for a redirect,
-    /// which stays live. It may be past the greatest time that 64 bits hold.
+    /// The first time at which the binding is no longer live, if no packet comes after the last input; `None` for a
+    /// redirect, which stays live. The time may not fit 64 bits.
     pub end: Option<u128>,
-    /// How many packets went out through it. An ICMP error changes no binding and is not counted.
+    /// The number of packets that went out through the binding. An ICMP error changes no binding and is not counted.
     pub sent: u64,
-    /// How many packets came in through it.
+    /// The number of packets that came in through the binding.
     pub received: u64,
-    /// When a packet last went through it, either way; 0 for a redirect that none has used.
+    /// The time when a packet last went through the binding, either way; 0 for a redirect that none has used.
     pub last: u64,
-    /// When a packet last went out through it; 0 for a redirect if none has.
+    /// The time when a packet last went out through the binding; 0 for a redirect if none has.
     pub last_sent: u64,
 }
 
 impl Entry {
-    ghost use Rattle.napt_account.specs.LogBook.{made_by};
-    ghost use Rattle.napt_account.specs.Log.{counted, unused_entry};
+    ghost use Rattle.napt_account.specs.Log.{counted, made_by, unused_entry};
 
-    /// The entry of a binding that is made at a time, in ns, before a packet went through it.
+    /// Returns the entry of a binding that is made at a time, in ns, before a packet goes through it.
     pub(crate) fn unused(timed: TimedRow, made: u64) -> Entry
         ensures { result ≡ unused_entry timed.row made timed.end }
     {
@@ -52,7 +50,7 @@ impl Entry {
         }
     }
 
-    /// The entry of a binding that a packet made at a time, in ns, and left through.
+    /// Returns the entry of a binding that a packet made at a time, in ns, and went out through.
     pub(crate) fn by_packet(now: u64, timed: TimedRow) -> Entry
         ensures { result ≡ made_by now timed }
     {
@@ -61,7 +59,7 @@ impl Entry {
         entry
     }
 
-    /// Counts a packet that went one way through the binding at a time, in ns, and left it this end.
+    /// Counts a packet that went one way through the binding at a time, in ns, after which the binding has this end.
     #[inline(always)]
     pub(crate) fn count(&mut self, way: Way, now: u64, end: Option<u128>)
         requires { (self.old.sent + 1 < 2 ^ 64) × (self.old.received + 1 < 2 ^ 64) }
@@ -79,7 +77,7 @@ impl Entry {
     }
 }
 
-/// The binding of a redirect of the configuration.
+/// Returns the binding of a redirect of the configuration.
 pub fn redirected(config: &Config, redirect: Redirect) -> Row
     ensures { result ≡ row (redirect_binding (pair_of config.now) redirect) }
 {
@@ -112,10 +110,10 @@ pub(crate) fn is_before(now: u64, end: Option<u128>) -> bool
     }
 }
 
-/// An entry of the log, with its number in it.
+/// An entry of the log, with its number.
 #[derive(Clone, Copy, Debug, PartialEq, Eq)]
 pub struct LogEntry {
-    /// From 1, in the order of making.
+    /// The number, from 1, in the order of making.
     pub number: u64,
     pub entry: Entry,
 }
@@ -127,11 +125,11 @@ pub(crate) fn is_shortage(cause: Cause) -> bool
     matches!(cause, Cause::OverQuota | Cause::NoPort)
 }
 
-/// An outgoing packet for which no binding could be made: its host has its quota, or each number of
-/// its class is taken (RFC 8158: quota exceeded, ports exhausted).
+/// An outgoing packet for which no binding could be made: its host has reached its quota, or each number of its class
+/// is in use (RFC 8158: quota exceeded, ports exhausted).
 #[derive(Clone, Copy, Debug, PartialEq, Eq)]
 pub struct Shortage {
-    /// When it came, in ns.
+    /// The time when the packet arrived, in ns.
     pub at: u64,
     /// `OverQuota` or `NoPort`.
     pub cause: Cause,
@@ -140,22 +138,32 @@ pub struct Shortage {
     pub host: u32,
 }
 
-/// The entries in the order in which their bindings were made, of all entries of a log in any order. Fails only if
+/// The entries in the order in which their bindings were made, of all entries of a run's log in any order. Fails only if
 /// memory is refused.
-pub fn in_order_of_making(alloc: Global, listed: Vec<LogEntry>) -> Result<Vec<Entry>, AllocError>
-    ensures { (entries : List Logged) → IsPermutation listed.items (numbered_entries entries) →
-        IfOk result (λ made. made.items ≡ entries) }
+pub fn in_order_of_making(alloc: Global, numbered: Vec<LogEntry>) -> Result<Vec<Entry>, AllocError>
+    ensures { (rules : Rules) (inputs : List Arrival) →
+        IsPermutation numbered.items (log_of rules inputs).entries →
+        IfOk result (λ made. made.items ≡ unnumbered (log_of rules inputs)) }
 {
-    let mut listed = listed;
-    listed.sort_by_key(|one| one.number)?;
-    let entries = without_numbers(alloc, &listed)?;
+    let mut numbered = numbered;
+    numbered.sort_by_key(|one| one.number)?;
+    let entries = without_numbers(alloc, &numbered)?;
     Ok(entries)
 }
 
-fn without_numbers(alloc: Global, listed: &[LogEntry]) -> Result<Vec<Entry>, AllocError>
-    ensures { IfOk result (λ made. made.items ≡ map (λ one. one.entry) listed.now) }
+fn without_numbers(alloc: Global, numbered: &[LogEntry]) -> Result<Vec<Entry>, AllocError>
+    ensures { IfOk result (λ made. made.items ≡ map (λ one. one.entry) numbered.now) }
 {
-    listed.iter().map(|one| one.entry).collect(alloc)
+    numbered.iter().map(|one| one.entry).collect(alloc)
+}
+
+/// The log of a run is that of the effects of its inputs, and each of them can come.
+pub fn effects_are_the_log()
+    ensures log { EffectsAreTheLog }
+    ensures come { EffectsCome }
+{
+    runs_go_on();
+    taken_states_are_kept();
 }
 
 /// At each moment of a run the log of the whole run names exactly the live bindings: each host that it names had the
@@ -168,8 +176,8 @@ pub fn log_attributes()
     opening_is_sound();
 }
 
-/// Of two entries of one protocol and external endpoint with different inside endpoints, the later one was made no sooner
-/// than the hold after the earlier one's end (RFC 6888, REQ-8).
+/// If two entries of one protocol and external endpoint have different inside endpoints, the later one was made no
+/// sooner than the hold after the earlier one's end (RFC 6888, REQ-8).
 pub fn held_numbers_have_one_holder()
     ensures ends { EndsAreFirst }
     ensures held { HeldNumbersHaveOneHolder }
@@ -178,17 +186,16 @@ pub fn held_numbers_have_one_holder()
     opening_is_sound();
 }
 
-/// An entry whose end is not after the time of the next input is final: the log of each longer run has it, unchanged, at
-/// its place. So it can be told then, and forgotten.
+/// An entry whose end is not after the time of the next input is final: the log of each longer run has it, unchanged,
+/// at its index. So it can be written then, and forgotten.
 pub fn ended_entries_stay()
     ensures { EndedEntriesStay }
 {}
 
 /// A run that goes on from a state, with what is left of the log there, tells with each input what the run over all inputs
-/// tells, and leaves the same of the log; also where the state was saved and taken up.
+/// tells, and leaves the same of the log; also where the state was saved and taken up. What it leaves of its log is that of
+/// the state that it leaves.
 pub fn logs_go_on()
-    ensures begin { LogsBegin }
-    ensures uses { UsesBegin }
     ensures go_on { LogsGoOn }
     ensures saved { SavedLogsGoOn }
     ensures keep { LogsAreOfTheirStates }
@@ -199,8 +206,8 @@ pub fn logs_go_on()
 }
 
 /// What a run tells with its inputs is its log: the entries told as ended, with those that are left, are the entries of
-/// the log, each once and with its number; the bindings told as made, behind the redirects, are those of the log in its
+/// the log, each once and with its number; the bindings told as made, behind the first, are those of the log in its
 /// order, each with its number and when it was made; and the refused packets are its shortages, in its order.
-pub fn what_is_told_is_the_log()
-    ensures { ToldIsTheLog }
+pub fn parts_are_the_log()
+    ensures { PartsAreTheLog }
 {}

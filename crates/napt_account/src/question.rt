@@ -1,4 +1,4 @@
-//! Who a request to the log asks about (RFC 6888, section 4; RFC 6269, section 12).
+//! The subject of a request to the log (RFC 6888, section 4; RFC 6269, section 12).
 
 ghost use Rattle.std.specs.Prelude.{◌≡◌};
 ghost use Rattle.napt_account.specs.Questions.{is_meant};
@@ -8,9 +8,9 @@ use napt_wire::Endpoint;
 /// An address, or one of its endpoints if a number is given.
 #[derive(Clone, Copy)]
 pub struct Party {
-    /// In host order.
+    /// The address, in host order.
     pub address: u32,
-    /// The port or identifier; if absent, any.
+    /// The port or identifier; any if absent.
     pub number: Option<u16>,
 }
 

@@ -1,5 +1,5 @@
-//! Who had an external endpoint, and when (RFC 6888, section 4; RFC 6269, section 12). `napt_log_text` defines the
-//! holders and the lines.
+//! The answers to who had an external endpoint, and when (RFC 6888, section 4; RFC 6269, section 12). `napt_log_text`
+//! defines the holders and the lines.
 
 use crate::owners::{add_owners, add_party};
 use crate::requests::HolderRequest;
@@ -21,27 +21,27 @@ pub struct AnswerBasis<'a> {
     pub entries: &'a [Entry],
     /// The time of the last packet, in ns.
     pub last: u64,
-    /// How much later than it says a packet may have come, in ns.
+    /// How far packets step back in time, in ns: a packet may have arrived that much later than its time says.
     pub later: u64,
     /// The configuration of the run, if it is known.
     pub config: Option<&'a Config>,
     pub basis: Basis,
 }
 
-/// What a holder is known by.
+/// The source of the answers.
 #[derive(Clone, Copy, PartialEq, Eq)]
 pub enum Basis {
     /// The blocks of the configuration.
     Blocks,
     /// A run over captures, which is known from this time on, in ns.
     Run(u64),
-    /// A log that is known from this time on, in ns.
+    /// A log, which is known from this time on, in ns.
     Log(u64),
 }
 
 impl AnswerBasis<'_> {
-    /// When the run begins, or the log begins and ends, if that is behind the time that a request asks about, or the log is
-    /// over before it.
+    /// Returns when the run begins, or when the log begins and ends, if that is after the time that a request asks
+    /// about, or if the log ends before it.
     fn beside(self, request: &Request) -> Option<OutsideTime> {
         let span = request.at?;
         let (what, first, last) = match self.basis {
@@ -54,7 +54,7 @@ impl AnswerBasis<'_> {
     }
 }
 
-/// What is not of the time that a request asks about, and when it begins and ends, in ns.
+/// A run or a log that does not have the time of a request: its name, and when it begins and ends, in ns.
 #[derive(Clone, Copy)]
 struct OutsideTime {
     what: &'static str,
@@ -82,8 +82,8 @@ pub fn answer_by_blocks<R: Print + AllocGlobal>(
     tell_answers(rt, asked, known)
 }
 
-/// Answers requests from the log whose pieces have these paths, under a configuration if it is known. A piece that is
-/// refused is reported. Fails with `Nobody` if one has no answer.
+/// Answers requests from the log whose pieces have these paths, under a configuration if it is known. Prints why a
+/// piece is refused. Fails with `Nobody` if a request has no answer.
 pub fn answer_by_log<R: Files + Input + Print + Eprint + AllocGlobal>(
     rt: &R,
     streams: StandardStreams,
@@ -95,7 +95,7 @@ pub fn answer_by_log<R: Files + Input + Print + Eprint + AllocGlobal>(
         entries,
         first,
         last,
-    } = read_saved(rt, pieces, config)?;
+    } = read_saved(rt, asked, pieces, config)?;
     if !streams.output {
         return Err(Exit::NoOutput);
     }
@@ -109,8 +109,8 @@ pub fn answer_by_log<R: Files + Input + Print + Eprint + AllocGlobal>(
     tell_answers(rt, asked, known)
 }
 
-/// Prints for each request the hosts whose blocks it is in, a line for each binding that had the endpoint, in the order
-/// in which they were made, or that nobody had it. Fails with `Nobody` if there is such a request.
+/// Prints for each request the hosts whose blocks contain it and a line for each binding that had the endpoint, in the
+/// order in which they were made, or that nobody had it. Fails with `Nobody` if a request has no answer.
 pub fn tell_answers<R: Print + AllocGlobal>(
     rt: &R,
     asked: &[HolderRequest],
@@ -172,7 +172,7 @@ fn tell_answer<R: Print + AllocGlobal>(
     Ok(is_owned)
 }
 
-/// Ends the line that says that nobody is known at the time that a request asks about.
+/// Ends the line that says that nobody is known at the time of a request.
 fn add_beside(request: &Request, beside: OutsideTime, text: &mut String) -> Result<(), AllocError> {
     let OutsideTime { what, first, last } = beside;
     text.push_str("nobody is known at ")?;
@@ -180,10 +180,18 @@ fn add_beside(request: &Request, beside: OutsideTime, text: &mut String) -> Resu
         write!(text, "{} ", protocol_name(protocol))?;
     }
     add_party(request.party, text)?;
-    write!(text, " then: the {what} begins at ")?;
+    let begins = if last.is_some() {
+        "runs from"
+    } else {
+        "begins at"
+    };
+    write!(
+        text,
+        " then: the {what} does not cover that time: it {begins} "
+    )?;
     TimeStamp(u128::from(first)).add_to(text)?;
     if let Some(last) = last {
-        text.push_str(", ends at ")?;
+        text.push_str(" to ")?;
         TimeStamp(u128::from(last)).add_to(text)?;
     }
     text.push_str("\n")

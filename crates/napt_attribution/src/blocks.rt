@@ -8,16 +8,16 @@ use napt_program::{StandardStreams, Stop};
 use std::alloc::AllocError;
 use std::fmt::Write;
 
-/// The first number of an address that a block has.
+/// The first number of an address that belongs to a block.
 const FIRST: u32 = 1024;
 
-/// How many blocks an address has at most: those of 64 numbers.
+/// The greatest number of blocks of an address: that of blocks of 64 numbers.
 pub const MOST_BLOCKS: u32 = 1008;
 
-/// The names of the fields of the table: the host, its external address, and the first and the last number of its block.
+/// The names of the table's fields: the host, its external address, and the first and the last number of its block.
 const HEADER: &str = "host,address,first,last\n";
 
-/// Prints the table of all blocks, by the index of the host. A configuration without blocks is reported.
+/// Prints the table of all blocks, by the index of the host, or that the configuration has no blocks.
 pub fn tell_blocks<R: Print + Eprint + AllocGlobal>(
     rt: &R,
     streams: StandardStreams,
@@ -53,7 +53,7 @@ fn add_block(text: &mut String, config: &Config, host: u32) -> Result<(), AllocE
     writeln!(text, "{},{address},{first},{last}", Address(host))
 }
 
-/// The first and the last number of a host's block.
+/// Returns the first and the last number of a host's block.
 pub fn numbers_of(config: &Config, host: u32) -> Option<(u16, u16)>
     ensures { IfSome result (λ numbers. numbers.0 ≤ numbers.1) }
 {
@@ -62,18 +62,18 @@ pub fn numbers_of(config: &Config, host: u32) -> Option<(u16, u16)>
     Some((block.first, last))
 }
 
-/// The host that has a block of an address; the blocks are counted from 0.
+/// Returns the host that has the block with this index, from 0, of an address.
 pub fn host_of_block(config: &Config, size: u16, address: u32, nth: u32) -> Option<u32> {
     let before = u32::from(size).saturating_mul(nth);
     let number = u16::try_from(FIRST.saturating_add(before)).ok()?;
     config.host_of(address, number)
 }
 
-/// Says, beside a log, that it is not needed to tell whose an external endpoint was, where each host has a block.
+/// Prints that no log is needed to find who had an external endpoint, if each host has a block.
 pub fn tell_needless<R: Eprint>(rt: &R, config: &Config) {
     if config.block().is_some() {
         let _ = eprintln!(rt;
-            "explain: each host has a block of its own: who had an endpoint needs no log (explain who, explain blocks)"
+            "explain: each host has a block of its own, so no log is needed to find who had an endpoint (explain who, explain blocks)"
         );
     }
 }

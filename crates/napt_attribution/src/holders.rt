@@ -1,4 +1,4 @@
-//! Who had the external endpoints that requests name, as a run goes.
+//! The holders of the external endpoints that requests name, collected during a run.
 
 use crate::answers::{AnswerBasis, Basis, tell_answers};
 use crate::requests::HolderRequest;
@@ -8,17 +8,17 @@ use napt_commands::{CommandOutput, EndedRun, Exit, Page, RunPacket};
 use napt_config::Config;
 use std::alloc::{AllocError, Global};
 
-/// What a run says to requests so far: of the bindings that ended, those that are asked about.
+/// The bindings of a run that have ended so far and that requests ask about.
 #[derive(Drop)]
 pub struct Holders<'a> {
     asked: &'a [HolderRequest],
     wanted: WantedEndpoints,
-    /// In the order in which they ended.
+    /// The bindings in the order in which they ended.
     ended: Vec<LogEntry>,
 }
 
 impl<'a> Holders<'a> {
-    /// Before the first packet.
+    /// Returns the value before the first packet.
     pub fn of(alloc: Global, asked: &'a [HolderRequest]) -> Result<Holders<'a>, AllocError> {
         Ok(Holders {
             asked,
@@ -27,7 +27,7 @@ impl<'a> Holders<'a> {
         })
     }
 
-    /// Takes bindings that ended, and keeps those that are asked about.
+    /// Takes bindings that ended, and keeps those that requests ask about.
     pub fn add(&mut self, entries: &[LogEntry]) -> Result<(), AllocError> {
         for listed in entries {
             if self.wanted.has(listed.entry.binding.external) {
@@ -46,7 +46,7 @@ impl<R: Print + AllocGlobal> CommandOutput<R> for Holders<'_> {
         passing: RunPacket<'_>,
         _text: &mut String,
     ) -> Result<(), Exit> {
-        self.add(&passing.step.ended)?;
+        self.add(&passing.step.part.ended)?;
         Ok(())
     }
 

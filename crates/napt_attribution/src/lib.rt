@@ -1,5 +1,5 @@
-//! Who had an external endpoint, and when: what the commands `answers`, `log` and `blocks` of `explain` tell, by a run as it
-//! goes, by a saved log, or by the blocks of a configuration.
+//! Who had an external endpoint, and when: what the commands `who`, `log` and `blocks` of `explain` print, from a run,
+//! from a saved log, or from the blocks of a configuration.
 #![tactic(auto)]
 
 mod answers;
@@ -18,6 +18,7 @@ mod wanted_endpoints;
 pub use crate::answers::{answer_by_blocks, answer_by_log};
 pub use crate::blocks::tell_blocks;
 pub use crate::holders::Holders;
+pub use crate::log_file::LogOpening;
 pub use crate::requests::{HolderRequest, party_of, requests_at};
 pub use crate::run_log::{LogPaths, RunLog, begin_run_log};
 pub use crate::spans::{BadTime, span_of};

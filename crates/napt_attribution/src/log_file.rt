@@ -2,14 +2,14 @@
 //! rows.
 
 use crate::row_file::{RowFile, create_rows};
-use napt_account::LogEntry;
+use napt_account::{LogEntry, OpenLog};
 use napt_commands::{Exit, RunPacket};
 use napt_config::Config;
-use napt_log_text::{add_living, add_opening, add_part};
+use napt_log_text::{add_first, add_living, add_opening, add_part};
 use std::io::Write;
 use std::rt::Files;
 
-/// How many of the rows at the end are collected before they are written, if there are enough of them.
+/// The number of rows of live bindings that are added to the buffer at a time.
 const LIVING: usize = 256;
 
 /// A log that is being written. `W` is a file.
@@ -18,33 +18,43 @@ pub struct LogFile<'a, W> {
     pub rows: RowFile<'a, W>,
 }
 
-/// Begins a log in a file or standard output: the names of its fields, and the bindings with which the run begins.
+/// How a log begins: with the log as it was saved, the entries that end where the run begins, and those that begin there.
+#[derive(Clone, Copy)]
+pub struct LogOpening<'a> {
+    pub before: &'a OpenLog,
+    pub ended: &'a [LogEntry],
+    pub made: &'a [LogEntry],
+}
+
+/// Begins a log in a file or standard output: the names of its fields, the entries that were saved, and what ends and begins
+/// with the run.
 pub fn begin_log<'a, R: Files + Print + Eprint + AllocGlobal>(
     rt: &R,
     path: Option<&'a str>,
     is_held: bool,
     config: &Config,
-    opening: &[LogEntry],
+    opening: LogOpening<'_>,
 ) -> Result<LogFile<'a, R::File>, Exit> {
     let mut rows = create_rows(rt, "--to", path, is_held)?;
-    add_opening(config, opening, &mut rows.text)?;
+    add_opening(config, opening.before, &mut rows.text)?;
+    add_first(config, opening.ended, opening.made, &mut rows.text)?;
     rows.turn(rt)?;
     Ok(LogFile { rows })
 }
 
 impl<'a, W: Write + Drop> LogFile<'a, W> {
-    /// Takes what a packet did.
+    /// Appends the rows of what a packet did.
     pub fn take<R: Files + Print + Eprint>(
         &mut self,
         rt: &R,
         config: &Config,
         passing: RunPacket<'_>,
     ) -> Result<(), Exit> {
-        add_part(config, passing.step, &mut self.rows.text)?;
+        add_part(config, &passing.step.part, &mut self.rows.text)?;
         self.rows.turn(rt)
     }
 
-    /// Writes the rows of the bindings that live at the end, and all that is not written yet.
+    /// Writes the rows of the bindings that are live at the end, and everything that has not been written yet.
     pub fn finish<R: Files + Print + Eprint>(
         &mut self,
         rt: &R,

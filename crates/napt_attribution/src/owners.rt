@@ -1,4 +1,4 @@
-//! Whose an external endpoint is, by the configuration alone: where each inside host has a block of numbers (RFC 7422).
+//! The owners of an external endpoint by the configuration alone, if each inside host has a block (RFC 7422).
 
 use crate::answers::{AnswerBasis, Basis, mark};
 use crate::blocks::{MOST_BLOCKS, host_of_block, numbers_of};
@@ -12,8 +12,8 @@ use napt_wire::{Endpoint, Protocol};
 use std::alloc::AllocError;
 use std::fmt::Write;
 
-/// Appends a line for each host whose block a request is in. If there is no run, appends one for each redirect too, or
-/// that nobody ever has the endpoint. Returns whether somebody has it.
+/// Appends a line for each host whose block contains the endpoint of a request. Without a run, appends a line for each
+/// redirect, too, or that nobody ever has the endpoint. Returns whether somebody has it.
 pub fn add_owners(
     asked: &HolderRequest,
     known: AnswerBasis<'_>,
@@ -106,7 +106,7 @@ fn protocol_of(redirect: &Redirect) -> Protocol {
     }
 }
 
-/// Appends a redirect, as the line of its binding in a run has it.
+/// Appends a redirect in the form of a binding's line.
 fn add_redirect(config: &Config, redirect: &Redirect, text: &mut String) -> Result<(), AllocError> {
     let protocol = protocol_name(protocol_of(redirect));
     let (inside, external) = (

@@ -1,4 +1,4 @@
-//! The packets of a run as CSV, a row for each. docs/FORMATS.md describes its fields.
+//! The packets of a run as CSV, with one row for each. docs/FORMATS.md describes its fields.
 
 use crate::row_file::{RowFile, create_rows};
 use napt_commands::{Exit, RunPacket};
@@ -19,7 +19,7 @@ pub struct PacketFile<'a, W> {
     pub rows: RowFile<'a, W>,
 }
 
-/// Begins the rows of packets in a file: the names of their fields.
+/// Begins the rows of packets in a file with the names of their fields.
 pub fn begin_packets<'a, R: Files + Eprint + AllocGlobal>(
     rt: &R,
     path: &'a str,
@@ -31,7 +31,7 @@ pub fn begin_packets<'a, R: Files + Eprint + AllocGlobal>(
 }
 
 impl<'a, W: Write + Drop> PacketFile<'a, W> {
-    /// Takes a packet.
+    /// Appends the row of a packet.
     pub fn take<R: Files + Print + Eprint>(
         &mut self,
         rt: &R,
@@ -64,16 +64,16 @@ fn add_packet_row(passing: RunPacket<'_>, text: &mut String) -> Result<(), Alloc
             text.push_str(cause_name(*cause))?;
         }
     }
-    add_binding_number(step.used.out, text)?;
-    add_binding_number(step.used.into, text)?;
+    add_binding_number(step.part.used.out, text)?;
+    add_binding_number(step.part.used.into, text)?;
     text.push_str("\n")
 }
 
-/// Appends a comma, and the number in the log of the binding at an index there, if there is one.
-fn add_binding_number(place: Option<usize>, text: &mut String) -> Result<(), AllocError> {
+/// Appends a comma, and the number in the log of a binding, if there is one.
+fn add_binding_number(number: Option<u64>, text: &mut String) -> Result<(), AllocError> {
     text.push_str(",")?;
-    match place {
-        Some(place) => add_number(text, (place as u64).saturating_add(1)),
+    match number {
+        Some(number) => add_number(text, number),
         None => Ok(()),
     }
 }

@@ -1,4 +1,4 @@
-//! Requests: who had an external endpoint, and when. One is on the command line, or many are in a file.
+//! Requests: who had an external endpoint, and when. The command line has one, or a file has many.
 
 use crate::spans::{BadTime, span_of};
 use napt_account::Party;
@@ -11,20 +11,20 @@ use napt_wire::{Endpoint, Protocol};
 use std::rt::Files;
 use std::str;
 
-/// What a line of requests is to be.
+/// The form of a line of requests.
 const WANTED: &str =
     "expected ADDRESS[:PORT] TIME [PROTOCOL], as 203.0.113.1:5000 2026-11-26T10:02:07Z udp";
 
 /// A request.
 #[derive(Clone, Copy)]
 pub struct HolderRequest {
-    /// Its line in a file of requests, from 1.
+    /// The line of the request in a file of requests, from 1.
     pub line: Option<u64>,
     pub request: Request,
 }
 
 impl HolderRequest {
-    /// That of the command line.
+    /// Returns the request of the command line.
     pub fn of(request: Request) -> HolderRequest {
         HolderRequest {
             line: None,
@@ -32,7 +32,7 @@ impl HolderRequest {
         }
     }
 
-    /// The external endpoint that it names, if it is one.
+    /// Returns the external endpoint that the request names, if it names a port and not an address alone.
     pub fn endpoint(&self) -> Option<Endpoint> {
         let party = self.request.party;
         Some(Endpoint {
@@ -41,7 +41,7 @@ impl HolderRequest {
         })
     }
 
-    /// The same about a time that ends so much later, in ns, if it is about one.
+    /// Returns the same request about a time that ends this much later, in ns, if it is about a time.
     pub fn until_later(&self, by: u64) -> HolderRequest {
         let mut asked = *self;
         if let Some(span) = &mut asked.request.at {
@@ -51,7 +51,7 @@ impl HolderRequest {
     }
 }
 
-/// The requests of a file. One that cannot be read, or a line of it that is no request, is reported.
+/// Reads the requests of a file. Prints why the file cannot be read, or which line is not a request.
 pub fn requests_at<R: Files + Input + Eprint + AllocGlobal>(
     rt: &R,
     path: &str,
@@ -67,7 +67,7 @@ pub fn requests_at<R: Files + Input + Eprint + AllocGlobal>(
     let mut asked = Vec::new(rt.alloc());
     for (place, line) in lines.lines().enumerate() {
         let number = (place as u64).saturating_add(1);
-        // a line without a word is left out
+        // A line without a word is ignored.
         if line.trim().is_empty() {
             continue;
         }
@@ -82,19 +82,19 @@ pub fn requests_at<R: Files + Input + Eprint + AllocGlobal>(
     Ok(asked)
 }
 
-/// Prints which line of a file is no request, and why, and returns how the program stops.
+/// Prints which line of a file is not a request, and why, and returns how the program stops.
 fn tell_wrong<R: Eprint>(rt: &R, path: &str, line: u64, why: &str) -> Exit {
     let _ = eprintln!(rt; "explain: --requests {path}: line {line}: {why}");
     Exit::Told(Stop::Usage)
 }
 
-/// The number of the line that a byte of a text is in.
+/// Returns the number of the line, from 1, that contains the byte at this index of a text.
 fn line_at(text: &[u8], place: usize) -> u64 {
     let ended = text.iter().take(place).filter(|it| **it == b'\n').count();
     (ended as u64).saturating_add(1)
 }
 
-/// Parses an endpoint or an address, a time and maybe a protocol. A date may have a space before its time of day.
+/// Parses an endpoint or an address, a time, and perhaps a protocol. A date may have a space before its time of day.
 fn request_of(line: &str) -> Result<Request, BadTime> {
     let (party, rest) = first_word(line.trim());
     let party = party_of(party).ok_or(BadTime::Unread)?;
@@ -123,7 +123,7 @@ pub fn party_of(text: &str) -> Option<Party> {
     })
 }
 
-/// The first word of a text, and the text behind it.
+/// Splits a text into its first word and the text after it.
 fn first_word(text: &str) -> (&str, &str) {
     match text.split_once(|it: char| it.is_whitespace()) {
         Some((word, rest)) => (word, rest.trim_start()),
@@ -131,7 +131,7 @@ fn first_word(text: &str) -> (&str, &str) {
     }
 }
 
-/// The text before its last word, and that word.
+/// Splits a text into the text before its last word, and that word.
 fn last_word(text: &str) -> (&str, &str) {
     match text.rsplit_once(|it: char| it.is_whitespace()) {
         Some((rest, word)) => (rest.trim_end(), word),
@@ -139,7 +139,7 @@ fn last_word(text: &str) -> (&str, &str) {
     }
 }
 
-/// The protocol of a name, in letters of either case.
+/// Returns the protocol with a name, in letters of either case.
 fn protocol_of(name: &str) -> Option<Protocol> {
     [Protocol::Icmp, Protocol::Tcp, Protocol::Udp]
         .into_iter()

@@ -1,11 +1,11 @@
-//! A file of rows in CSV, written as a run goes or once it has ended.
+//! A file of rows in CSV, which is written during a run or after its end.
 
 use napt_commands::{Exit, print_unwritten};
 use std::fs::{self, File};
 use std::io::{self, Write};
 use std::rt::Files;
 
-/// How many bytes of rows are collected before they are written.
+/// The size in bytes from which on the rows are written.
 const BUFFERED: usize = 65_536;
 
 /// Rows that are being written. `W` is a file.
@@ -16,15 +16,15 @@ pub struct RowFile<'a, W> {
     place: RowLocation<'a, W>,
     /// Whether no row is written before the end.
     is_held: bool,
-    /// The rows that are not written yet.
+    /// The rows that have not been written yet.
     pub text: String,
 }
 
-/// Where rows are written.
+/// The place where rows are written.
 #[derive(Drop)]
 enum RowLocation<'a, W> {
     Output,
-    /// The file at this path, once all rows are there.
+    /// The file at this path, which is created at the end.
     Path(&'a str),
     File(&'a str, W),
 }
@@ -54,7 +54,7 @@ pub fn create_rows<'a, R: Files + Eprint + AllocGlobal>(
 }
 
 impl<'a, W: Write + Drop> RowFile<'a, W> {
-    /// Writes the rows if there are enough of them.
+    /// Writes the rows if they have at least `BUFFERED` bytes.
     pub fn turn<R: Files + Print + Eprint>(&mut self, rt: &R) -> Result<(), Exit> {
         if self.text.len() < BUFFERED {
             return Ok(());
@@ -62,7 +62,7 @@ impl<'a, W: Write + Drop> RowFile<'a, W> {
         self.settle(rt)
     }
 
-    /// Writes the rows and forgets them, unless they are held. If that fails, prints the file and the system's reason.
+    /// Writes the rows and clears them, unless they are held. If that fails, prints the file and the system's reason.
     pub fn settle<R: Files + Print + Eprint>(&mut self, rt: &R) -> Result<(), Exit> {
         if self.is_held {
             return Ok(());
@@ -78,7 +78,7 @@ impl<'a, W: Write + Drop> RowFile<'a, W> {
         }
     }
 
-    /// Writes all rows that are not written yet.
+    /// Writes all rows that have not been written yet.
     pub fn finish<R: Files + Print + Eprint>(&mut self, rt: &R) -> Result<(), Exit> {
         self.is_held = false;
         self.settle(rt)

@@ -1,9 +1,8 @@
-//! What `explain log` writes of a run: its log, and in addition its packets and its report.
+//! The files that `explain log` writes about a run: its log and, if they are requested, its packets and its report.
 
 use crate::blocks::tell_needless;
-use crate::log_file::{LogFile, begin_log};
+use crate::log_file::{LogFile, LogOpening, begin_log};
 use crate::packet_file::{PacketFile, begin_packets};
-use napt_account::LogEntry;
 use napt_commands::{CommandOutput, Coverage, EndedRun, Exit, Page, RunPacket, print_unwritten};
 use napt_config::Config;
 use napt_records::{OutcomeCounts, report_of};
@@ -11,12 +10,12 @@ use std::fs;
 use std::io::Write;
 use std::rt::Files;
 
-/// The files that are written.
+/// The paths of the files.
 #[derive(Clone, Copy)]
 pub struct LogPaths<'a> {
     /// The log; standard output if absent.
     pub log: Option<&'a str>,
-    /// A row for each packet.
+    /// A file with a row for each packet.
     pub packets: Option<&'a str>,
     pub report: Option<&'a str>,
 }
@@ -29,7 +28,7 @@ pub struct RunLog<'a, W> {
     report: Option<RunReport<'a>>,
 }
 
-/// The counts of a run so far, and the path of the report that they are for.
+/// The counts of a run so far, and the path of its report.
 #[derive(Drop)]
 struct RunReport<'a> {
     path: &'a str,
@@ -37,13 +36,13 @@ struct RunReport<'a> {
     coverage: Coverage,
 }
 
-/// Begins the files of a run that begins with these bindings. If one cannot be created, prints it and the system's reason.
+/// Begins the files of a run that begins with this log. If one cannot be created, prints it and the system's reason.
 pub fn begin_run_log<'a, R: Files + Print + Eprint + AllocGlobal>(
     rt: &R,
     paths: LogPaths<'a>,
     is_held: bool,
     config: &Config,
-    opening: &[LogEntry],
+    opening: LogOpening<'_>,
 ) -> Result<RunLog<'a, R::File>, Exit> {
     let log = begin_log(rt, paths.log, is_held, config, opening)?;
     let packets = match paths.packets {
@@ -66,7 +65,7 @@ impl<'a> RunReport<'a> {
         }
     }
 
-    /// Prints what the captures cannot show of figures, and writes the report. If that fails, prints the file and the
+    /// Prints what the captures lack for figures, and writes the report. If that fails, prints the file and the
     /// system's reason.
     fn write<R: Files + Eprint + AllocGlobal>(
         &self,
@@ -116,7 +115,7 @@ impl<R: Files + Print + Eprint + AllocGlobal, W: Write + Drop> CommandOutput<R> 
         self.log.rows.settle(rt)
     }
 
-    /// Writes what needs the end, and all that is not written yet. Says if nobody needs the log, unless figures are made of it.
+    /// Writes the rest of all files. Without a report, prints that no log is needed if each host has a block.
     fn end(self, rt: &R, _page: &mut Page, ending: &EndedRun<'_>) -> Result<(), Exit> {
         let RunLog {
             mut log,

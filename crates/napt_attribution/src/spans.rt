@@ -11,27 +11,27 @@ const MINUTE: u64 = 60 * SECOND;
 
 const HOUR: u64 = 60 * MINUTE;
 
-/// The greatest number of seconds that is taken for a time since 1970, in the year 5138: more of them are milliseconds,
+/// The greatest number that is taken for seconds since 1970, in the year 5138. A greater one must be milliseconds,
 /// microseconds or nanoseconds.
 const LAST: u64 = 100_000_000_000;
 
-/// How many decimals of a second there are.
+/// The greatest number of decimals of a second.
 const DECIMALS: usize = 9;
 
-/// How many digits hours, minutes and seconds have together.
+/// The number of digits of hours, minutes and seconds.
 const CLOCK: usize = 6;
 
-/// Why a text is no time.
+/// The reason why a text is not a time.
 #[derive(Clone, Copy)]
 pub enum BadTime {
-    /// It is neither a number of seconds nor a date.
+    /// The text is neither a number of seconds nor a date.
     Unread,
-    /// More seconds than a time since 1970 has.
+    /// The text has more seconds than `LAST`.
     TooLate,
 }
 
 impl BadTime {
-    /// What is told of it, if `wanted` was expected.
+    /// The message, if `wanted` was expected.
     pub fn words(self, wanted: &'static str) -> &'static str {
         match self {
             BadTime::Unread => wanted,
@@ -42,7 +42,7 @@ impl BadTime {
     }
 }
 
-/// The span that a time stands for: seconds since 1970, or a date in RFC 3339.
+/// Returns the span that a time stands for: seconds since 1970, or a date in RFC 3339.
 pub fn span_of(text: &str) -> Result<TimeSpan, BadTime> {
     match span_of_seconds(text) {
         Some(span) if span.first / u128::from(SECOND) > u128::from(LAST) => Err(BadTime::TooLate),
@@ -75,7 +75,7 @@ fn span_of_date(text: &str) -> Option<TimeSpan> {
     span_from(u128::try_from(date.as_nanosecond()).ok()?, unit)
 }
 
-/// The span from a moment on that is a unit long.
+/// Returns the span of one unit from a moment on.
 fn span_from(first: u128, unit: u64) -> Option<TimeSpan>
     ensures { IfSome result (λ span. (span.first ≡ first) × (span.until ≡ first + unit)) }
 {
@@ -85,12 +85,12 @@ fn span_from(first: u128, unit: u64) -> Option<TimeSpan>
     })
 }
 
-/// The ns of the last of so many decimals of a second.
+/// Returns the value of the last decimal in ns, if a time in seconds has this number of decimals.
 fn unit_of(decimals: usize) -> Option<u64> {
     10u64.checked_pow(DECIMALS.checked_sub(decimals)? as u32)
 }
 
-/// How many digits the time of day of a date has.
+/// Returns the number of digits in the time of day of a date.
 fn clock_digits(date: &str) -> Option<usize> {
     let separator = date
         .bytes()

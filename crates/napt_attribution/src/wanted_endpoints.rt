@@ -5,7 +5,7 @@ use napt_wire::Endpoint;
 use std::alloc::{AllocError, Global};
 use std::collections::BTreeSet;
 
-/// The external addresses of which any endpoint is asked about, and the endpoints of others.
+/// The addresses all of whose endpoints requests ask about, and the other endpoints that they name.
 #[derive(Drop)]
 pub struct WantedEndpoints {
     addresses: BTreeSet<u32>,
@@ -13,7 +13,7 @@ pub struct WantedEndpoints {
 }
 
 impl WantedEndpoints {
-    /// Those of the requests.
+    /// Returns the addresses and endpoints that the requests name.
     pub fn of(alloc: Global, asked: &[HolderRequest]) -> Result<WantedEndpoints, AllocError> {
         let mut wanted = WantedEndpoints {
             addresses: BTreeSet::new(alloc),
@@ -33,7 +33,7 @@ impl WantedEndpoints {
         Ok(())
     }
 
-    /// Whether an external endpoint is asked about.
+    /// Whether a request asks about an external endpoint.
     pub fn has(&self, external: Endpoint) -> bool {
         self.addresses.contains(&external.address)
             || self

@@ -1,10 +1,10 @@
 //! Calls of the libraries, for the bench and for tests from outside.
 //!
-//! `napt_calls HOW [CONFIG]`: `copy`, `merged`, `plain`, `workers` and `slow` do a part of a run over the capture that standard input
-//! holds ([`runs`]). `napt_calls refused CALL` makes a call that may be refused memory or a thread ([`refused`]). `napt_calls play`
-//! makes the calls that the lines of standard input say ([`play`]).
+//! `napt_calls HOW [CONFIG]`: `copy`, `merged`, `plain`, `workers` and `slow` do a part of a run over the capture on
+//! standard input ([`runs`]). `napt_calls refused CALL` makes a call that may be refused memory or a thread
+//! ([`refused`]). `napt_calls play` makes the calls in the lines of standard input ([`play`]).
 //!
-//! Statuses: 0 done, 1 wrong, 2 usage, 3 configuration, 4 capture, 5 memory, 6 files and writing; those of `refused` are its own.
+//! Statuses: 0 done, 1 wrong, 2 usage, 3 configuration, 4 capture, 5 memory, 6 files and writing; not of `refused`.
 #![tactic(auto)]
 
 mod play;
@@ -15,15 +15,15 @@ use std::env;
 use std::env::Env;
 use std::process::ExitCode;
 
-/// Why the program stops before it is done.
+/// The reason why the program stops early.
 #[derive(Clone, Copy)]
 enum CallFault {
-    /// A call may not be made so.
+    /// The arguments of a call are not allowed.
     Unsent,
     Usage,
     Config,
     Capture,
-    /// A call is refused, for want of memory but for a run that is refused otherwise.
+    /// A call is refused because memory is, or a run fails.
     Call,
     File,
 }
@@ -57,7 +57,7 @@ fn main(rt: HostRuntime) -> ExitCode {
     }
 }
 
-/// The words of the command line, the program's name first.
+/// Returns the words of the command line, the program's name first.
 fn words<R: Env + AllocGlobal>(rt: &R) -> Result<Vec<String>, CallFault> {
     match env::args(rt) {
         Ok(args) => args.collect(rt.alloc()).map_err(|_| CallFault::Call),

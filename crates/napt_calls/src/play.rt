@@ -1,8 +1,8 @@
-//! Makes the calls that standard input says, one a line, and answers each in a line: rows of tests that need no proof of their own.
+//! Makes the calls in the lines of standard input, and prints the answer to each in a line: tests that need no proof.
 //!
-//! `tests/played` writes these lines from the texts of `tests/calls`, and compares. A line has words between blanks, the first of
-//! which says the call. All numbers are decimal: bytes one by one, times in ns, an address as one number, an endpoint as its
-//! address and its number. An answer is what `{:?}` shows of it.
+//! `tests/played` writes these lines from the texts of `tests/calls`, and compares the answers. A line has words
+//! separated by blanks, the first of which names the call. All numbers are decimal: bytes one by one, times in ns, an
+//! address as one number, an endpoint as its address and its number. An answer is what `{:?}` prints of it.
 //!
 //! [`packets`] reads and changes the current packet, [`table`] calls the current table, [`translators`] the current translators,
 //! over the current packet, [`captures`] reads and writes captures, [`merging`] merges two, [`settings`] reads configurations, and
@@ -26,18 +26,18 @@ use napt_table::Table;
 use napt_wire::Packet;
 use std::io::{BufRead, BufReader};
 
-/// What the calls are made on.
+/// The values on which the calls are made.
 #[derive(Drop)]
 struct Player {
     packet: Option<Packet>,
     table: Option<Box<Table>>,
     translators: Option<Translators>,
     config: Option<Config>,
-    /// Those of the current configuration.
+    /// The inputs of the current configuration.
     inputs: Vec<napt_sequential::Input>,
 }
 
-/// Makes the calls, up to the end or to a line that says none.
+/// Makes the calls, up to the end or to a line without a valid call.
 pub(crate) fn played<R: Input + Print + AllocGlobal>(rt: &R) -> Result<(), CallFault> {
     let alloc = rt.alloc();
     let reader = BufReader::new(alloc, rt.reader()).map_err(|_| CallFault::Call)?;
@@ -56,7 +56,7 @@ pub(crate) fn played<R: Input + Print + AllocGlobal>(rt: &R) -> Result<(), CallF
 }
 
 impl Player {
-    /// Makes the call that a line says, and tells its answer.
+    /// Makes the call of a line, and prints its answer.
     fn play<R: Print>(&mut self, line: &mut Line<'_, R>) -> Result<(), CallFault> {
         let call = line.word()?;
         match call {
@@ -105,7 +105,7 @@ impl Player {
         Ok(())
     }
 
-    /// A call on the current translators.
+    /// Makes a call on the current translators.
     fn translated<R: Print>(
         &mut self,
         line: &mut Line<'_, R>,

@@ -1,14 +1,14 @@
-//! Makes a call that may be refused, and looks at what a refusal left or changed. `tests/refused_calls` runs it again and again,
-//! each time with another growth of memory refused.
+//! Makes a call that may be refused memory or a thread, and checks what a refusal left or changed.
+//! `tests/refused_calls` runs it again and again, each time with another growth of memory refused.
 //!
-//! `pool` starts a pool of three workers, fills it and closes it; `run` runs over captures on two workers, `workers` so over their
-//! inputs, and `plain` on one thread; `streams` runs while the captures come, and `devices` does so with each call of a device
-//! refused in turn; `dispatch` dispatches these inputs to a pool that is started before, and `merge` merges them; `capture` and
-//! `configuration` read one; `bindings`, `flows` and `ends` send packets through a table: of new bindings, of new flows of bindings
-//! that are there, and of bindings that have ended.
+//! `pool` starts a pool of three workers, fills it and closes it. `run` runs over captures on two workers, `workers`
+//! over their inputs, and `plain` on one thread. `streams` runs over captures as they are read, and `devices` refuses
+//! each call of each device in turn. `dispatch` dispatches these inputs to a pool that was started before, and `merge`
+//! merges them. `capture` and `configuration` read one. `bindings`, `flows` and `ends` send packets through a table: of
+//! new bindings, of new flows of existing bindings, and of bindings that have ended.
 //!
-//! One line on standard output tells the end. Statuses: 0 done, 1 something is left, changed or wrong, 2 usage, 3 memory was
-//! refused before the call, 4 after it, 5 memory or a thread was refused to the call, 6 the line is not written.
+//! One line on standard output says how it ended. Statuses: 0 done, 1 something is left, changed or wrong, 2 usage, 3
+//! memory was refused before the call, 4 after it, 5 memory or a thread was refused to it, 6 no line.
 
 mod captures;
 mod dispatching;
@@ -25,30 +25,30 @@ use std::rt::Files;
 use std::sync::Wait;
 use std::thread::Threads;
 
-/// What the calls need of the runtime.
+/// The resources of the runtime that the calls need.
 pub(crate) trait System: Files + AllocGlobal + Threads + Wait + Copy + Send + 'static {}
 
 impl<R: Files + AllocGlobal + Threads + Wait + Copy + Send + 'static> System for R {}
 
-/// Why a call did not answer what it answers with ample memory.
+/// The ends of a call other than its usual answer.
 #[derive(Clone, Copy)]
 pub(crate) enum CallResult {
-    /// Memory was refused to it, and nothing is left or changed.
+    /// Memory was refused to the call, and nothing is left or changed.
     Memory,
-    /// A thread was refused to it, and nothing is left or changed.
+    /// A thread was refused to the call, and nothing is left or changed.
     NoThread,
     /// Memory was refused before the call.
     Before,
-    /// Memory was refused to the look at what the call left.
+    /// Memory was refused to the check after the call.
     After,
     /// Something is left, changed or wrong.
     Wrong(&'static str),
-    /// The word says no call.
+    /// The word does not name a call.
     Usage,
 }
 
 impl CallResult {
-    /// The line and the status.
+    /// Returns the line and the status.
     fn told(self) -> (&'static str, u8) {
         match self {
             CallResult::Memory => ("memory", 5),
@@ -67,7 +67,7 @@ impl From<AllocError> for CallResult {
     }
 }
 
-/// Makes the call that the word says, writes the line that tells its end, and answers the status.
+/// Makes the call that the word names, prints the line, and returns the status.
 pub(crate) fn told<R: System + Print>(rt: &R, call: Option<&String>) -> ExitCode {
     let (line, status) = match ended(rt, call) {
         Ok(()) => ("done", 0),
@@ -79,7 +79,7 @@ pub(crate) fn told<R: System + Print>(rt: &R, call: Option<&String>) -> ExitCode
     }
 }
 
-/// Makes the call that the word says.
+/// Makes the call that the word names.
 fn ended(rt: &impl System, call: Option<&String>) -> Result<(), CallResult> {
     let alloc = rt.alloc();
     match call.map(String::as_str) {

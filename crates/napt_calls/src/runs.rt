@@ -1,11 +1,11 @@
-//! A part of a run alone, over the capture that standard input holds: what the bench measures besides the program.
+//! A part of a run, over the capture on standard input: what the bench measures in addition to the program.
 //!
-//! `copy` reads the capture and writes its records to standard output, with times in nanoseconds in little-endian order. The
-//! others take it as what inside hosts send, without outside packets and without writing captures: `merged` reads and merges and
-//! runs nothing, `plain` runs on one thread, and `workers` with a worker on a thread of its own for each external address; `slow`
-//! does so too, with the first worker held for two seconds at its first leg. Without
-//! a file the configuration is the built-in one. One line on standard output counts the packets, what became of them, and the
-//! legs of each address.
+//! `copy` reads the capture and writes its records to standard output, with times in nanoseconds in little-endian
+//! order. The others take the capture as the packets of inside hosts, without outside packets, and write no captures:
+//! `merged` only reads and merges, `plain` runs on one thread, and `workers` with a worker on a thread of its own for
+//! each external address; `slow` does the same, but holds the first worker for two seconds at its first leg. Without a
+//! file the configuration is the built-in one. One line on standard output has the counts of packets, of their
+//! outcomes, and of the legs of each address.
 
 use crate::CallFault;
 use napt_capture::{Watched, read_capture, write_capture};
@@ -19,10 +19,10 @@ use std::thread::Threads;
 use std::time::{Clock, Duration};
 use std::{fs, io, thread};
 
-/// How many bytes are read or written at once.
+/// The size of reads and writes in bytes.
 const BUFFERED: usize = 65_536;
 
-/// What is done with the capture.
+/// What to do with the capture.
 #[derive(Clone, Copy)]
 enum How {
     Copy,
@@ -51,7 +51,7 @@ impl<R: Clock> Gate for SlowStart<R> {
     }
 }
 
-/// Does what the words say.
+/// Runs the part that the words name.
 pub(crate) fn measured<
     R: Files + Input + Print + AllocGlobal + Clock + Threads + Wait + Copy + Send + Sync + 'static,
 >(rt: &R, words: &[String]) -> Result<(), CallFault> {
@@ -72,7 +72,7 @@ pub(crate) fn measured<
     tell(rt, &run).map_err(|_| CallFault::File)
 }
 
-/// What a word says is to be done.
+/// Returns what a word names.
 fn how_of(word: Option<&String>) -> Result<How, CallFault> {
     match word.ok_or(CallFault::Usage)?.as_str() {
         "copy" => Ok(How::Copy),
@@ -84,7 +84,7 @@ fn how_of(word: Option<&String>) -> Result<How, CallFault> {
     }
 }
 
-/// The configuration that a file holds; the built-in one where there is none.
+/// Reads the configuration in a file, or returns the built-in one if none is named.
 fn configuration<R: Files + AllocGlobal>(
     rt: &R,
     path: Option<&String>,
@@ -96,7 +96,7 @@ fn configuration<R: Files + AllocGlobal>(
     Config::read(rt.alloc(), &text).map_err(|_| CallFault::Config)
 }
 
-/// Writes the records of the capture that standard input holds to standard output.
+/// Copies the records of the capture on standard input to standard output.
 fn copied<R: Input + Print + AllocGlobal>(rt: &R) -> Result<(), CallFault> {
     let alloc = rt.alloc();
     let reader = BufReader::with_capacity(alloc, BUFFERED, rt.reader()).map_err(
@@ -109,7 +109,7 @@ fn copied<R: Input + Print + AllocGlobal>(rt: &R) -> Result<(), CallFault> {
     write_capture(&mut Watched::new(writer), &capture.records).map_err(|_| CallFault::File)
 }
 
-/// The inputs that standard input holds.
+/// Reads and merges the inputs on standard input.
 fn merged<R: Input + AllocGlobal>(rt: &R) -> Result<Vec<napt_run::Input>, CallFault> {
     let alloc = rt.alloc();
     let reader = BufReader::with_capacity(alloc, BUFFERED, rt.reader()).map_err(
@@ -119,7 +119,7 @@ fn merged<R: Input + AllocGlobal>(rt: &R) -> Result<Vec<napt_run::Input>, CallFa
     merge(alloc, capture.records, Vec::new(alloc)).map_err(|_| CallFault::Call)
 }
 
-/// The run over workers, through a gate.
+/// Makes the run over workers, with a gate.
 fn over_workers<
     R: AllocGlobal + Threads + Wait + Copy + Send + 'static,
     G: Gate + Send + Sync + Drop + 'static,
@@ -128,7 +128,7 @@ fn over_workers<
     run_workers(rt, rt.alloc(), config, inputs, gate).map_err(|_| CallFault::Call)
 }
 
-/// Writes the line that counts.
+/// Prints the line of counts.
 fn tell<R: Print>(rt: &R, run: &Run) -> io::Result<()> {
     macro_rules! count {
         ($end:ident) => {

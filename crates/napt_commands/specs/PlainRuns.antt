@@ -1,4 +1,4 @@
--- A run of which only the outcomes are wanted, by the inputs that it took.
+-- A run of which only the outcomes are needed, by the inputs that it has taken.
 use Rattle.std.specs.Prelude.{◌≡◌, Bool, List, [], ◌∷◌, ◌++◌, false}
 use Rattle.napt_rules.specs.Prelude.{Arrival, Rules, State, effect_from, with_redirects}
 use Rattle.napt_rules.specs.declared.Outcome.{Outcome}
@@ -6,10 +6,10 @@ use Rattle.napt_commands.specs.Starts.{RunStartModel}
 
 pub record PlainRunModel : Type 0 where
   pub rules : Rules
-  -- the one from which it goes on
+  -- The state from which the run goes on.
   pub state : State
   pub inputs : List Arrival
-  -- it does not go on
+  -- Whether a step has failed, after which the run does not go on.
   pub is_stopped : Bool
 
 abbrev pub plain_from : RunStartModel → PlainRunModel
@@ -20,7 +20,7 @@ plain_from start = record {
   is_stopped = false;
 }
 
--- the last outcome of the sequential run over those that it took and one more
+-- The outcome is the last of the sequential run over the inputs so far and this one.
 abbrev pub IsOutcome : PlainRunModel → Arrival → Outcome → Type 0
 IsOutcome run input outcome = (effect_from run.rules run.state (run.inputs ++ input ∷ [])).outcomes
     ≡ (effect_from run.rules run.state run.inputs).outcomes ++ outcome ∷ []

@@ -1,14 +1,15 @@
 -- Where a run starts.
 use Rattle.napt_rules.specs.Prelude.{Rules, State, TakesState}
-use Rattle.napt_account.specs.ResumedLogRuns.{LogStateModel, IsFew}
+use Rattle.std.specs.Prelude.{◌≡◌, true}
+use Rattle.napt_account.specs.LogStarts.{SavedLogStateModel, is_saved_log_state}
 
 pub record RunStartModel : Type 0 where
   pub rules : Rules
-  -- with what is kept of its log
   pub state : State
-  pub log : LogStateModel
+  -- what it keeps of a log
+  pub saved : SavedLogStateModel
 
--- a run can go on from there
+-- A run can start here: its configuration takes the state, and the saved counts of the log are small enough.
 pub record CanStart (start : RunStartModel) : Type 0 where
   pub taken : TakesState start.rules start.state
-  pub few : IsFew start.log
+  pub saved : is_saved_log_state start.state start.saved ≡ true

@@ -1,13 +1,13 @@
-//! What a command prints or writes of a run.
+//! The output of a command about one run.
 
 use crate::exit::Exit;
 use crate::page::Page;
 use crate::run_packet::{EndedRun, RunPacket};
 use napt_config::Config;
 
-/// What a command prints or writes of a run under a configuration.
+/// The output of a command about one run under a configuration.
 pub trait CommandOutput<R> {
-    /// Takes the next packet, and appends what it adds to the lines for standard output.
+    /// Takes the next packet, and appends its lines for standard output to `text`.
     fn take(
         &mut self,
         rt: &R,
@@ -16,11 +16,11 @@ pub trait CommandOutput<R> {
         text: &mut String,
     ) -> Result<(), Exit>;
 
-    /// Writes what there is so far to files of its own, before a wait for more packets or the words of a fault.
+    /// Flushes the files that the output writes, before the program waits for more packets or prints a fault.
     fn settle(&mut self, _rt: &R) -> Result<(), Exit> {
         Ok(())
     }
 
-    /// Prints or writes what there is at the end of the run.
+    /// Prints or writes the rest of the output at the end of the run.
     fn end(self, rt: &R, page: &mut Page, ending: &EndedRun<'_>) -> Result<(), Exit>;
 }

@@ -1,4 +1,4 @@
-//! A run of which the packets are counted.
+//! A run that counts its packets.
 
 use crate::loss_counts::LossCounts;
 use crate::plain_run::PlainRun;
@@ -8,7 +8,7 @@ use napt_records::OutcomeCounts;
 use napt_sequential::{Input, Outcome, RunFault};
 use std::alloc::{AllocError, Global};
 
-/// A run after some packets, with what became of them.
+/// A run after some packets, with the counts of their outcomes.
 #[derive(Drop)]
 pub struct CountedRun<'a> {
     run: PlainRun<'a>,
@@ -17,7 +17,7 @@ pub struct CountedRun<'a> {
 }
 
 impl<'a> CountedRun<'a> {
-    /// Before the first packet.
+    /// Begins the run, before its first packet. Fails only if memory is refused.
     pub fn begin(alloc: Global, start: &RunStart<'a>) -> Result<CountedRun<'a>, AllocError> {
         Ok(CountedRun {
             run: start.plain_run(alloc)?,
@@ -30,7 +30,7 @@ impl<'a> CountedRun<'a> {
         self.run.config()
     }
 
-    /// Passes the next packet through the run, and tells what becomes of it.
+    /// Passes the next packet through the run, and returns its outcome.
     pub fn step(&mut self, alloc: Global, input: &Input) -> Result<Outcome, RunFault> {
         let outcome = self.run.step(alloc, input)?;
         self.counts.count(&outcome);

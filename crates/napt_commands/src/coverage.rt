@@ -1,4 +1,4 @@
-//! How much captures show: what figures of a run need and captures may lack.
+//! Whether captures contain what the figures of a run need.
 
 use napt_account::{LogEntry, LogStep};
 use napt_sequential::{Input, Outcome};
@@ -6,12 +6,12 @@ use napt_wire::{Cause, Side};
 
 const SECOND: u64 = 1_000_000_000;
 
-/// What captures hold, and how many bindings of a run end in them. Redirects do not count.
+/// The packets of the captures, and how many bindings were made and ended in them. Redirects do not count.
 #[derive(Clone, Copy, Default)]
 pub struct Coverage {
     from_inside: u64,
     from_outside: u64,
-    /// Packets that are shorter than they say.
+    /// Packets with fewer bytes than their headers say.
     truncated: u64,
     made: u64,
     ended: u64,
@@ -23,7 +23,7 @@ pub struct Coverage {
 }
 
 impl Coverage {
-    /// Takes the next packet, and what it did.
+    /// Counts the next packet, and what it did to the bindings.
     pub fn take(&mut self, input: &Input, step: &LogStep) {
         let many = match input.side {
             Side::Inside => &mut self.from_inside,
@@ -33,18 +33,18 @@ impl Coverage {
         if let Outcome::Dropped(Cause::Truncated) = &step.outcome {
             self.truncated = self.truncated.saturating_add(1);
         }
-        self.made = self.made.saturating_add(step.made.len() as u64);
-        self.ended = self.ended.saturating_add(step.ended.len() as u64);
-        self.end(&step.ended);
+        self.made = self.made.saturating_add(step.part.made.len() as u64);
+        self.ended = self.ended.saturating_add(step.part.ended.len() as u64);
+        self.end(&step.part.ended);
         self.first = self.first.or(Some(input.clock));
         self.last = self.last.max(input.clock);
     }
 
-    /// Reports what the captures lack, whatever the configuration is.
+    /// Prints what the captures lack under any configuration.
     pub fn tell<R: Eprint>(self, rt: &R) {
         if self.from_inside == 0 {
             let _ = eprintln!(rt;
-                "explain: no packet comes from inside: figures of bindings say nothing"
+                "explain: no packet comes from inside: figures of bindings mean nothing"
             );
         } else if self.from_outside == 0 {
             let _ = eprintln!(rt;
@@ -60,7 +60,7 @@ impl Coverage {
         }
     }
 
-    /// Takes bindings that end, or would if no more packets came.
+    /// Takes bindings that have ended, or that would end if no more packets came.
     fn end(&mut self, entries: &[LogEntry]) {
         for LogEntry { entry, .. } in entries {
             let end = u64::try_from(entry.end.unwrap_or(0)).unwrap_or(u64::MAX);
@@ -68,8 +68,8 @@ impl Coverage {
         }
     }
 
-    /// Reports that half of the bindings had not ended at the end, at which these live, or that the captures are shorter
-    /// than a timer.
+    /// Takes the bindings that are live at the end, and prints a warning if more than half of all bindings are, or if
+    /// the captures span less time than the longest time to an end.
     pub fn tell_living<R: Eprint>(mut self, rt: &R, entries: &[LogEntry]) {
         self.end(entries);
         let (living, made) = (self.made.saturating_sub(self.ended), self.made);
@@ -84,7 +84,7 @@ impl Coverage {
                 "explain: {living} of {made} bindings have not ended when the captures do, after {span} s: more at once may come"
             ),
             false => eprintln!(rt;
-                "explain: the captures span {span} s, less than the {longest} s that a binding lives behind its last packet: \
+                "explain: the captures span {span} s, less than the {longest} s that a binding lives after its last packet: \
 more at once may come"
             ),
         };

@@ -1,4 +1,4 @@
-//! Why the program exits with a status other than 0.
+//! The reasons for an exit status other than 0.
 
 use napt_program::{MEMORY, Stop, stop_status};
 use napt_records::Fault;
@@ -7,30 +7,30 @@ use std::alloc::{AllocError, AllocFailed};
 use std::io;
 use std::io::ErrorKind;
 
-/// Why the program stops.
+/// The reason why the program stops.
 #[derive(Drop)]
 pub enum Exit {
-    /// As `napt` would stop, for a reason that was already printed.
+    /// A stop of `napt` whose reason has already been printed.
     Told(Stop),
-    /// As `napt` would stop, for the reason in its fault line.
+    /// A stop of `napt` whose fault line is to be printed.
     As(Stop),
     /// Standard output was closed at startup.
     NoOutput,
     /// Standard output cannot be written.
     Output(io::Error),
-    /// Some packets end differently under the other configuration.
+    /// Some packets have another outcome under the other configuration.
     Differ,
-    /// Nobody had the endpoint asked about.
+    /// Nobody had the endpoint in question.
     Nobody,
-    /// The captures are of a gateway that had other numbers, which was already printed.
+    /// The gateway of the captures used other numbers, which has already been printed.
     Others,
-    /// A saved log is refused, for a reason that was already printed.
+    /// A saved log is refused, and the reason has already been printed.
     Log,
 }
 
 impl Exit {
-    /// The exit status: that of `napt`; 6 if standard output fails, as for a file; 4 if a saved log is refused, as for a
-    /// capture; 7 if captures are of a gateway with other numbers; 1 if packets differ, or if nobody had an endpoint asked about.
+    /// Returns the status of `napt`; 6 if standard output fails, as for a file; 4 if a saved log is refused, as for a
+    /// capture; 7 if the captured gateway used other numbers; 1 if packets differ or nobody had the endpoint.
     pub fn status(&self) -> u8 {
         match self {
             Exit::Told(stop) | Exit::As(stop) => stop_status(stop),
@@ -41,12 +41,12 @@ impl Exit {
         }
     }
 
-    /// Prints the reason, unless it was already printed, or is that nobody reads on.
+    /// Prints the reason, unless it has been printed already or standard output was a closed pipe.
     pub fn print<R: Eprint>(&self, rt: &R) {
         let _ = match self {
             Exit::As(stop) => eprintln!(rt; "explain: {stop}"),
             Exit::NoOutput => eprintln!(rt; "explain: standard output is closed"),
-            // as of a program that the pipe's end stops
+            // A program whose output pipe is closed ends without a message.
             Exit::Output(error) if error.kind() == ErrorKind::BrokenPipe => Ok(()),
             Exit::Output(error) => eprintln!(rt; "explain: standard output: {error}"),
             _ => Ok(()),

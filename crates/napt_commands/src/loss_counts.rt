@@ -1,4 +1,4 @@
-//! What becomes of the packets from outside, counted, to see whether the captures and the configuration belong together.
+//! Counts of dropped packets from outside, which show whether the captures and the configuration belong together.
 
 ghost use Rattle.std.specs.Prelude.{◌≡◌, ◌+◌, ◌-◌, ◌/◌, ◌^◌, ◌<◌, ◌↔◌, min, true};
 
@@ -7,25 +7,33 @@ use napt_sequential::{Input, Outcome};
 use napt_wire::{Cause, Side};
 use std::alloc::{AllocError, Global};
 
-/// How many packets came from outside, and how many of them were dropped for some causes.
+/// How many packets came from each side, and how many of those from outside were dropped for some causes.
 #[derive(Drop)]
 pub struct LossCounts {
     pub all: u64,
-    /// Their endpoint has no live binding.
+    /// How many packets came from inside, and how many of them from an inside address.
+    pub inside: u64,
+    pub from_hosts: u64,
+    /// How many packets from inside got no binding, for the quota or for lack of a free number.
+    pub refused: u64,
+    /// Packets for an endpoint without a live binding.
     pub no_binding: u64,
-    /// They are not for an address of the gateway.
+    /// Packets for an address that is not the gateway's.
     pub not_ours: u64,
-    /// Their source is an inside address.
+    /// Packets whose source is an inside address.
     pub from_inside: u64,
-    /// Their source is an address of the pool: a count for each, in the order of the pool.
+    /// Packets whose source is an address of the pool: a count for each address, in the order of the pool.
     pub from_pool: Vec<u64>,
 }
 
 impl LossCounts {
-    /// Those of no packets.
+    /// Returns the counts before the first packet, all 0.
     pub fn new(alloc: Global, config: &Config) -> Result<LossCounts, AllocError> {
         Ok(LossCounts {
             all: 0,
+            inside: 0,
+            from_hosts: 0,
+            refused: 0,
             no_binding: 0,
             not_ours: 0,
             from_inside: 0,
@@ -33,9 +41,16 @@ impl LossCounts {
         })
     }
 
-    /// Takes the next packet.
+    /// Counts the next packet.
     pub fn take(&mut self, config: &Config, input: &Input, outcome: &Outcome) {
         if input.side == Side::Inside {
+            self.inside = self.inside.saturating_add(1);
+            if let SourceKind::Inside = SourceKind::of(config, &input.bytes) {
+                self.from_hosts = self.from_hosts.saturating_add(1);
+            }
+            if let Outcome::Dropped(Cause::OverQuota | Cause::NoPort) = outcome {
+                self.refused = self.refused.saturating_add(1);
+            }
             return;
         }
         self.all = self.all.saturating_add(1);
@@ -57,7 +72,7 @@ impl LossCounts {
         }
     }
 
-    /// How many found no binding, or were not for the gateway.
+    /// The number of packets that found no binding or were not for the gateway.
     pub fn unmet(&self) -> u64
         ensures { result ≡ min (self.now.no_binding + self.now.not_ours) (2 ^ 64 - 1) }
     {
@@ -77,6 +92,11 @@ impl LossCounts {
         self.no_binding > self.all / 5 && self.no_binding > 1
     }
 
+    /// Whether no packet from inside comes from an inside address, and more than half of those from outside do.
+    pub fn are_swapped(&self) -> bool {
+        self.inside > 0 && self.from_hosts == 0 && self.from_inside > self.all / 2
+    }
+
     /// Whether more than half were not for the gateway.
     pub fn is_half_not_ours(&self) -> bool
         ensures { (result ≡ true) ↔ (self.now.all / 2 < self.now.not_ours) }
@@ -85,19 +105,19 @@ impl LossCounts {
     }
 }
 
-/// Where a packet comes from, by its source address.
+/// The origin of a packet, by its source address.
 #[derive(Clone, Copy)]
 pub enum SourceKind {
     /// An inside address.
     Inside,
     /// The address at this index of the pool.
     Pool(u32),
-    /// Any other.
+    /// Any other address.
     Remote,
 }
 
 impl SourceKind {
-    /// That of the datagram that these bytes begin.
+    /// Returns the origin of the datagram that begins with these bytes.
     pub fn of(config: &Config, bytes: &[u8]) -> SourceKind {
         let Some(source) = source_of(bytes) else {
             return SourceKind::Remote;
@@ -112,17 +132,17 @@ impl SourceKind {
     }
 }
 
-/// The source in an IPv4 header.
+/// Returns the source address of an IPv4 header, or `None` if the bytes end before it does.
 pub fn source_of(bytes: &[u8]) -> Option<u32> {
     address_at(bytes, 12)
 }
 
-/// The destination in an IPv4 header.
+/// Returns the destination address of an IPv4 header, or `None` if the bytes end before it does.
 pub fn destination_of(bytes: &[u8]) -> Option<u32> {
     address_at(bytes, 16)
 }
 
-/// The address at an offset, if there are enough bytes.
+/// Returns the address at an offset, if there are enough bytes.
 fn address_at(bytes: &[u8], at: usize) -> Option<u32> {
     let rest = bytes.get(at..)?;
     let four = rest.first_chunk::<4>()?;

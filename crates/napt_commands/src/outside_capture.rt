@@ -1,20 +1,20 @@
-//! What the outside capture holds: packets as the gateway got them, or replies that follow the run.
+//! The kinds of outside capture: packets as the gateway received them, or replies that follow the run.
 
 use napt_config::Config;
 use napt_sequential::{Input, RunFault, followed};
 use std::alloc::{AllocError, Global};
 
-/// What the outside capture holds.
+/// What the outside capture contains.
 #[derive(Clone, Copy, PartialEq, Eq)]
 pub enum OutsideCapture {
-    /// Packets for external endpoints, as the gateway got them.
+    /// Packets for external endpoints, as the gateway received them.
     Packets,
-    /// Packets for inside endpoints, as inside hosts got them: they follow the run.
+    /// Packets for inside endpoints, as inside hosts received them. They follow the run.
     Replies,
 }
 
 impl OutsideCapture {
-    /// The name of its option, without its dashes.
+    /// The name of the capture's option, without its dashes.
     pub fn name(self) -> &'static str {
         match self {
             OutsideCapture::Packets => "outside",
@@ -22,7 +22,7 @@ impl OutsideCapture {
         }
     }
 
-    /// Its option.
+    /// The option of the capture.
     pub fn option(self) -> &'static str {
         match self {
             OutsideCapture::Packets => "--outside",
@@ -30,12 +30,12 @@ impl OutsideCapture {
         }
     }
 
-    /// Whether its packets follow the run.
+    /// Whether the packets of the capture follow the run.
     pub fn follows(self) -> bool {
         self == OutsideCapture::Replies
     }
 
-    /// The inputs as the run under a configuration gets them: replies follow it, and other packets stay as they are.
+    /// Returns the inputs of the run under a configuration: replies follow it, and other packets stay as they are.
     pub fn inputs_under(
         self,
         alloc: Global,
@@ -49,7 +49,7 @@ impl OutsideCapture {
     }
 }
 
-/// The same inputs once more.
+/// Returns a copy of the inputs.
 pub fn copied(alloc: Global, inputs: &[Input]) -> Result<Vec<Input>, AllocError> {
     let mut copies = Vec::new(alloc);
     for input in inputs {

@@ -1,12 +1,12 @@
-//! Buffers lines for standard output.
+//! A buffer of lines for standard output.
 
 use crate::exit::Exit;
 use std::alloc::Global;
 
-/// How many bytes are collected before they are written.
+/// The size in bytes from which on the buffer is written.
 const BUFFERED: usize = 65_536;
 
-/// The lines not written yet.
+/// The lines that have not been written yet.
 #[derive(Drop)]
 pub struct Page {
     pub text: String,
@@ -19,7 +19,7 @@ impl Page {
         }
     }
 
-    /// Writes the lines if there are enough of them.
+    /// Writes the lines if they have at least `BUFFERED` bytes.
     pub fn turn<R: Print>(&mut self, rt: &R) -> Result<(), Exit> {
         if self.text.len() < BUFFERED {
             return Ok(());

@@ -1,4 +1,4 @@
-//! A run of which only the outcomes are wanted.
+//! A run of which only the outcomes are needed.
 
 ghost use Rattle.std.specs.Prelude.{◌≡◌, ◌++◌, [], ◌∷◌, OnOk, IfOk, false};
 ghost use Rattle.napt_rules.specs.Prelude.{TakesState, with_redirects};
@@ -11,14 +11,14 @@ use napt_sequential::{Input, Outcome, RunFault, SequentialRun};
 use std::alloc::{AllocError, Global};
 use std::marker::Model;
 
-/// A run under a configuration after some packets, which keeps its bindings and no log.
+/// A run under a configuration after some packets. It has bindings, but no log.
 #[derive(Drop)]
 pub struct PlainRun<'a> {
     config: &'a Config,
     run: SequentialRun,
-    /// The state from which it goes on. It takes no memory: only proofs read it.
+    /// The state from which the run goes on. It takes no memory: only proofs read it.
     begun: Log<u64, State>,
-    /// The packets that it took, likewise.
+    /// The packets that the run has taken. They take no memory: only proofs read them.
     past: Log<u64, Input>,
     /// Whether a step failed. From then on the run does not go on.
     is_stopped: bool,
@@ -26,7 +26,7 @@ pub struct PlainRun<'a> {
 
 impl<'a> Model for PlainRun<'a> {
     ghost use Rattle.std.specs.Prelude.{◌≡◌, List, false};
-    ghost use Rattle.napt_account.specs.{TrackedLogs.{taken_in}, TrackedRuns.{begun_in}};
+    ghost use Rattle.napt_account.specs.{LogBuilders.{taken_in}, LoggedRuns.{state_begun}};
     ghost use Rattle.napt_commands.specs.PlainRuns.{PlainRunModel};
     ghost use Rattle.napt_sequential.specs.SequentialRuns.{SequentialRunInvariant};
 
@@ -34,18 +34,18 @@ impl<'a> Model for PlainRun<'a> {
 
     ghost view = { λ it. record {
       rules = it.config.now;
-      state = begun_in it.config.now it.begun.items;
+      state = state_begun it.config.now it.begun.items;
       inputs = taken_in it.past.items;
       is_stopped = it.is_stopped;
     } };
 
     ghost invariant = { λ it. it.is_stopped ≡ false
-        → SequentialRunInvariant it.config.now (begun_in it.config.now it.begun.items)
+        → SequentialRunInvariant it.config.now (state_begun it.config.now it.begun.items)
         (taken_in it.past.items) it.run };
 }
 
 impl<'a> PlainRun<'a> {
-    /// The run from a state on, before the first packet. Fails only if memory is refused.
+    /// Begins the run from a state, before its first packet. Fails only if memory is refused.
     pub fn resume(
         alloc: Global,
         config: &'a Config,
@@ -75,8 +75,8 @@ impl<'a> PlainRun<'a> {
         self.config
     }
 
-    /// Passes the next packet through the run, and tells what becomes of it: the last outcome of the sequential run over
-    /// all packets so far. After a fault each later step fails with `RunFault::Memory`.
+    /// Passes the next packet through the run, and returns the last outcome of the sequential run over all packets so
+    /// far. After a fault each later step fails with `RunFault::Memory`.
     pub fn step(&mut self, alloc: Global, input: &Input) -> Result<Outcome, RunFault>
         ensures tells { self.old.is_stopped ≡ false →
             IfOk result (IsOutcome self.old input.now) }

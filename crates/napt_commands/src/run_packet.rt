@@ -1,4 +1,4 @@
-//! A packet of a run as it comes by, and how a run ends.
+//! A packet of a run, and the end of a run.
 
 use crate::exit::Exit;
 use crate::loss_counts::LossCounts;
@@ -8,29 +8,29 @@ use napt_records::CutFlags;
 use napt_rules::Row;
 use napt_sequential::Input;
 
-/// A packet of a run as it comes by, and what it did.
+/// A packet of a run, and what the run did with it.
 #[derive(Clone, Copy)]
 pub struct RunPacket<'a> {
-    /// From 1.
+    /// The number of the packet, from 1.
     pub number: u64,
     pub input: &'a Input,
     pub step: &'a LogStep,
 }
 
-/// How a run under a configuration ended.
+/// The end of a run under a configuration.
 #[derive(Drop)]
 pub struct EndedRun<'a> {
     pub config: &'a Config,
-    /// How many packets there were.
+    /// The number of packets.
     pub packets: u64,
-    /// The time from which on what the run did is known, in ns.
+    /// The clock of the state from which the run went on, in ns, or 0.
     pub first: u64,
-    /// The latest time of a packet, in ns, or that from which on it is known.
+    /// The latest time of a packet, in ns, or `first` if there was none.
     pub last: u64,
     /// How far packets step back in time, in ns.
     pub later: u64,
     pub cuts: CutFlags,
-    /// What became of the packets from outside.
+    /// The counts of dropped packets from outside.
     pub losses: LossCounts,
     /// Whether those that found no binding, or were not for the gateway, seem to be answers.
     pub are_answers: bool,
@@ -45,13 +45,13 @@ pub trait Consumer<R> {
     /// Takes the next packet, by its number, from 1.
     fn take(&mut self, rt: &R, number: u64, input: &Input) -> Result<(), Exit>;
 
-    /// Writes what was told so far, before a wait for more packets or the words of a fault.
+    /// Flushes the output so far, before the program waits for more packets or prints a fault.
     fn settle(&mut self, _rt: &R) -> Result<(), Exit> {
         Ok(())
     }
 }
 
-/// Hands packets that are kept to a consumer, one after another.
+/// Passes packets in memory to a consumer, one after another.
 pub fn take_all<R, C: Consumer<R>>(rt: &R, inputs: &[Input], consumer: &mut C) -> Result<(), Exit> {
     let mut number = 0u64;
     for input in inputs {

@@ -1,10 +1,10 @@
-//! The entries of bindings by their external endpoints.
+//! The entries of bindings, sorted by their external endpoints.
 
 use napt_account::Entry;
 use napt_wire::{Endpoint, Protocol};
 use std::alloc::AllocError;
 
-/// Entries in the order of their external endpoints; those of one are in the order in which they were given.
+/// Entries sorted by their external endpoints. Entries of one endpoint stay in the order in which they were given.
 #[derive(Drop)]
 pub struct SortedEntries {
     entries: Vec<Entry>,
@@ -13,12 +13,12 @@ pub struct SortedEntries {
 impl SortedEntries {
     pub fn of(entries: Vec<Entry>) -> Result<SortedEntries, AllocError> {
         let mut entries = entries;
-        // the sort is stable: those of one endpoint keep their order
+        // The sort is stable: entries of one endpoint keep their order.
         entries.sort_by_key(|entry| place_of(entry.binding.external))?;
         Ok(SortedEntries { entries })
     }
 
-    /// Those of an external endpoint, of all protocols.
+    /// Returns the entries of an external endpoint, of all protocols.
     pub fn at(&self, endpoint: Endpoint) -> &[Entry] {
         let place = place_of(endpoint);
         let begin = self
@@ -30,7 +30,7 @@ impl SortedEntries {
         self.entries.get(begin..end).unwrap_or(&[])
     }
 
-    /// The first of an external endpoint and a protocol.
+    /// Returns the first entry of an external endpoint and a protocol.
     pub fn entry_of(&self, protocol: Protocol, external: Endpoint) -> Option<&Entry> {
         self.at(external)
             .iter()
@@ -38,7 +38,7 @@ impl SortedEntries {
     }
 }
 
-/// The place of an endpoint among all.
+/// The key by which endpoints are sorted.
 fn place_of(endpoint: Endpoint) -> (u32, u16) {
     (endpoint.address, endpoint.number)
 }

@@ -1,27 +1,40 @@
-//! What standard error says of a run whose captures and configuration seem not to belong together.
+//! Warnings about a run whose captures and configuration seem not to belong together.
 
 use crate::loss_counts::LossCounts;
 use crate::outside_capture::OutsideCapture;
 
-/// Prints that many packets from outside were dropped, what that says of the captures, and what to do. `under` names the
-/// configuration, where there are several.
+/// Prints that the captures are swapped, or that many packets from outside were dropped, what that says of the captures,
+/// and what to do. `under` names the configuration, where there are several.
 pub fn print_warning<R: Eprint>(
     rt: &R,
     outside: OutsideCapture,
     under: Option<&str>,
     losses: &LossCounts,
 ) {
-    let tell = match outside {
+    let is_swapped = losses.are_swapped();
+    let is_lost = match outside {
         OutsideCapture::Packets => losses.is_fifth_unmet(),
         OutsideCapture::Replies => losses.is_half_not_ours() || losses.is_fifth_unbound(),
     };
-    if !tell {
+    if !is_swapped && !is_lost {
         return;
     }
     let _ = match under {
         Some(path) => eprint!(rt; "explain: under {path}: "),
         None => eprint!(rt; "explain: "),
     };
+    if is_swapped {
+        let (all, name) = (losses.all, outside.option());
+        let _ = eprintln!(rt;
+            "no packet of --inside comes from an inside host, and {} of {all} of {name} do: are the captures swapped?",
+            losses.from_inside
+        );
+    } else {
+        print_losses(rt, outside, losses);
+    }
+}
+
+fn print_losses<R: Eprint>(rt: &R, outside: OutsideCapture, losses: &LossCounts) {
     let (all, unmet) = (losses.all, losses.unmet());
     let _ = match outside {
         OutsideCapture::Packets => eprintln!(rt;
@@ -32,6 +45,10 @@ pub fn print_warning<R: Eprint>(
         OutsideCapture::Replies if losses.is_half_not_ours() => eprintln!(rt;
             "{} of {all} replies are not to an inside host: is this an outside capture? (--outside)",
             losses.not_ours
+        ),
+        OutsideCapture::Replies if losses.refused > 0 => eprintln!(rt;
+            "{} of {all} replies find no binding: {} packets from inside got none, by the quota or for lack of a free number",
+            losses.no_binding, losses.refused
         ),
         OutsideCapture::Replies => eprintln!(rt;
             "{} of {all} replies find no binding: are they of the same time and hosts as the inside capture?",

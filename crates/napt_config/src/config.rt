@@ -4,8 +4,8 @@ ghost use Rattle.toml.specs.{Parse.parse_document, View.table_view};
 ghost use Rattle.napt_config.specs.{Fault.{MakePost, FirstFaultComesFirst}, Configured.{document_of, read_first}, declared.fault.ConfigFault.TheVariants.NotToml};
 
 use crate::{
-    ConfigFault, Filter, MappingRefresh, NumberAssignment, PortBlock, Prefix, Redirect, Timers,
-    blocks, hosts, keys, number_assignment, pairing, reading, redirects,
+    ConfigFault, ConfigPlace, Filter, MappingRefresh, NumberAssignment, PortBlock, Prefix,
+    Redirect, Timers, blocks, hosts, keys, number_assignment, pairing, reading, redirects,
 };
 use std::alloc::{AllocError, Global};
 use std::collections::BTreeMap;
@@ -60,37 +60,60 @@ impl Config {
     /// Reads the text of a configuration. Returns the configuration, or the fault of the first rule
     /// that the text breaks, or `ConfigFault::Memory` if memory runs out before that. A text that
     /// is not UTF-8 is refused before any memory is allocated.
-    #[tactic(auto, unfolding(crate::specs::Configured::configuration_of))]
     pub fn read(alloc: Global, text: &[u8]) -> Result<Config, ConfigFault>
         ensures exact { MakePost (λ config. config) result (configuration_of text.now) }
         ensures encoded { is_utf8 text.now ≡ false → result ≡ Err NotToml }
         ensures kept { IfOk result RulesInvariant }
     {
-        let table = document(alloc, text)?;
-        Config::from_table(alloc, &table)
+        Config::read_at(alloc, text, &mut ConfigPlace::new())
+    }
+
+    /// Does what `read` does. After a fault, the place is that of the rule which the text breaks.
+    #[tactic(auto, unfolding(crate::specs::Configured::configuration_of))]
+    pub fn read_at(
+        alloc: Global,
+        text: &[u8],
+        place: &mut ConfigPlace,
+    ) -> Result<Config, ConfigFault>
+        ensures exact { MakePost (λ config. config) result (configuration_of text.now) }
+        ensures encoded { is_utf8 text.now ≡ false → result ≡ Err NotToml }
+        ensures kept { IfOk result RulesInvariant }
+    {
+        let table = document(alloc, text, place)?;
+        match Config::from_table(alloc, &table, place) {
+            Ok(config) => Ok(config),
+            Err(fault) => {
+                place.find_line(text);
+                Err(fault)
+            }
+        }
     }
 
     /// Returns the configuration of a table, or the fault of the first rule that it breaks.
     #[tactic(auto, unfolding(crate::specs::Configured::configured, crate::specs::Configured::read_first))]
-    fn from_table(alloc: Global, table: &Table) -> Result<Config, ConfigFault>
+    fn from_table(
+        alloc: Global,
+        table: &Table,
+        place: &mut ConfigPlace,
+    ) -> Result<Config, ConfigFault>
         ensures exact { MakePost (λ config. config) result (configured (table_view table.now)) }
         ensures first { FirstFaultComesFirst (read_first (table_view table.now)) result }
         ensures kept { IfOk result RulesInvariant }
     {
-        if !keys::knows_all_keys(table) {
+        if !keys::knows_all_keys(alloc, table, place) {
             return Err(ConfigFault::UnknownKey);
         }
-        let pool = reading::pool(alloc, table)?;
-        let inside = reading::inside(alloc, table, &pool)?;
-        let filter = reading::filter(table)?;
-        let refresh = reading::refresh(table)?;
-        let choosing = number_assignment::choosing(table)?;
-        let timers = reading::timers(table)?;
-        let ring = reading::ring(table)?;
-        let quota = reading::quota(table)?;
-        let block = reading::block(table, &pool, &inside, timers.hold)?;
-        let pairs = reading::pairs(alloc, table, &pool, &inside)?;
-        let redirects = redirects::redirects(alloc, table, block, &inside, &pool, &pairs)?;
+        let pool = reading::pool(alloc, table, place)?;
+        let inside = reading::inside(alloc, table, &pool, place)?;
+        let filter = reading::filter(table, place)?;
+        let refresh = reading::refresh(table, place)?;
+        let choosing = number_assignment::choosing(table, place)?;
+        let timers = reading::timers(table, place)?;
+        let ring = reading::ring(table, place)?;
+        let quota = reading::quota(table, place)?;
+        let block = reading::block(table, &pool, &inside, timers.hold, place)?;
+        let pairs = reading::pairs(alloc, table, &pool, &inside, place)?;
+        let redirects = redirects::redirects(alloc, table, block, &inside, &pool, &pairs, place)?;
         Ok(Config {
             pool,
             inside,
@@ -186,6 +209,14 @@ impl Config {
     {
         let place = place_in(&self.pool, address)?;
         Some(place as u32)
+    }
+
+    /// Returns the inside prefixes, of which there are 1 to 16.
+    pub fn inside(&self) -> &[Prefix]
+        ensures prefixes { result.now ≡ self.now.inside }
+        ensures kept { RulesInvariant self.now }
+    {
+        self.inside.as_slice()
     }
 
     /// Returns the pool: 1 to 16 external addresses, as numbers.
@@ -288,24 +319,27 @@ fn place_in(pool: &[u32], address: u32) -> Option<usize>
 }
 
 /// Parses a TOML text. Fails with `NotToml`, or with `Memory` if memory runs out.
-fn table_of(alloc: Global, text: &str) -> Result<Table, ConfigFault>
+fn table_of(alloc: Global, text: &str, place: &mut ConfigPlace) -> Result<Table, ConfigFault>
     ensures { MakePost table_view result (ok_or (parse_document text.now) NotToml) }
 {
     match toml::table_from_str(alloc, text) {
         Ok(table) => Ok(table),
         Err(error) if error.is_memory() => Err(ConfigFault::Memory),
-        Err(_) => Err(ConfigFault::NotToml),
+        Err(error) => {
+            place.at_syntax(alloc, text, &error);
+            Err(ConfigFault::NotToml)
+        }
     }
 }
 
 /// Parses a text that must be TOML in UTF-8. Fails with `NotToml` or `Memory`.
 #[tactic(auto, unfolding(crate::specs::Configured::document_of))]
-fn document(alloc: Global, text: &[u8]) -> Result<Table, ConfigFault>
+fn document(alloc: Global, text: &[u8], place: &mut ConfigPlace) -> Result<Table, ConfigFault>
     ensures exact { MakePost table_view result (ok_or (document_of text.now) NotToml) }
     ensures encoded { is_utf8 text.now ≡ false → result ≡ Err NotToml }
 {
     match str::from_utf8(text) {
-        Ok(text) => table_of(alloc, text),
+        Ok(text) => table_of(alloc, text, place),
         Err(_) => Err(ConfigFault::NotToml),
     }
 }

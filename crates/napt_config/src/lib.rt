@@ -1,7 +1,8 @@
 //! The configuration of the translator: it is read from TOML and checked rule by rule.
 //!
 //! `Config::read` returns the configuration of a text, or the fault of the first rule that the text
-//! breaks. Every `Config` satisfies the rules for as long as it lives.
+//! breaks, and `Config::read_at` also the line and the key of that rule. Every `Config` satisfies the
+//! rules for as long as it lives.
 #![tactic(auto)]
 
 mod address;
@@ -12,6 +13,7 @@ mod hosts;
 mod keys;
 mod number_assignment;
 mod pairing;
+mod place;
 mod prefix;
 mod reading;
 mod redirects;
@@ -23,6 +25,7 @@ mod values;
 pub use address::Address;
 pub use config::Config;
 pub use fault::ConfigFault;
+pub use place::ConfigPlace;
 pub use prefix::Prefix;
 pub use settings::{Filter, MappingRefresh, NumberAssignment, PortBlock, Redirect, Seed, Timers};
 pub use transport_address::TransportAddress;

@@ -5,14 +5,15 @@ ghost use Rattle.napt_config.specs.Fault.{ReadPost};
 ghost use Rattle.napt_config.specs.Configured.{keeps_parity_in, is_random_in, seed_of, seed_at, seed_in, choosing_in};
 
 use crate::values::{required, text_in, value_at};
-use crate::{ConfigFault, NumberAssignment, Seed};
+use crate::{ConfigFault, ConfigPlace, NumberAssignment, Seed};
 use hex::FromHex;
 use toml::{Table, Value};
 
 #[tactic(auto, unfolding(crate::specs::Configured::keeps_parity_in, crate::specs::Configured::word_at_key))]
-fn keeps_parity(table: &Table) -> Result<bool, ConfigFault>
+fn keeps_parity(table: &Table, place: &mut ConfigPlace) -> Result<bool, ConfigFault>
     ensures { ReadPost (λ keeps. keeps) result (keeps_parity_in (table_view table.now)) }
 {
+    place.at_key("parity");
     let Some(value) = value_at(table, "parity") else {
         return Ok(true);
     };
@@ -24,9 +25,10 @@ fn keeps_parity(table: &Table) -> Result<bool, ConfigFault>
 }
 
 #[tactic(auto, unfolding(crate::specs::Configured::is_random_in, crate::specs::Configured::word_at_key))]
-fn is_random(table: &Table) -> Result<bool, ConfigFault>
+fn is_random(table: &Table, place: &mut ConfigPlace) -> Result<bool, ConfigFault>
     ensures { ReadPost (λ random. random) result (is_random_in (table_view table.now)) }
 {
+    place.at_key("numbers");
     let Some(value) = value_at(table, "numbers") else {
         return Ok(false);
     };
@@ -57,9 +59,14 @@ fn seed_at(value: &Value) -> Result<Option<Seed>, ConfigFault>
 
 /// Reads the seed, which random numbers require and other numbers must not have.
 #[tactic(auto, unfolding(crate::specs::Configured::seed_in))]
-fn seed(table: &Table, is_random: bool) -> Result<Option<Seed>, ConfigFault>
+fn seed(
+    table: &Table,
+    is_random: bool,
+    place: &mut ConfigPlace,
+) -> Result<Option<Seed>, ConfigFault>
     ensures { ReadPost (λ seed. seed) result (seed_in is_random (table_view table.now)) }
 {
+    place.at_key("seed");
     if is_random {
         return seed_at(required(table, "seed")?);
     }
@@ -71,11 +78,14 @@ fn seed(table: &Table, is_random: bool) -> Result<Option<Seed>, ConfigFault>
 
 /// Reads how numbers are chosen.
 #[tactic(auto, unfolding(crate::specs::Configured::choosing_in))]
-pub(crate) fn choosing(table: &Table) -> Result<NumberAssignment, ConfigFault>
+pub(crate) fn choosing(
+    table: &Table,
+    place: &mut ConfigPlace,
+) -> Result<NumberAssignment, ConfigFault>
     ensures { ReadPost (λ choosing. choosing) result (choosing_in (table_view table.now)) }
 {
-    let keeps_parity = keeps_parity(table)?;
-    let is_random = is_random(table)?;
-    let seed = seed(table, is_random)?;
+    let keeps_parity = keeps_parity(table, place)?;
+    let is_random = is_random(table, place)?;
+    let seed = seed(table, is_random, place)?;
     Ok(NumberAssignment { keeps_parity, seed })
 }

@@ -5,7 +5,7 @@ ghost use Rattle.napt_config.specs.{Fault.{ReadPost, MakePost, FirstFaultComesFi
 ghost use Rattle.napt_config.specs.Configured.{list_up_to, short_list, with_address, each_in_order, first_in_order, pool_in, with_prefix, prefixes_in, inside_in, filter_in, refresh_in, timer_at, timers_at, idle_timers_in, timers_in, ring_in, quota_in, block_size_at, block_size, block_size_in, address_in, with_pair, pairs_at, pairs_in, optional};
 
 use crate::values::{list_in, number_at, required, table_in, text_in, value_at};
-use crate::{ConfigFault, Filter, MappingRefresh, Prefix, Timers, blocks, text};
+use crate::{ConfigFault, ConfigPlace, Filter, MappingRefresh, Prefix, Timers, blocks, text};
 use std::alloc::Global;
 use std::collections::BTreeMap;
 use toml::{Table, Value};
@@ -76,14 +76,20 @@ fn add_address(pool: &mut Vec<u32>, entry: &Value) -> Result<(), ConfigFault>
 
 /// Reads the pool: 1 to 16 addresses, none of them twice.
 #[tactic(auto, unfolding(crate::specs::Configured::pool_in))]
-pub(crate) fn pool(alloc: Global, table: &Table) -> Result<Vec<u32>, ConfigFault>
+pub(crate) fn pool(
+    alloc: Global,
+    table: &Table,
+    place: &mut ConfigPlace,
+) -> Result<Vec<u32>, ConfigFault>
     ensures exact { MakePost (λ pool. pool.items) result
         (pool_in each_in_order (table_view table.now)) }
     ensures first { FirstFaultComesFirst (pool_in first_in_order (table_view table.now)) result }
 {
+    place.at_key("pool");
     let entries = short_list(table, "pool")?;
     let mut pool = Vec::new(alloc);
     for entry in entries {
+        place.at_next_entry();
         add_address(&mut pool, entry)?;
     }
     Ok(pool)
@@ -104,14 +110,20 @@ fn add_prefix(inside: &mut Vec<Prefix>, entry: &Value) -> Result<(), ConfigFault
 
 /// Reads the prefixes at the key `inside`, of which there must be 1 to 16.
 #[tactic(auto, unfolding(crate::specs::Configured::prefixes_in))]
-fn prefixes(alloc: Global, table: &Table) -> Result<Vec<Prefix>, ConfigFault>
+fn prefixes(
+    alloc: Global,
+    table: &Table,
+    place: &mut ConfigPlace,
+) -> Result<Vec<Prefix>, ConfigFault>
     ensures exact { MakePost (λ inside. inside.items) result
         (prefixes_in each_in_order (table_view table.now)) }
     ensures first { FirstFaultComesFirst (prefixes_in first_in_order (table_view table.now)) result }
 {
+    place.at_key("inside");
     let entries = short_list(table, "inside")?;
     let mut inside = Vec::new(alloc);
     for entry in entries {
+        place.at_next_entry();
         add_prefix(&mut inside, entry)?;
     }
     Ok(inside)
@@ -135,12 +147,18 @@ fn have_any(prefixes: &[Prefix], addresses: &[u32]) -> bool
 
 /// Reads the inside prefixes: 1 to 16, none of which has an address of the pool.
 #[tactic(auto, unfolding(crate::specs::Configured::inside_in))]
-pub(crate) fn inside(alloc: Global, table: &Table, pool: &[u32]) -> Result<Vec<Prefix>, ConfigFault>
+pub(crate) fn inside(
+    alloc: Global,
+    table: &Table,
+    pool: &[u32],
+    place: &mut ConfigPlace,
+) -> Result<Vec<Prefix>, ConfigFault>
     ensures exact { MakePost (λ inside. inside.items) result
         (inside_in pool.now (table_view table.now)) }
     ensures first { FirstFaultComesFirst (prefixes_in first_in_order (table_view table.now)) result }
 {
-    let inside = prefixes(alloc, table)?;
+    let inside = prefixes(alloc, table, place)?;
+    place.at_key("inside");
     if have_any(&inside, pool) {
         return Err(ConfigFault::PoolInside);
     }
@@ -151,9 +169,10 @@ pub(crate) fn inside(alloc: Global, table: &Table, pool: &[u32]) -> Result<Vec<P
 
 /// Reads the filter, which is `Filter::Independent` by default.
 #[tactic(auto, unfolding(crate::specs::Configured::filter_in, crate::specs::Configured::word_at_key))]
-pub(crate) fn filter(table: &Table) -> Result<Filter, ConfigFault>
+pub(crate) fn filter(table: &Table, place: &mut ConfigPlace) -> Result<Filter, ConfigFault>
     ensures { ReadPost (λ filter. filter) result (filter_in (table_view table.now)) }
 {
+    place.at_key("filter");
     let Some(value) = value_at(table, "filter") else {
         return Ok(Filter::Independent);
     };
@@ -167,9 +186,10 @@ pub(crate) fn filter(table: &Table) -> Result<Filter, ConfigFault>
 
 /// Reads which UDP packets refresh a binding; by default, outgoing packets do.
 #[tactic(auto, unfolding(crate::specs::Configured::refresh_in, crate::specs::Configured::word_at_key))]
-pub(crate) fn refresh(table: &Table) -> Result<MappingRefresh, ConfigFault>
+pub(crate) fn refresh(table: &Table, place: &mut ConfigPlace) -> Result<MappingRefresh, ConfigFault>
     ensures { ReadPost (λ refresh. refresh) result (refresh_in (table_view table.now)) }
 {
+    place.at_key("refresh");
     let Some(value) = value_at(table, "refresh") else {
         return Ok(MappingRefresh::Outbound);
     };
@@ -205,13 +225,17 @@ fn timer(table: &Table, key: &str, least: u64, default: u64) -> Result<u64, Conf
 }
 
 #[tactic(auto, unfolding(crate::specs::Configured::timers_at))]
-fn timers_at(value: &Value) -> Result<Timers, ConfigFault>
+fn timers_at(value: &Value, place: &mut ConfigPlace) -> Result<Timers, ConfigFault>
     ensures { ReadPost (λ timers. timers) result (timers_at (view value.now)) }
 {
     let table = table_in(value)?;
+    place.at_field("udp");
     let udp = timer(table, "udp", 120, 300)?;
+    place.at_field("tcp-established");
     let established = timer(table, "tcp-established", 7440, 7440)?;
+    place.at_field("tcp-transitory");
     let transitory = timer(table, "tcp-transitory", 240, 240)?;
+    place.at_field("icmp");
     let icmp = timer(table, "icmp", 60, 60)?;
     Ok(Timers {
         udp,
@@ -224,21 +248,23 @@ fn timers_at(value: &Value) -> Result<Timers, ConfigFault>
 
 /// Reads the idle timers; their hold is 0.
 #[tactic(auto, unfolding(crate::specs::Configured::idle_timers_in))]
-fn idle_timers(table: &Table) -> Result<Timers, ConfigFault>
+fn idle_timers(table: &Table, place: &mut ConfigPlace) -> Result<Timers, ConfigFault>
     ensures { ReadPost (λ timers. timers) result (idle_timers_in (table_view table.now)) }
 {
+    place.at_key("timers");
     match value_at(table, "timers") {
-        Some(value) => timers_at(value),
+        Some(value) => timers_at(value, place),
         None => Ok(Timers::DEFAULT),
     }
 }
 
 /// Reads the idle timers and the hold.
 #[tactic(auto, unfolding(crate::specs::Configured::timers_in))]
-pub(crate) fn timers(table: &Table) -> Result<Timers, ConfigFault>
+pub(crate) fn timers(table: &Table, place: &mut ConfigPlace) -> Result<Timers, ConfigFault>
     ensures { ReadPost (λ timers. timers) result (timers_in (table_view table.now)) }
 {
-    let idle = idle_timers(table)?;
+    let idle = idle_timers(table, place)?;
+    place.at_key("hold");
     let hold = timer(table, "hold", 0, 0)?;
     Ok(Timers { hold, ..idle })
 }
@@ -247,9 +273,10 @@ pub(crate) fn timers(table: &Table) -> Result<Timers, ConfigFault>
 
 /// Reads the number of slots of each ring.
 #[tactic(auto, unfolding(crate::specs::Configured::ring_in))]
-pub(crate) fn ring(table: &Table) -> Result<usize, ConfigFault>
+pub(crate) fn ring(table: &Table, place: &mut ConfigPlace) -> Result<usize, ConfigFault>
     ensures { ReadPost (λ slots. slots) result (ring_in (table_view table.now)) }
 {
+    place.at_key("ring");
     match value_at(table, "ring") {
         Some(value) => Ok(number_at(value, 1, MOST_SLOTS)? as usize),
         None => Ok(DEFAULT_SLOTS),
@@ -260,9 +287,10 @@ pub(crate) fn ring(table: &Table) -> Result<usize, ConfigFault>
 
 /// Reads how many bindings a host may have; `None` if the key is absent.
 #[tactic(auto, unfolding(crate::specs::Configured::quota_in, crate::specs::Configured::quota_at))]
-pub(crate) fn quota(table: &Table) -> Result<Option<u16>, ConfigFault>
+pub(crate) fn quota(table: &Table, place: &mut ConfigPlace) -> Result<Option<u16>, ConfigFault>
     ensures { ReadPost (λ quota. quota) result (quota_in (table_view table.now)) }
 {
+    place.at_key("quota");
     match value_at(table, "quota") {
         Some(value) => Ok(Some(number_at(value, 1, MOST_BINDINGS)? as u16)),
         None => Ok(None),
@@ -320,6 +348,7 @@ pub(crate) fn block(
     pool: &[u32],
     inside: &[Prefix],
     hold: u64,
+    place: &mut ConfigPlace,
 ) -> Result<Option<u16>, ConfigFault>
     requires some { 1 ≤ length pool.now }
     requires few_addresses { length pool.now ≤ 16 }
@@ -327,6 +356,7 @@ pub(crate) fn block(
     ensures { ReadPost (λ block. block) result
         (block_size_in pool.now inside.now hold (table_view table.now)) }
 {
+    place.at_key("block");
     match value_at(table, "block") {
         Some(value) => block_size(table, value, pool, inside, hold),
         None => Ok(None),
@@ -337,9 +367,10 @@ pub(crate) fn block(
 
 /// Reads the address at a required key.
 #[tactic(auto, unfolding(crate::specs::Configured::address_in))]
-fn address_in(table: &Table, key: &str) -> Result<u32, ConfigFault>
+fn address_in(table: &Table, key: &'static str, place: &mut ConfigPlace) -> Result<u32, ConfigFault>
     ensures { ReadPost (λ address. address) result (address_in key.now (table_view table.now)) }
 {
+    place.at_field(key);
     let text = text_in(required(table, key)?)?;
     text::address(text).ok_or(ConfigFault::BadAddress)
 }
@@ -350,6 +381,7 @@ fn add_pair(
     entry: &Value,
     pool: &[u32],
     inside: &[Prefix],
+    place: &mut ConfigPlace,
 ) -> Result<(), ConfigFault>
     ensures exact { MakePost (λ _. pairs.new.entries) result
         (with_pair pool.now inside.now pairs.old.entries (view entry.now)) }
@@ -358,14 +390,15 @@ fn add_pair(
         result }
 {
     let table = table_in(entry)?;
-    let host = address_in(table, "host")?;
+    let host = address_in(table, "host", place)?;
     if !have_address(inside, host) {
         return Err(ConfigFault::NotInside);
     }
-    let external = address_in(table, "external")?;
+    let external = address_in(table, "external", place)?;
     if !pool.contains(&external) {
         return Err(ConfigFault::NotInPool);
     }
+    place.at_entry();
     if pairs.contains_key(&host) {
         return Err(ConfigFault::DoublePair);
     }
@@ -379,6 +412,7 @@ fn pairs_at(
     value: &Value,
     pool: &[u32],
     inside: &[Prefix],
+    place: &mut ConfigPlace,
 ) -> Result<BTreeMap<u32, u32>, ConfigFault>
     ensures exact { MakePost (λ pairs. pairs.entries) result
         (pairs_at each_in_order pool.now inside.now (view value.now)) }
@@ -388,7 +422,8 @@ fn pairs_at(
     let entries = list_up_to(MOST_PAIRS, value)?;
     let mut pairs = BTreeMap::new(alloc);
     for entry in entries {
-        add_pair(&mut pairs, entry, pool, inside)?;
+        place.at_next_entry();
+        add_pair(&mut pairs, entry, pool, inside, place)?;
     }
     Ok(pairs)
 }
@@ -400,6 +435,7 @@ pub(crate) fn pairs(
     table: &Table,
     pool: &[u32],
     inside: &[Prefix],
+    place: &mut ConfigPlace,
 ) -> Result<BTreeMap<u32, u32>, ConfigFault>
     ensures exact { MakePost (λ pairs. pairs.entries) result
         (pairs_in each_in_order pool.now inside.now (table_view table.now)) }
@@ -407,8 +443,9 @@ pub(crate) fn pairs(
         (table_view table.now))
         result }
 {
+    place.at_key("pair");
     match value_at(table, "pair") {
-        Some(value) => pairs_at(alloc, value, pool, inside),
+        Some(value) => pairs_at(alloc, value, pool, inside, place),
         None => Ok(BTreeMap::new(alloc)),
     }
 }

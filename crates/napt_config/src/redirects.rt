@@ -6,7 +6,7 @@ ghost use Rattle.napt_config.specs.Configured.{each_in_order, first_in_order, li
 
 use crate::reading::{have_address, list_up_to};
 use crate::values::{number_at, required, table_in, text_in, value_at};
-use crate::{ConfigFault, Prefix, Redirect, TransportAddress, blocks, pairing};
+use crate::{ConfigFault, ConfigPlace, Prefix, Redirect, TransportAddress, blocks, pairing};
 use std::alloc::Global;
 use std::collections::BTreeMap;
 use toml::{Table, Value};
@@ -16,9 +16,10 @@ const MOST_REDIRECTS: usize = 256;
 
 /// Returns whether the protocol of an entry is TCP; otherwise it is UDP.
 #[tactic(auto, unfolding(crate::specs::Configured::is_tcp_in, crate::specs::Configured::word_at_key))]
-fn is_tcp_in(keys: &Table) -> Result<bool, ConfigFault>
+fn is_tcp_in(keys: &Table, place: &mut ConfigPlace) -> Result<bool, ConfigFault>
     ensures { ReadPost (λ tcp. tcp) result (is_tcp_in (table_view keys.now)) }
 {
+    place.at_field("protocol");
     match text_in(required(keys, "protocol")?)? {
         "tcp" => Ok(true),
         "udp" => Ok(false),
@@ -28,19 +29,25 @@ fn is_tcp_in(keys: &Table) -> Result<bool, ConfigFault>
 
 /// Reads the transport address at a required key.
 #[tactic(auto, unfolding(crate::specs::Configured::transport_address_in))]
-fn transport_address_in(keys: &Table, key: &str) -> Result<TransportAddress, ConfigFault>
+fn transport_address_in(
+    keys: &Table,
+    key: &'static str,
+    place: &mut ConfigPlace,
+) -> Result<TransportAddress, ConfigFault>
     ensures { ReadPost (λ socket. socket) result
         (transport_address_in key.now (table_view keys.now)) }
 {
+    place.at_field(key);
     let text = text_in(required(keys, key)?)?;
     TransportAddress::read(text).ok_or(ConfigFault::BadAddress)
 }
 
 /// Reads the port at a required key, which must not be 0.
 #[tactic(auto, unfolding(crate::specs::Configured::port_in))]
-fn port_in(keys: &Table, key: &str) -> Result<u16, ConfigFault>
+fn port_in(keys: &Table, key: &'static str, place: &mut ConfigPlace) -> Result<u16, ConfigFault>
     ensures { ReadPost (λ port. port) result (port_in key.now (table_view keys.now)) }
 {
+    place.at_field(key);
     Ok(number_at(required(keys, key)?, 1, 65535)? as u16)
 }
 
@@ -68,6 +75,7 @@ fn redirect_in(
     block: Option<u16>,
     inside: &[Prefix],
     addresses: usize,
+    place: &mut ConfigPlace,
 ) -> Result<Redirect, ConfigFault>
     requires some { 1 ≤ addresses }
     requires few { length inside.now ≤ 16 }
@@ -76,12 +84,12 @@ fn redirect_in(
         (redirect_in inside.now (block_in block inside.now addresses) (view entry.now)) }
 {
     let keys = table_in(entry)?;
-    let tcp = is_tcp_in(keys)?;
-    let host = transport_address_in(keys, "inside")?;
+    let tcp = is_tcp_in(keys, place)?;
+    let host = transport_address_in(keys, "inside", place)?;
     if !have_address(inside, host.address()) {
         return Err(ConfigFault::NotInside);
     }
-    let external = port_in(keys, "external")?;
+    let external = port_in(keys, "external", place)?;
     if !may_have(host.address(), external, block, inside, addresses) {
         return Err(ConfigFault::RedirectInBlock);
     }
@@ -169,6 +177,7 @@ fn add_redirect(
     inside: &[Prefix],
     pool: &[u32],
     pairs: &BTreeMap<u32, u32>,
+    place: &mut ConfigPlace,
 ) -> Result<(), ConfigFault>
     requires some { 1 ≤ length pool.now }
     requires few { length inside.now ≤ 16 }
@@ -183,7 +192,8 @@ fn add_redirect(
         (block_in block inside.now (length pool.now)) redirects.old.items
         (view entry.now)) result }
 {
-    let redirect = redirect_in(entry, block, inside, pool.len())?;
+    let redirect = redirect_in(entry, block, inside, pool.len(), place)?;
+    place.at_entry();
     if have_double(redirects, &redirect, block, inside, pool, pairs) {
         return Err(ConfigFault::DoubleRedirect);
     }
@@ -199,6 +209,7 @@ fn redirects_at(
     inside: &[Prefix],
     pool: &[u32],
     pairs: &BTreeMap<u32, u32>,
+    place: &mut ConfigPlace,
 ) -> Result<Vec<Redirect>, ConfigFault>
     requires some { 1 ≤ length pool.now }
     requires few { length inside.now ≤ 16 }
@@ -216,7 +227,8 @@ fn redirects_at(
     let entries = list_up_to(MOST_REDIRECTS, value)?;
     let mut redirects = Vec::new(alloc);
     for entry in entries {
-        add_redirect(&mut redirects, entry, block, inside, pool, pairs)?;
+        place.at_next_entry();
+        add_redirect(&mut redirects, entry, block, inside, pool, pairs, place)?;
     }
     Ok(redirects)
 }
@@ -231,6 +243,7 @@ pub(crate) fn redirects(
     inside: &[Prefix],
     pool: &[u32],
     pairs: &BTreeMap<u32, u32>,
+    place: &mut ConfigPlace,
 ) -> Result<Vec<Redirect>, ConfigFault>
     requires some { 1 ≤ length pool.now }
     requires few { length inside.now ≤ 16 }
@@ -245,8 +258,9 @@ pub(crate) fn redirects(
         (paired_address block inside.now pool.now pairs.now.entries)
         (block_in block inside.now (length pool.now)) (table_view table.now)) result }
 {
+    place.at_key("redirect");
     match value_at(table, "redirect") {
-        Some(value) => redirects_at(alloc, value, block, inside, pool, pairs),
+        Some(value) => redirects_at(alloc, value, block, inside, pool, pairs, place),
         None => Ok(Vec::new(alloc)),
     }
 }

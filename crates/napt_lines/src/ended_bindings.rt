@@ -9,7 +9,7 @@ use std::alloc::AllocError;
 
 /// Appends the line of a binding that expired, aligned with those of packets.
 pub fn add_end(text: &mut String, widths: ColumnWidths, entry: &Entry) -> Result<(), AllocError> {
-    // an end that was reached is a time in 64 bits
+    // The end of an expired binding is a time in 64 bits.
     let at = u64::try_from(entry.end.unwrap_or(0)).unwrap_or(u64::MAX);
     add_spaces(text, widths.number())?;
     text.push_str(" ")?;

@@ -1,4 +1,4 @@
-//! The lines of packets, in the style of tcpdump: what the commands `show` and `compare` of `explain` tell of a run.
+//! The lines of packets, in the style of tcpdump, which the commands `show` and `compare` of `explain` print of a run.
 #![tactic(auto)]
 
 mod column_widths;

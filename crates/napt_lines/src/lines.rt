@@ -21,12 +21,12 @@ pub struct PacketLine<'a> {
     pub passing: RunPacket<'a>,
     /// The packets from outside, if they are replies.
     replies: Option<Replies<'a>>,
-    /// The inside endpoint that it named, if it is a reply that reads.
+    /// The inside endpoint that was the destination of the packet, if it is a valid reply.
     end: Option<Endpoint>,
 }
 
 impl<'a> PacketLine<'a> {
-    /// That of a packet as it comes by.
+    /// Returns the line of a packet of a run.
     pub fn of(passing: RunPacket<'a>, replies: Option<Replies<'a>>) -> PacketLine<'a> {
         let end = replies.and_then(|replies| replies.end_at(passing.number));
         PacketLine {
@@ -40,17 +40,17 @@ impl<'a> PacketLine<'a> {
         &self.passing.step.outcome
     }
 
-    /// What its object tells.
+    /// Returns the packet's object in JSON.
     pub fn object(self) -> JsonObject<'a> {
         JsonObject {
             number: self.passing.number,
             input: self.passing.input,
             outcome: self.outcome(),
-            note: self.passing.step.used.note,
+            note: self.passing.step.part.used.note,
         }
     }
 
-    /// Whether it is selected.
+    /// Whether the packet is selected.
     pub fn is_chosen(self, alloc: Global, choice: PacketSelection) -> Result<bool, AllocError> {
         let is_dropped = matches!(self.outcome(), Outcome::Dropped(_));
         match choice.host {
@@ -60,7 +60,7 @@ impl<'a> PacketLine<'a> {
         }
     }
 
-    /// Whether it arrives or leaves with this host or endpoint, or names it as a reply.
+    /// Whether the packet arrives or leaves with this host or endpoint, or was sent to it as a reply.
     pub fn has_host(self, alloc: Global, host: Party) -> Result<bool, AllocError> {
         let input = self.passing.input;
         Ok(
@@ -70,8 +70,8 @@ impl<'a> PacketLine<'a> {
         )
     }
 
-    /// Appends its line. The columns of all lines align, except for an ICMP error, which quotes more than fits, and where
-    /// a number or a time first needs a digit more.
+    /// Appends the line. The columns of all lines align, except after an ICMP error whose quotation is wider than its
+    /// column, and where a number or a time first needs one more digit.
     pub fn add(
         self,
         alloc: Global,
@@ -90,7 +90,7 @@ impl<'a> PacketLine<'a> {
         text.push_str("\n")
     }
 
-    /// Appends what happened to it, and the packet as it leaves.
+    /// Appends what happened to the packet, and the packet as it leaves.
     fn add_rest(self, text: &mut String) -> Result<(), AllocError> {
         let RunPacket { input, step, .. } = self.passing;
         let (packet, is_hairpin) = match &step.outcome {
@@ -99,7 +99,7 @@ impl<'a> PacketLine<'a> {
             Outcome::ToOutside(packet) => (packet, false),
         };
         let begin = text.len();
-        text.push_str(used(packet, step.used.note))?;
+        text.push_str(used(packet, step.part.used.note))?;
         end_column(text, begin, HAPPENED)?;
         if is_hairpin {
             text.push_str("hairpin: ")?;
@@ -107,7 +107,7 @@ impl<'a> PacketLine<'a> {
         add_packet(text, packet)
     }
 
-    /// Appends why it was dropped.
+    /// Appends why the packet was dropped.
     fn add_loss(self, text: &mut String, cause: Cause) -> Result<(), AllocError> {
         let input = self.passing.input;
         text.push_str("dropped, ")?;
@@ -122,7 +122,7 @@ impl<'a> PacketLine<'a> {
     }
 }
 
-/// The column of a side, with a space in front and at least one behind.
+/// Returns the column of a side, with one space before it and at least one after it.
 pub fn side_column(side: Side) -> &'static str {
     match side {
         Side::Inside => " inside  ",

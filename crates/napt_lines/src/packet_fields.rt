@@ -69,7 +69,7 @@ fn is_reply(bytes: &[u8]) -> bool {
     }
 }
 
-/// Appends flags in brackets as tcpdump writes them, such as `[S]`, `[S.]`, `[F.]`, `[R]` and `[.]`, with a space in front.
+/// Appends flags in brackets as tcpdump prints them, such as `[S]`, `[S.]`, `[F.]`, `[R]` and `[.]`, after a space.
 fn add_flags(text: &mut String, flags: Flags) -> Result<(), AllocError> {
     text.push_str(" [")?;
     text.push_str(if flags.fin { "F" } else { "" })?;
@@ -78,13 +78,13 @@ fn add_flags(text: &mut String, flags: Flags) -> Result<(), AllocError> {
     text.push_str(if flags.ack { ".]" } else { "]" })
 }
 
-/// The packet that these bytes are on arrival, if they are one.
+/// Reads the packet that arrived with these bytes, if they are one.
 fn arrival(alloc: Global, side: Side, bytes: &[u8]) -> Result<Option<Packet>, AllocError> {
     let copy = Vec::from_slice(alloc, bytes)?;
     Ok(Packet::read(side, copy).ok())
 }
 
-/// Appends that packet, or what is known of bytes that are none.
+/// Appends the packet that arrived with these bytes, or what can be read from bytes that are not a packet.
 pub fn add_arrival(
     alloc: Global,
     text: &mut String,
@@ -97,7 +97,7 @@ pub fn add_arrival(
     }
 }
 
-/// Appends what is known of bytes that are no packet.
+/// Appends what can be read from bytes that are not a packet.
 fn add_unread(text: &mut String, bytes: &[u8]) -> Result<(), AllocError> {
     if is_arp(bytes) {
         text.push_str("arp, ")?;
@@ -128,13 +128,13 @@ fn is_arp(bytes: &[u8]) -> bool {
     bytes.starts_with(&[0, 1, 8, 0, 6, 4])
 }
 
-/// The version of an IP header; 0 if there are no bytes.
+/// Returns the version in an IP header, or 0 if there are no bytes.
 fn version(bytes: &[u8]) -> u8 {
     bytes.first().map_or(0, |byte| *byte >> 4)
 }
 
 /// Whether a host or endpoint is one of a packet. An ICMP error also has those of the packet that it quotes, and the
-/// identifier of a query counts for both ends.
+/// identifier of a query belongs to both ends.
 pub fn is_end_of(party: Party, packet: &Packet) -> bool {
     let (source, destination) = (packet.source(), packet.destination());
     match packet.kind() {
@@ -153,12 +153,12 @@ pub fn is_end_of(party: Party, packet: &Packet) -> bool {
     }
 }
 
-/// Whether it is the whole host of this address.
+/// Whether the party is the whole host with this address.
 fn is_host(party: Party, address: u32) -> bool {
     party.number.is_none() && party.address == address
 }
 
-/// Whether a host or endpoint is one of the packet that these bytes are on arrival. Bytes that are no packet have only
+/// Whether a host or endpoint is one of the packet that arrived with these bytes. Bytes that are not a packet have only
 /// addresses.
 pub fn is_end_of_arrival(
     party: Party,

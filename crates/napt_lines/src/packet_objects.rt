@@ -6,7 +6,7 @@ use crate::replies::Replies;
 use napt_commands::{CommandOutput, EndedRun, Exit, Page, RunPacket};
 use napt_config::Config;
 
-/// An object for each selected packet.
+/// Prints an object for each selected packet.
 #[derive(Clone, Copy)]
 pub struct PacketObjects<'a> {
     pub choice: PacketSelection,

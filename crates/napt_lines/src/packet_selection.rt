@@ -1,22 +1,22 @@
-//! Which packets get a line.
+//! The selection of packets that get a line.
 
 ghost use Rattle.std.specs.Prelude.{◌≡◌, ◌↔◌, ◌⊎◌, true, false, None, Some};
 
 use napt_account::Party;
 
-/// Which packets get a line: those that meet every condition given.
+/// The selection of packets that get a line: those that meet every condition given.
 #[derive(Clone, Copy)]
 pub struct PacketSelection {
-    /// The packet of this number, from 1.
+    /// The packet with this number, from 1.
     pub only: Option<u64>,
-    /// A packet with this host or endpoint, before or after translation.
+    /// Packets with this host or endpoint, before or after translation.
     pub host: Option<Party>,
-    /// Only dropped packets.
+    /// Whether only dropped packets are selected.
     pub dropped: bool,
 }
 
 impl PacketSelection {
-    /// Whether a packet of this number meets the conditions beside that on its hosts.
+    /// Whether a packet with this number meets the conditions other than that on its hosts.
     pub fn takes(self, number: u64, is_dropped: bool) -> bool
         ensures { (result ≡ true) ↔ (((self.only ≡ None) ⊎ (self.only ≡ Some number))
             × ((self.dropped ≡ false) ⊎ (is_dropped ≡ true))) }

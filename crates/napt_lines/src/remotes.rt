@@ -1,51 +1,60 @@
-//! What packets from outside say as answers to what left just before. Only the remotes of the last minutes are kept.
+//! What packets from outside say as answers to what left just before. Only the remotes of the last minutes are kept, and
+//! those of live bindings.
 
 use napt_account::LogNote;
 use napt_commands::{Exit, LossCounts, RunPacket, destination_of, source_of};
-use napt_sequential::{Input, Outcome};
-use napt_wire::{Cause, Side};
+use napt_sequential::Outcome;
+use napt_wire::{Cause, Protocol, Side};
 use std::alloc::{AllocError, Global};
 use std::collections::BTreeMap;
 
-/// How long after an inside packet to a remote a packet from it counts as an answer, in ns.
+/// How long after an inside packet to a remote a packet from that remote counts as an answer, in ns.
 const JUST_BEFORE: u64 = 60_000_000_000;
 
-/// How many remotes are kept before any is forgotten.
+/// The number of remotes from which on old ones are forgotten.
 const FEW: usize = 1024;
+
+/// How many remotes of a binding are known. Of one that sent to more, nothing is said.
+const MOST: usize = 64;
+
+/// A remote endpoint: its protocol, its address, and its port, 0 for echoes; or a whole address, without a protocol.
+type Remote = (Option<Protocol>, u32, u16);
 
 /// What inside hosts sent to a remote.
 #[derive(Clone, Copy)]
 struct SentCounts {
     /// The time in ns of the last packet.
     at: u64,
-    /// The host that sent it.
+    /// The host that sent the last packet.
     host: u32,
-    /// Whether other hosts sent some too.
+    /// Whether other hosts sent packets to the remote, too.
     by_others: bool,
 }
 
 /// The remotes so far, and counts of packets from outside.
 #[derive(Drop)]
 pub struct Remotes {
-    sent: BTreeMap<u32, SentCounts>,
-    /// How many remotes there are when the next old ones are forgotten.
+    sent: BTreeMap<Remote, SentCounts>,
+    /// The number of remotes at which old ones are forgotten next.
     full: usize,
-    /// How many of the packets that found no binding, or were not for the gateway, are answers.
+    /// The remotes of each live binding that the run made, by the number of its entry in the log.
+    of_bindings: BTreeMap<u64, Vec<Remote>>,
+    /// The number of answers among the packets that found no binding or were not for the gateway.
     unmet_answers: u64,
-    /// Answers that were for an address of the gateway, and how many of them find no binding, or that of a host that did
-    /// not ask.
+    /// Answers that were for an address of the gateway, and how many of them find no binding, or one that did not ask.
     answers: u64,
     astray: u64,
-    /// The number of the first of these; 0 if there is none.
+    /// The number of the first packet that `astray` counts, or 0.
     first_astray: u64,
 }
 
 impl Remotes {
-    /// Before the first packet.
+    /// Returns the counts before the first packet.
     pub fn new(alloc: Global) -> Remotes {
         Remotes {
             sent: BTreeMap::new(alloc),
             full: FEW,
+            of_bindings: BTreeMap::new(alloc),
             unmet_answers: 0,
             answers: 0,
             astray: 0,
@@ -59,13 +68,13 @@ impl Remotes {
         self.unmet_answers > 0 && self.unmet_answers >= others
     }
 
-    /// Whether more than one in a hundred answers, and more than one, go astray: the captured gateway had other numbers.
+    /// Whether more than one in a thousand answers, and more than one, go astray: the captured gateway had other numbers.
     pub fn are_astray(&self) -> bool {
-        self.astray > 1 && self.astray > self.answers / 100
+        self.astray > 1 && self.astray > self.answers / 1_000
     }
 
-    /// Prints that the captured gateway had other numbers than the run has, so that this tells nothing of it, and returns
-    /// how the program stops.
+    /// Prints that the captured gateway used other numbers than the run, which therefore says nothing about it, and
+    /// returns how the program stops.
     pub fn tell_astray<R: Eprint>(&self, rt: &R) -> Exit {
         let (astray, answers, first) = (self.astray, self.answers, self.first_astray);
         let _ = eprintln!(rt;
@@ -76,26 +85,50 @@ impl Remotes {
     }
 
     /// Takes the next packet.
-    pub fn take(&mut self, passing: RunPacket<'_>) -> Result<(), AllocError> {
-        let (input, step) = (passing.input, passing.step);
+    pub fn take(&mut self, alloc: Global, passing: RunPacket<'_>) -> Result<(), AllocError> {
+        let step = passing.step;
+        for listed in &step.part.ended {
+            self.of_bindings.remove(&listed.number);
+        }
+        for listed in &step.part.made {
+            self.of_bindings.insert(listed.number, Vec::new(alloc))?;
+        }
+        let input = passing.input;
         match (input.side, &step.outcome) {
-            (Side::Inside, Outcome::ToOutside(_)) => self.send(input),
-            (Side::Outside, outcome) if step.used.note != LogNote::Redirect => {
-                self.come(passing.number, input, outcome);
+            (Side::Inside, Outcome::ToOutside(_)) => self.send(passing),
+            (Side::Outside, outcome) if step.part.used.note != LogNote::Redirect => {
+                self.come(passing, outcome);
                 Ok(())
             }
             _ => Ok(()),
         }
     }
 
-    /// An inside packet leaves.
-    fn send(&mut self, input: &Input) -> Result<(), AllocError> {
-        let bytes = &input.bytes;
-        let (Some(host), Some(remote)) = (source_of(bytes), destination_of(bytes)) else {
+    /// Records an inside packet that leaves.
+    fn send(&mut self, passing: RunPacket<'_>) -> Result<(), AllocError> {
+        let input = passing.input;
+        let (bytes, now) = (&input.bytes, input.clock);
+        let (Some(host), Some(address)) = (source_of(bytes), destination_of(bytes)) else {
             return Ok(());
         };
+        self.note((None, address, 0), host, now)?;
+        let Some(remote) = remote_of(bytes, Side::Inside) else {
+            return Ok(());
+        };
+        if let Some(number) = passing.step.part.used.out
+            && let Some(remotes) = self.of_bindings.get_mut(&number)
+            && remotes.len() < MOST
+            && !remotes.contains(&remote)
+        {
+            remotes.push(remote)?;
+        }
+        self.note(remote, host, now)
+    }
+
+    /// Notes that a host sent to a remote.
+    fn note(&mut self, remote: Remote, host: u32, now: u64) -> Result<(), AllocError> {
         let mut sent = SentCounts {
-            at: input.clock,
+            at: now,
             host,
             by_others: false,
         };
@@ -105,14 +138,14 @@ impl Remotes {
                 *before = sent;
             }
             None => {
-                self.forget(input.clock);
+                self.forget(now);
                 self.sent.insert(remote, sent)?;
             }
         }
         Ok(())
     }
 
-    /// Forgets the remotes whose minute is over, once there are twice as many as were left before.
+    /// Forgets the remotes to which nothing was sent for a minute, once there are twice as many as after the last time.
     fn forget(&mut self, now: u64) {
         if self.sent.len() < self.full {
             return;
@@ -122,25 +155,42 @@ impl Remotes {
         self.full = self.sent.len().saturating_mul(2).max(FEW);
     }
 
-    /// The packet of this number comes from outside.
-    fn come(&mut self, number: u64, input: &Input, outcome: &Outcome) {
-        let sent = source_of(&input.bytes).and_then(|remote| self.sent.get(&remote).copied());
-        if let Some(sent) = sent
-            && input.clock.saturating_sub(sent.at) <= JUST_BEFORE
+    /// What was sent to a remote, if a packet was within the minute before.
+    fn just_sent(&self, remote: Remote, now: u64) -> Option<SentCounts> {
+        let sent = self.sent.get(&remote).copied()?;
+        (now.saturating_sub(sent.at) <= JUST_BEFORE).then_some(sent)
+    }
+
+    /// A packet comes from outside. It is an answer if a packet left for its remote just before.
+    fn come(&mut self, passing: RunPacket<'_>, outcome: &Outcome) {
+        let input = passing.input;
+        let (bytes, now) = (&input.bytes, input.clock);
+        if matches!(outcome, Outcome::Dropped(Cause::NoBinding | Cause::NotOurs))
+            && let Some(address) = source_of(bytes)
+            && self.just_sent((None, address, 0), now).is_some()
         {
-            if matches!(outcome, Outcome::Dropped(Cause::NoBinding | Cause::NotOurs)) {
-                self.unmet_answers = self.unmet_answers.saturating_add(1);
-            }
-            self.answer(number, sent, outcome);
+            self.unmet_answers = self.unmet_answers.saturating_add(1);
+        }
+        if let Some(remote) = remote_of(bytes, Side::Outside)
+            && let Some(sent) = self.just_sent(remote, now)
+        {
+            self.answer(passing, outcome, remote, sent);
         }
     }
 
-    /// The packet of this number comes from a remote to which this was sent just before.
-    fn answer(&mut self, number: u64, sent: SentCounts, outcome: &Outcome) {
+    /// A packet comes from a remote to which this was sent just before.
+    fn answer(
+        &mut self,
+        passing: RunPacket<'_>,
+        outcome: &Outcome,
+        remote: Remote,
+        sent: SentCounts,
+    ) {
         let is_astray = match outcome {
             Outcome::Dropped(cause) => *cause == Cause::NoBinding,
             Outcome::ToInside(packet) => {
-                !sent.by_others && packet.destination().address != sent.host
+                let is_another = sent.by_others || packet.destination().address != sent.host;
+                is_another && !self.has_sent(passing.step.part.used.into, remote)
             }
             Outcome::ToOutside(_) => false,
         };
@@ -149,9 +199,36 @@ impl Remotes {
         }
         if is_astray {
             if self.astray == 0 {
-                self.first_astray = number;
+                self.first_astray = passing.number;
             }
             self.astray = self.astray.saturating_add(1);
         }
     }
+
+    /// Whether a packet of the binding with a number went to a remote, or that is not known.
+    fn has_sent(&self, number: Option<u64>, remote: Remote) -> bool {
+        match number.and_then(|number| self.of_bindings.get(&number)) {
+            Some(remotes) => remotes.len() >= MOST || remotes.contains(&remote),
+            None => true,
+        }
+    }
+}
+
+/// The remote endpoint in the headers of a packet that comes from a side, unless it is an ICMP error.
+fn remote_of(bytes: &[u8], side: Side) -> Option<Remote> {
+    let (address, ports) = match side {
+        Side::Inside => (destination_of(bytes)?, 2),
+        Side::Outside => (source_of(bytes)?, 0),
+    };
+    let transport = bytes.get(usize::from(*bytes.first()? & 15) * 4..)?;
+    let protocol = match *bytes.get(9)? {
+        1 if matches!(transport.first(), Some(0 | 8)) => {
+            return Some((Some(Protocol::Icmp), address, 0));
+        }
+        6 => Protocol::Tcp,
+        17 => Protocol::Udp,
+        _ => return None,
+    };
+    let port = transport.get(ports..)?.first_chunk::<2>()?;
+    Some((Some(protocol), address, u16::from_be_bytes(*port)))
 }

@@ -1,4 +1,4 @@
-//! Replies that were dropped, in a user's words.
+//! Replies that were dropped, and the reasons, in a user's words.
 
 use crate::digits::{add_address, add_endpoint};
 use napt_commands::{LossCounts, OutsideCapture, SourceKind};
@@ -9,10 +9,10 @@ use std::alloc::{AllocError, Global};
 use std::fmt::Write;
 use std::mem;
 
-/// What is said of replies from inside addresses.
+/// The origin of replies from inside addresses.
 const FROM_INSIDE: &str = "the captured gateway itself, or one host to another";
 
-/// What is said of replies from an address of the pool.
+/// The origin of replies from an address of the pool.
 const FROM_POOL: &str =
     "packets that the captured gateway sent back inside, or a remote; another pool would count them";
 
@@ -20,12 +20,12 @@ const FROM_POOL: &str =
 #[derive(Clone, Copy)]
 pub struct Replies<'a> {
     config: &'a Config,
-    /// Of each input the inside endpoint that it named, if it is a reply that reads.
+    /// For each input, the inside endpoint that was its destination if it is a valid reply.
     ends: &'a [Option<Endpoint>],
 }
 
-/// The inside endpoint that each input names, if it comes from outside and reads. Bytes behind a packet's end are cut off
-/// there, as when it follows.
+/// Returns the inside endpoint to which each input is sent, if it comes from outside and is a valid packet. Bytes after
+/// the packet's end are cut off, as they are when it follows the run.
 pub fn ends_of(alloc: Global, inputs: &mut [Input]) -> Result<Vec<Option<Endpoint>>, AllocError> {
     let mut ends = Vec::new(alloc);
     for input in inputs.iter_mut() {
@@ -53,7 +53,7 @@ fn end_of(alloc: Global, input: &mut Input) -> Option<Endpoint> {
 }
 
 impl<'a> Replies<'a> {
-    /// Those of a run under a configuration, with the inside endpoints that they named, if the outside capture holds some.
+    /// Returns the replies of a run under a configuration, with their inside endpoints, if the capture has replies.
     pub fn of(
         outside: OutsideCapture,
         config: &'a Config,
@@ -62,14 +62,14 @@ impl<'a> Replies<'a> {
         outside.follows().then_some(Replies { config, ends })
     }
 
-    /// The inside endpoint that the packet of this number, from 1, named, if it is a reply that reads.
+    /// Returns the inside endpoint to which the packet with this number, from 1, was sent, if it is a valid reply.
     pub fn end_at(self, number: u64) -> Option<Endpoint> {
         let at = usize::try_from(number.checked_sub(1)?).ok()?;
         *self.ends.get(at)?
     }
 
-    /// Appends why the reply with these bytes, which named this inside endpoint, was dropped. Returns whether there are
-    /// words for it.
+    /// Appends why the reply with these bytes, which was sent to this inside endpoint, was dropped. Returns whether
+    /// there is a text for this cause.
     pub fn add_loss(
         self,
         text: &mut String,

@@ -1,4 +1,4 @@
-//! The same captures under two configurations: which packets end differently.
+//! A comparison of runs over the same captures under two configurations.
 
 use crate::lines::{leaves_with, side_column};
 use crate::packet_fields::{add_arrival, add_packet, is_end_of_arrival};
@@ -12,7 +12,7 @@ use napt_wire::Cause;
 use std::alloc::{AllocError, Global};
 use std::fmt::Write;
 
-/// Runs under two configurations, side by side, and how many packets ended differently so far.
+/// Runs under two configurations over the same packets, and how many packets had different outcomes so far.
 #[derive(Drop)]
 pub struct RunComparison<'a> {
     choice: PacketSelection,
@@ -21,7 +21,7 @@ pub struct RunComparison<'a> {
     different: u64,
 }
 
-/// A packet and what becomes of it under both configurations, numbered from 1.
+/// A packet, numbered from 1, and its outcomes under both configurations.
 #[derive(Clone, Copy)]
 struct Pair<'a> {
     number: u64,
@@ -31,7 +31,7 @@ struct Pair<'a> {
 }
 
 impl<'a> RunComparison<'a> {
-    /// Before the first packet. The choice is of the lines to print.
+    /// Begins the comparison, before the first packet. `choice` selects the lines to print.
     pub fn begin(
         alloc: Global,
         choice: PacketSelection,
@@ -46,7 +46,7 @@ impl<'a> RunComparison<'a> {
         })
     }
 
-    /// Takes the packets of captures of which the outside one follows each run alone.
+    /// Passes the inputs through both runs. Those from outside follow each run separately if they are replies.
     pub fn follow<R: Print + AllocGlobal>(
         &mut self,
         rt: &R,
@@ -64,8 +64,8 @@ impl<'a> RunComparison<'a> {
         Ok(())
     }
 
-    /// Passes the next packet through each run, as it is there, and prints its line if it is selected and ends
-    /// differently.
+    /// Passes the next packet through each run, as that run receives it, and prints its line if the outcomes differ and
+    /// it is selected.
     fn take_both<R: Print + AllocGlobal>(
         &mut self,
         rt: &R,
@@ -89,8 +89,8 @@ impl<'a> RunComparison<'a> {
         pair.tell(rt, self.choice)
     }
 
-    /// Prints what there is to warn of, and the counts of both runs; `names` are those of their configurations. Fails with
-    /// `Differ` if any packet, selected or not, ended differently.
+    /// Prints the warnings and the counts of both runs; `names` are the paths of their configurations. Fails with
+    /// `Differ` if the outcomes of any packet, selected or not, differ.
     pub fn tell<R: Print + Eprint>(
         &self,
         rt: &R,
@@ -107,7 +107,7 @@ impl<'a> RunComparison<'a> {
         Ok(())
     }
 
-    /// Prints how many packets end differently, and the counts under each configuration.
+    /// Prints how many packets differ, and the counts under each configuration.
     fn tell_counts<R: Print>(&self, rt: &R) -> Result<(), Exit> {
         let (first, second) = (&self.first.counts, &self.second.counts);
         let (packets, different) = (first.packets(), self.different);
@@ -138,7 +138,7 @@ fn tell_drops<R: Print>(rt: &R, first: &OutcomeCounts, second: &OutcomeCounts) -
 }
 
 impl<'a> Pair<'a> {
-    /// Whether both outcomes are the same, to the byte.
+    /// Whether both outcomes are the same, byte for byte.
     fn ends_alike(self) -> bool {
         match (self.first, self.second) {
             (Outcome::Dropped(one), Outcome::Dropped(other)) => one == other,
@@ -148,7 +148,7 @@ impl<'a> Pair<'a> {
         }
     }
 
-    /// Prints its line, if it is selected.
+    /// Prints the line of the packet, if it is selected.
     fn tell<R: Print + AllocGlobal>(self, rt: &R, choice: PacketSelection) -> Result<(), Exit> {
         if self.is_chosen(rt.alloc(), choice)? {
             let text = self.text(rt.alloc())?;
@@ -171,12 +171,12 @@ impl<'a> Pair<'a> {
         is_end_of_arrival(host, alloc, input.side, &input.bytes)
     }
 
-    /// Whether either configuration drops it.
+    /// Whether either configuration drops the packet.
     fn is_dropped(self) -> bool {
         matches!(self.first, Outcome::Dropped(_)) || matches!(self.second, Outcome::Dropped(_))
     }
 
-    /// The line of the packet, with its outcome under the first and the second configuration.
+    /// Returns the line of the packet, with its outcome under the first and the second configuration.
     fn text(self, alloc: Global) -> Result<String, AllocError> {
         let input = self.input;
         let mut text = String::new(alloc);

@@ -12,7 +12,7 @@ use napt_program::Stop;
 use std::alloc::AllocError;
 use std::fmt::Write;
 
-/// A binding that the packet used: its number in the log, from 1, and its entry once it ended.
+/// A binding that the packet used: its number in the log, from 1, and its entry once the binding has ended.
 #[derive(Clone, Copy)]
 struct UsedBinding {
     number: u64,
@@ -20,15 +20,14 @@ struct UsedBinding {
 }
 
 impl UsedBinding {
-    /// The binding at an index of the log.
-    fn at(place: usize) -> UsedBinding {
+    fn new(number: u64) -> UsedBinding {
         UsedBinding {
-            number: (place as u64).saturating_add(1),
+            number,
             entry: None,
         }
     }
 
-    /// Takes its entry, if it is one of these.
+    /// Takes the binding's entry, if it is among these.
     fn take(&mut self, listed: &[LogEntry]) {
         if let Some(found) = listed.iter().find(|listed| listed.number == self.number) {
             self.entry = Some(found.entry);
@@ -36,24 +35,24 @@ impl UsedBinding {
     }
 }
 
-/// The packet that is shown alone.
+/// The packet of which alone the line is printed.
 #[derive(Clone, Copy)]
 pub struct SinglePacket<'a> {
-    /// Its number, from 1.
+    /// The number of the packet, from 1.
     number: u64,
     choice: PacketSelection,
     replies: Option<Replies<'a>>,
-    /// Whether it came.
+    /// Whether the captures contain the packet.
     is_found: bool,
-    /// Whether it meets the other conditions.
+    /// Whether the packet meets the other conditions.
     is_chosen: bool,
-    /// The binding that it went out through, and that it came in through.
+    /// The bindings through which the packet went out and came in.
     out: Option<UsedBinding>,
     into: Option<UsedBinding>,
 }
 
 impl<'a> SinglePacket<'a> {
-    /// Before the first packet.
+    /// Returns the value before the first packet.
     pub fn new(
         number: u64,
         choice: PacketSelection,
@@ -70,7 +69,7 @@ impl<'a> SinglePacket<'a> {
         }
     }
 
-    /// Takes the entries of its bindings, if they are among these.
+    /// Takes the entries of the packet's bindings, if they are among these.
     fn take_entries(&mut self, listed: &[LogEntry]) {
         if let Some(used) = &mut self.out {
             used.take(listed);
@@ -82,7 +81,7 @@ impl<'a> SinglePacket<'a> {
 }
 
 impl<R: Print + Eprint + AllocGlobal> CommandOutput<R> for SinglePacket<'_> {
-    /// Takes the next packet. The line of the one that is shown is appended, if it meets the other conditions.
+    /// Takes the next packet. If it is the one to print, its line is appended if it meets the other conditions.
     fn take(
         &mut self,
         rt: &R,
@@ -95,7 +94,7 @@ impl<R: Print + Eprint + AllocGlobal> CommandOutput<R> for SinglePacket<'_> {
             input,
             step,
         } = passing;
-        self.take_entries(&step.ended);
+        self.take_entries(&step.part.ended);
         if number != self.number {
             return Ok(());
         }
@@ -108,12 +107,12 @@ impl<R: Print + Eprint + AllocGlobal> CommandOutput<R> for SinglePacket<'_> {
         let mut widths = ColumnWidths::default();
         widths.take(number, input);
         line.add(rt.alloc(), text, widths)?;
-        self.out = step.used.out.map(UsedBinding::at);
-        self.into = step.used.into.map(UsedBinding::at);
+        self.out = step.part.used.out.map(UsedBinding::new);
+        self.into = step.part.used.into.map(UsedBinding::new);
         Ok(())
     }
 
-    /// Prints the bindings. A packet that did not come is reported.
+    /// Prints the bindings, or that the captures do not contain the packet.
     fn end(self, rt: &R, page: &mut Page, ending: &EndedRun<'_>) -> Result<(), Exit> {
         if !self.is_found {
             let (number, packets) = (self.number, ending.packets);

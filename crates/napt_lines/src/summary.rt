@@ -1,4 +1,4 @@
-//! The lines of a run as it goes on, and its summary: the live bindings, and what became of the packets.
+//! The lines of a run, and its summary: the live bindings, and the counts of outcomes.
 
 use crate::column_widths::ColumnWidths;
 use crate::ended_bindings::{add_binding, add_end};
@@ -15,7 +15,7 @@ use napt_wire::Cause;
 use std::alloc::AllocError;
 use std::fmt::Write;
 
-/// What to do if many packets from outside find no binding although inside packets left for their remotes.
+/// The advice if many packets from outside find no binding although inside packets left for their remotes.
 const OTHER_NUMBERS: &str =
     "inside packets left for their remotes just before, so the captured gateway seems to have chosen other numbers or \
 addresses: give what inside hosts got as --replies";
@@ -31,7 +31,7 @@ pub struct PacketLines<'a> {
 }
 
 impl<'a> PacketLines<'a> {
-    /// Before the first packet.
+    /// Returns the value before the first packet.
     pub fn new(choice: PacketSelection, replies: Option<Replies<'a>>) -> PacketLines<'a> {
         PacketLines {
             choice,
@@ -41,13 +41,13 @@ impl<'a> PacketLines<'a> {
         }
     }
 
-    /// Whether a binding's end is selected.
+    /// Whether the end of a binding is selected.
     fn has_chosen(&self, entry: &Entry) -> bool {
         !self.choice.dropped && has_party(&entry.binding, self.choice.host)
     }
 
-    /// Prints the bindings live at the last packet's time, with their ages; only those of a host or endpoint if one is
-    /// selected.
+    /// Prints the bindings that are live at the last packet's time, with their ages; if a host or endpoint is selected,
+    /// only its bindings.
     fn tell_bindings<R: Print + AllocGlobal>(
         &self,
         rt: &R,
@@ -69,7 +69,7 @@ impl<'a> PacketLines<'a> {
         Ok(())
     }
 
-    /// Appends the counts of outcomes, and what to do if more than a fifth of the packets were dropped for one cause.
+    /// Appends the counts of outcomes, and advice if more than a fifth of the packets were dropped for one cause.
     fn add_counts(&self, text: &mut String, ending: &EndedRun<'_>) -> Result<(), AllocError> {
         let counts = &self.counts;
         writeln!(text, "packets: {}", counts.packets())?;
@@ -102,8 +102,8 @@ impl<'a> PacketLines<'a> {
         Ok(())
     }
 
-    /// Appends what to do if many packets were dropped for a cause. That other numbers were chosen comes first where
-    /// they seem to be answers.
+    /// Appends advice if many packets were dropped for a cause. If they seem to be answers, it first says that the
+    /// captured gateway chose other numbers.
     fn add_advice(
         &self,
         text: &mut String,
@@ -114,7 +114,7 @@ impl<'a> PacketLines<'a> {
             && matches!(cause, Cause::NoBinding | Cause::NotOurs)
             && ending.are_answers;
         if is_answered {
-            writeln!(text, "    many packets end so: {OTHER_NUMBERS}")?;
+            writeln!(text, "    many packets have this cause: {OTHER_NUMBERS}")?;
         }
         let told = CauseText::of(cause);
         let told = match self.replies {
@@ -122,15 +122,15 @@ impl<'a> PacketLines<'a> {
             None => told.advice,
         };
         match told {
-            Some(advice) if is_answered => writeln!(text, "    else: {advice}"),
-            Some(advice) => writeln!(text, "    many packets end so: {advice}"),
+            Some(advice) if is_answered => writeln!(text, "    otherwise: {advice}"),
+            Some(advice) => writeln!(text, "    many packets have this cause: {advice}"),
             None => Ok(()),
         }
     }
 }
 
 impl<R: Print + AllocGlobal> CommandOutput<R> for PacketLines<'_> {
-    /// Takes the next packet: appends its line if it is selected, and before it the lines of the bindings that expired by
+    /// Takes the next packet: appends its line if it is selected, after the lines of the bindings that have expired by
     /// then.
     fn take(
         &mut self,
@@ -146,7 +146,7 @@ impl<R: Print + AllocGlobal> CommandOutput<R> for PacketLines<'_> {
         } = passing;
         self.counts.count(&step.outcome);
         self.widths.take(number, input);
-        for listed in &step.ended {
+        for listed in &step.part.ended {
             if self.has_chosen(&listed.entry) {
                 add_end(text, self.widths, &listed.entry)?;
             }
@@ -158,7 +158,7 @@ impl<R: Print + AllocGlobal> CommandOutput<R> for PacketLines<'_> {
         Ok(())
     }
 
-    /// Prints the live bindings, and what became of the packets.
+    /// Prints the live bindings and the counts of outcomes.
     fn end(self, rt: &R, page: &mut Page, ending: &EndedRun<'_>) -> Result<(), Exit> {
         self.tell_bindings(rt, page, ending)?;
         self.add_counts(&mut page.text, ending)?;
@@ -166,7 +166,7 @@ impl<R: Print + AllocGlobal> CommandOutput<R> for PacketLines<'_> {
     }
 }
 
-/// Appends the line of a live binding, whose entry this is, at the last packet's time, in ns.
+/// Appends the line of a live binding, with this entry, at the last packet's time, in ns.
 fn add_row(
     text: &mut String,
     row: &Row,

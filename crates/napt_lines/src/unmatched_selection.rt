@@ -1,4 +1,4 @@
-//! Whether the selected host or endpoint has a packet or a binding.
+//! A selected host or endpoint without packets and bindings.
 
 use crate::lines::{PacketLine, has_party};
 use crate::packet_selection::PacketSelection;
@@ -6,14 +6,14 @@ use napt_account::{LogEntry, Party};
 use napt_config::Address;
 use std::alloc::{AllocError, Global};
 
-/// A selected host or endpoint that nothing had so far; none if something had it, or if none is selected.
+/// A selected host or endpoint without a packet and a binding so far; none if it has had one, or if none is selected.
 #[derive(Clone, Copy)]
 pub struct UnmatchedSelection {
     host: Option<Party>,
 }
 
 impl UnmatchedSelection {
-    /// Before the first packet, with the redirects.
+    /// Returns the value before the first packet, with the bindings of redirects.
     pub fn of(choice: PacketSelection, opening: &[LogEntry]) -> UnmatchedSelection {
         let mut unmatched = UnmatchedSelection { host: choice.host };
         unmatched.take_bindings(opening);
@@ -45,7 +45,7 @@ impl UnmatchedSelection {
         }
     }
 
-    /// Prints that the selected host or endpoint has no packet and no binding, if it is so.
+    /// Prints that the selected host or endpoint has no packet and no binding, if that is so.
     pub fn tell<R: Eprint>(self, rt: &R) {
         let Some(host) = self.host else {
             return;

@@ -1,4 +1,4 @@
--- Days after days: from one to another of the same month, to the next month, and to the next year.
+-- Steps from day to day: within a month, to the next month, and to the next year.
 use Rattle.std.proofs.Common.{ℕ, zero, suc, ◌≡◌, ◌+◌, ◌-◌, ◌*◌, ◌≤◌, ◌<◌, ◌∙◌, Bool, true, false, cond, nat_lt, refl, ap, subst, arith, sym}
 use Rattle.std.proofs.lemmas.Bool.{lt-ltb, le-ltb, Decides.nat_tests}
 use Rattle.napt_log_text.specs.declared.date.Date.{Date}
@@ -11,7 +11,7 @@ step : (days : ℕ) (date : Date) → date_on days ≡ date → date_on (suc day
 unfolding date_on
 step days date is = rw is refl
 
--- a later day of the same month
+-- A later day of the same month.
 pub same_month : (days year month more : ℕ) → date_on days ≡ first_of_month year month →
     more < month_length year month →
     date_on (days + more) ≡ record { year = year; month = month; day = more + 1 }
@@ -25,7 +25,7 @@ same_month days year month (suc more) is within =
     let day : more + 1 + 1 ≡ suc more + 1 = omega arith in
     rw after (step (days + more) _ before ∙ rw (test, day) refl)
 
--- the first day of the next month
+-- The first day of the next month.
 pub next_month : (days year month : ℕ) → date_on days ≡ first_of_month year month →
     date_on (days + month_length year month) ≡ first_after year month
 next_month days year month is =
@@ -42,7 +42,7 @@ next_month days year month is =
     (let d : Date = record { year = year; month = month; day = (month_length year month - 1) + 1 + 1 } in d)
     (first_after year month)) test)
 
--- the same, over the days of a span of which some are left
+-- The same, over the days of a span of which some are left.
 months_on : (begin days left long year month : ℕ) → long ≡ month_length year month → long ≤ left → left ≤ days →
     date_on (begin + (days - left)) ≡ first_of_month year month →
     date_on (begin + (days - (left - long))) ≡ first_after year month
@@ -68,7 +68,7 @@ to_year begin days left long year month is fits fewer behind first =
     months_on begin days left long year month is fits fewer first
     ∙ ap (λ (b : Bool). cond b (first_of_month year (month + 1)) (first_of_month (year + 1) 1)) test
 
--- the last of so many days, in a month that they do not leave
+-- The last days of a span, if they are all in one month.
 pub left_over : (begin days left long year month : ℕ) → long ≡ month_length year month → left < long → left ≤ days →
     date_on (begin + (days - left)) ≡ first_of_month year month →
     date_on (begin + days) ≡ record { year = year; month = month; day = left + 1 }

@@ -13,7 +13,7 @@ use Rattle.napt_log_text.specs.declared.event.LogEvent.{LogEvent}
 use Rattle.napt_log_text.specs.Rows.{csv_row, date_of_any, fields, csv_flag, listed_fields, number_if_any, csv_protocol, quota_text, row_text, shortage_number}
 use Rattle.napt_log_text.specs.{LogRows.{fields_in, flag_number, is_comma}, Times.{TimeText, clock_text, date_if_any, date_text, day_text, has_date, padded}}
 
--- what ends a field
+-- A byte that ends a field.
 abbrev is_mark : ℕ → Bool
 is_mark byte = is_comma byte || (byte == 10)
 
@@ -96,7 +96,7 @@ in_quota _ = refl
 abbrev have_marks : List TimeText → Bool
 have_marks texts = list_any has_mark texts
 
--- the text of a row before the line feed at its end
+-- The text of a row before the line feed at its end.
 abbrev joined : TimeText → List TimeText → TimeText
 joined first [] = first
 joined first (field ∷ more) = first ++ 44 ∷ joined field more
@@ -139,10 +139,6 @@ unfolding csv_row
 fields_read rules event row is =
     fields_in-row row (fields rules event) (omega (arith, many rules event)) (in_fields rules event) is
 
-pub fields_read-many : (rules : Rules) (event : LogEvent) (row : TimeText) → csv_row rules event ≡ row ++ codes "\n" →
-    length (fields_in row) ≡ 15
-fields_read-many rules event row is = ap length (fields_read rules event row is) ∙ many rules event
-
 pub small_protocol : (protocol : Protocol) → csv_protocol protocol < 2 ^ 128
 small_protocol Icmp = lit< tt
 small_protocol Tcp = lit< tt
@@ -170,7 +166,7 @@ joined-line first (field ∷ more) none =
     All-append (λ byte. byte ≢ 10) first (44 ∷ joined field more) (no_end_at first here)
     (All-cons (λ byte. byte ≢ 10) 44 (joined field more) (λ is. omega arith) (joined-line field more behind))
 
--- a row is a line
+-- A row is a line.
 abbrev pub Line : TimeText → Type 0
 Line text = (row : TimeText) × (text ≡ row ++ codes "\n") × IsLine row
 
@@ -185,17 +181,17 @@ csv_row-line rules event =
 
 module _ (left new : Option (List ℕ)) (old line : TimeText) (text rest : TimeText) (none : old ≡ [])
     (got : IfSome left (λ xs. line ≡ old ++ take_through 10 xs)) (left_is : left ≡ Some (text ++ rest)) where
-  -- a line that is read is the first of what is left, which loses it
+  -- The line that is read is the first of those left, and the rest is then left.
   pub line_read : IfSome left (λ xs. new ≡ Some (drop_through 10 xs)) → Line text → (line ≡ text) × (new ≡ Some rest)
   line_read h k = grind (arith, common_steps, nat_tests, append_assoc, take_through-append, drop_through-append)
 
-  -- and so something is left
+  -- A line is left, so that the text has not ended.
   pub line_left : IsAtEnd left → Line text → ⊥
   line_left end (row, is, whole) =
       let empty : text ++ rest ≡ [] = subst IsAtEnd left_is end in
       omega (arith, ap length empty, ap length is, length-append text rest, length-append row (codes "\n"))
 
--- what breaks off has no end of a line
+-- A text that ends inside a line has no line feed at its end.
 pub torn_read : (left : Option (List ℕ)) (old line torn front : TimeText) → old ≡ [] →
     IfSome left (λ xs. line ≡ old ++ take_through 10 xs) → left ≡ Some torn → IsLine torn →
     line ≡ front ++ codes "\n" → ⊥

@@ -1,4 +1,4 @@
--- What a row of the log says when it is read again.
+-- The values in a row of the log that is read.
 use Rattle.std.specs.{Prelude.{ℕ, ◌<◌, ◌^◌, ◌==◌, Bool, true, false, List, Option, Some, None, IfSome}, List.slice_split}
 use Rattle.napt_wire.specs.declared.Endpoint.{Endpoint}
 use Rattle.napt_account.specs.declared.log.{LogEntry.LogEntry, Shortage.Shortage}
@@ -12,7 +12,7 @@ is_comma byte = byte == 44
 abbrev pub fields_in : TimeText → List TimeText
 fields_in row = slice_split is_comma row
 
--- numbers that the types of the fields have room for
+-- The numbers fit the types of the fields.
 abbrev pub IsTimeField : Option ℕ → Type 0
 IsTimeField time = IfSome time (λ ns. ns < 2 ^ 128)
 
@@ -38,7 +38,7 @@ abbrev pub flag_number : Bool → ℕ
 flag_number true = 1
 flag_number false = 0
 
--- what a row of a binding says: not its counts and its last use
+-- The values in the row of a binding, without its counts and its last use.
 abbrev pub binding_row : Option ℕ → Option ℕ → LogEntry → LogRow
 binding_row time event listed = record {
   time = number_field time;
@@ -50,7 +50,7 @@ binding_row time event listed = record {
   redirect = Number (flag_number listed.entry.binding.fixed);
 }
 
--- and one of a packet that got none: not whose it is
+-- The values in the row of a packet that got no binding, without its host.
 abbrev pub refusal_row : Shortage → LogRow
 refusal_row shortage = record {
   time = Number shortage.at;

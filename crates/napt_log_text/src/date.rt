@@ -17,17 +17,17 @@ pub struct Date {
 }
 
 impl Date {
-    /// The day that comes so many days after 1970-01-01.
+    /// Returns the day that is this number of days after 1970-01-01.
     pub(crate) fn on(days: u32) -> Date
         requires { days < calendar.dated_days }
         ensures { result ≡ calendar.date_on days }
     {
-        // no year has more than 366 days
+        // No year has more than 366 days.
         let year = 1970 + days / 366;
         Date::after(year, days - days_before(year))
     }
 
-    /// The day that comes so many days after the first of January of a year: few, since it goes from month to month.
+    /// Returns the day that is this number of days after January 1st of a year: few, since it goes from month to month.
     fn after(year: u32, days: u32) -> Date
         requires { (year < 10000) × (days < 7000) }
         ensures { (begin : ℕ) → calendar.date_on begin ≡ calendar.first_of_month year 1 →
@@ -49,7 +49,7 @@ impl Date {
         Date { year, month, day }
     }
 
-    /// Appends it, such as `2026-11-26`. Fails only if memory runs out.
+    /// Appends the day, such as `2026-11-26`. Fails only if memory is refused.
     pub(crate) fn add_to(self, text: &mut String) -> Result<(), AllocError>
         ensures { OnOk result (string_bytes text.new ≡ string_bytes text.old ++ day_text self) }
     {
@@ -69,7 +69,7 @@ fn is_leap(year: u32) -> bool
     year % 4 == 0 && (year % 100 != 0 || year % 400 == 0)
 }
 
-/// How many days a month has.
+/// Returns the number of days of a month.
 fn month_length(year: u32, month: u32) -> u32
     ensures { result ≡ calendar.month_length year month }
 {
@@ -81,7 +81,7 @@ fn month_length(year: u32, month: u32) -> u32
     }
 }
 
-/// How many days lie between the first of January of 1970 and that of a later year.
+/// Returns the number of days between January 1st of 1970 and that of a later year.
 fn days_before(year: u32) -> u32
     requires { (1970 ≤ year) × (year < 10000) }
     ensures { result ≡ calendar.days_before year }
@@ -89,7 +89,7 @@ fn days_before(year: u32) -> u32
     365 * (year - 1970) + leaps(year - 1) - leaps(1969)
 }
 
-/// How many leap days the years from 1 to a year have.
+/// Returns the number of leap days in the years from 1 to a year.
 fn leaps(year: u32) -> u32
     ensures { result ≡ calendar.leaps year }
 {

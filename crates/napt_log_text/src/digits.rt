@@ -9,7 +9,7 @@ use itoa::Buffer;
 use napt_wire::Endpoint;
 use std::alloc::AllocError;
 
-/// Appends a number in decimal. Fails only if memory runs out.
+/// Appends a number in decimal. Fails only if memory is refused.
 pub fn add_number(text: &mut String, number: u64) -> Result<(), AllocError>
     ensures { OnOk result (string_bytes text.new ≡ string_bytes text.old ++ decimal number) }
 {
@@ -17,7 +17,7 @@ pub fn add_number(text: &mut String, number: u64) -> Result<(), AllocError>
     text.push_str(digits.format(number))
 }
 
-/// Appends a number in decimal, with zeros in front of it up to a width. Fails only if memory runs out.
+/// Appends a number in decimal, padded with zeros up to a width. Fails only if memory is refused.
 pub(crate) fn add_padded(text: &mut String, number: u32, width: usize) -> Result<(), AllocError>
     ensures { OnOk result (string_bytes text.new ≡ string_bytes text.old ++ padded width number) }
 {
@@ -30,7 +30,7 @@ pub(crate) fn add_padded(text: &mut String, number: u32, width: usize) -> Result
     Ok(())
 }
 
-/// Appends an address, such as `10.0.0.2`. Fails only if memory runs out.
+/// Appends an address, such as `10.0.0.2`. Fails only if memory is refused.
 pub fn add_address(text: &mut String, address: u32) -> Result<(), AllocError>
     ensures { OnOk result (string_bytes text.new ≡ string_bytes text.old ++ address_text address) }
 {
@@ -39,7 +39,7 @@ pub fn add_address(text: &mut String, address: u32) -> Result<(), AllocError>
     shown.add_to(text)
 }
 
-/// Appends an endpoint, such as `10.0.0.2:5000`. Fails only if memory runs out.
+/// Appends an endpoint, such as `10.0.0.2:5000`. Fails only if memory is refused.
 pub fn add_endpoint(text: &mut String, endpoint: Endpoint) -> Result<(), AllocError>
     ensures { OnOk result (string_bytes text.new
         ≡ string_bytes text.old ++ endpoint_text endpoint) }

@@ -20,7 +20,7 @@ const PORTS_EXHAUSTED: u64 = 12;
 
 const QUOTA_EXCEEDED: u64 = 13;
 
-/// What stands behind natQuotaExceededEvent if there is no binding: its fields from `binding` on, all empty.
+/// The rest of a row after natQuotaExceededEvent if there is no binding: the fields from `binding` on, all empty.
 const NO_BINDING: &str = ",,,,,,\n";
 
 /// The first row of the log: the names of its fields.
@@ -39,15 +39,15 @@ pub enum LogEvent {
     Made(LogEntry),
     /// A binding expired, at the end in its entry.
     Ended(LogEntry),
-    /// No event: a binding lives at the run's last packet, and ends as its entry says if no packet comes.
+    /// No event: a binding is live at the run's last packet, and ends as its entry says if no packet comes.
     Living(LogEntry),
     /// A packet got no binding.
     Refused(Shortage),
 }
 
 impl LogEvent {
-    /// Appends its row. The configuration has the external address of a host that got no binding. Fails only if memory
-    /// runs out.
+    /// Appends the row of the event. The configuration has the external address of a host that got no binding. Fails
+    /// only if memory is refused.
     #[tactic(auto, unfolding(crate::specs::Rows::csv_row))]
     pub fn add_row(&self, config: &Config, text: &mut String) -> Result<(), AllocError>
         ensures { OnOk result (string_bytes text.new ≡ string_bytes text.old
@@ -69,7 +69,7 @@ impl LogEvent {
     }
 }
 
-/// Appends the row of an event of a binding at a time, or of none.
+/// Appends the row of an event of a binding at a time, or of a binding without an event.
 fn add_listed(
     listed: &LogEntry,
     at: Option<u128>,
@@ -88,7 +88,7 @@ fn add_listed(
     Ok(())
 }
 
-/// Appends the number of an entry and the fields behind it.
+/// Appends the number of an entry and the fields after it.
 fn add_entry(listed: &LogEntry, text: &mut String) -> Result<(), AllocError>
     ensures { OnOk result (string_bytes text.new
         ≡ string_bytes text.old ++ (decimal listed.now.number
@@ -192,7 +192,7 @@ fn add_refusal(shortage: &Shortage, text: &mut String) -> Result<(), AllocError>
     Ok(())
 }
 
-/// The natEvent of a shortage.
+/// Returns the natEvent of a shortage.
 fn shortage_number(cause: Cause) -> u64
     ensures { result ≡ rows.shortage_number cause }
 {
@@ -202,7 +202,7 @@ fn shortage_number(cause: Cause) -> u64
     }
 }
 
-/// The natQuotaExceededEvent of a shortage, if it has one.
+/// Returns the natQuotaExceededEvent of a shortage, if it has one.
 fn quota(cause: Cause) -> &'static str
     ensures { result.now ≡ rows.quota_text cause }
 {
@@ -212,7 +212,7 @@ fn quota(cause: Cause) -> &'static str
     }
 }
 
-/// A protocol's number (IANA).
+/// Returns the number of a protocol (IANA).
 fn protocol_number(protocol: Protocol) -> u64
     ensures { result ≡ rows.csv_protocol protocol }
 {
@@ -229,7 +229,7 @@ fn flag(is_set: bool) -> &'static str
     if is_set { "1" } else { "0" }
 }
 
-/// When a packet last went through the binding, if one did.
+/// Returns the time when a packet last went through the binding, if one did.
 fn last_use(entry: &Entry) -> Option<u128>
     ensures { result ≡ rows.last_use entry.now }
 {

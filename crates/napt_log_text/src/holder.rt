@@ -12,7 +12,7 @@ use napt_wire::Protocol;
 use std::alloc::AllocError;
 
 /// Appends the line of a binding that had an endpoint. `last` is the time of the run's last packet, in ns: an end after
-/// it comes only if no packet does. Fails only if memory runs out.
+/// it comes only if no packet does. Fails only if memory is refused.
 pub fn add_holder(entry: &Entry, last: u64, text: &mut String) -> Result<(), AllocError>
     ensures { OnOk result (string_bytes text.new
         ≡ string_bytes text.old ++ holders.holder_line last entry.now) }
@@ -22,8 +22,8 @@ pub fn add_holder(entry: &Entry, last: u64, text: &mut String) -> Result<(), All
     Ok(())
 }
 
-/// Appends the number of a request, which stands before each of its lines where there are several. Fails only if memory
-/// runs out.
+/// Appends the number of a request, with which each of its lines begins if there are several requests. Fails only if
+/// memory is refused.
 pub fn add_mark(number: u64, text: &mut String) -> Result<(), AllocError>
     ensures { OnOk result (string_bytes text.new
         ≡ string_bytes text.old ++ holders.mark_text number) }
@@ -33,7 +33,7 @@ pub fn add_mark(number: u64, text: &mut String) -> Result<(), AllocError>
     Ok(())
 }
 
-/// Appends a binding and from when until when it had its endpoint.
+/// Appends a binding and the times between which it had its endpoint.
 #[tactic(auto, unfolding(crate::specs::Holders::holder_text))]
 fn add_binding(entry: &Entry, last: u64, text: &mut String) -> Result<(), AllocError>
     ensures { OnOk result (string_bytes text.new
@@ -48,7 +48,7 @@ fn add_binding(entry: &Entry, last: u64, text: &mut String) -> Result<(), AllocE
     Ok(())
 }
 
-/// Appends from when until when a binding had its endpoint.
+/// Appends the times between which a binding had its endpoint.
 fn add_span(entry: &Entry, last: u64, text: &mut String) -> Result<(), AllocError>
     ensures { OnOk result (string_bytes text.new ≡ string_bytes text.old
         ++ holders.span_text last entry.now.binding.fixed entry.now.made entry.now.end) }
@@ -59,7 +59,7 @@ fn add_span(entry: &Entry, last: u64, text: &mut String) -> Result<(), AllocErro
     }
 }
 
-/// Appends from when on a binding had its endpoint that has no end.
+/// Appends the time from which on a binding without an end had its endpoint.
 fn add_open(fixed: bool, made: u64, text: &mut String) -> Result<(), AllocError>
     ensures { OnOk result (string_bytes text.new
         ≡ string_bytes text.old ++ holders.open_text fixed made) }
@@ -72,7 +72,7 @@ fn add_open(fixed: bool, made: u64, text: &mut String) -> Result<(), AllocError>
     text.push_str(why_open(fixed))
 }
 
-/// Why a binding has no end.
+/// Returns why a binding has no end.
 fn why_open(fixed: bool) -> &'static str
     ensures { result.now ≡ holders.why_open fixed }
 {
@@ -106,9 +106,9 @@ fn premise(end: u128, last: u64) -> &'static str
     }
 }
 
-/// Appends the line that says that nobody had the endpoint, and who had it last before and first after. The configuration
-/// knows the addresses of the pool; without one none is said to be foreign. `last` is the time of the run's last packet,
-/// in ns. Fails only if memory runs out.
+/// Appends the line that says that nobody had the endpoint, and who had it last before and first after. The
+/// configuration has the pool; without one no address is called foreign. `last` is the time of the run's last packet,
+/// in ns. Fails only if memory is refused.
 #[tactic(auto, unfolding(crate::specs::Holders::nobody_line))]
 pub fn add_nobody(
     request: &Request,
@@ -154,8 +154,8 @@ fn add_party(party: Party, text: &mut String) -> Result<(), AllocError>
     Ok(())
 }
 
-/// Appends that the address is not in the pool, or when it was that nobody had it, and who had it last before and first
-/// after.
+/// Appends that the address is not in the pool, or the time at which nobody had it, and who had it last before and
+/// first after.
 fn add_reason(
     request: &Request,
     nearest: &NearestEntries,
@@ -179,7 +179,7 @@ fn add_reason(
     Ok(())
 }
 
-/// Whether an address is known to be none of the pool.
+/// Whether an address is known not to be in the pool.
 fn is_foreign(config: Option<&Config>, address: u32) -> bool
     ensures { result ≡ holders.is_foreign (option_map (λ known. known.now) config.entry) address }
 {
@@ -189,7 +189,7 @@ fn is_foreign(config: Option<&Config>, address: u32) -> bool
     }
 }
 
-/// Appends when it was that nobody had the endpoint.
+/// Appends the time at which nobody had the endpoint.
 fn add_asked(at: Option<TimeSpan>, text: &mut String) -> Result<(), AllocError>
     ensures { OnOk result (string_bytes text.new ≡ string_bytes text.old ++ holders.asked_text at) }
 {
@@ -207,7 +207,7 @@ fn add_asked(at: Option<TimeSpan>, text: &mut String) -> Result<(), AllocError>
     Ok(())
 }
 
-/// Appends the last holder before a span, and how long before it had ended.
+/// Appends the last holder before a span, and how long before it the holder's binding had ended.
 fn add_before(
     span: TimeSpan,
     entry: &Option<Entry>,
@@ -224,7 +224,7 @@ fn add_before(
     add_near(apart, " s before: ", entry, last, text)
 }
 
-/// Appends the first holder after a span, and how long after it was made.
+/// Appends the first holder after a span, and how long after it the holder's binding was made.
 fn add_after(
     span: TimeSpan,
     entry: &Option<Entry>,
@@ -241,7 +241,7 @@ fn add_after(
     add_near(apart, " s after: ", entry, last, text)
 }
 
-/// The last time that the text of a span shows.
+/// Returns the last time in the text of a span.
 fn shown_last(span: TimeSpan) -> u128
     ensures { result ≡ holders.shown_last span }
 {
@@ -258,7 +258,7 @@ fn is_single(span: TimeSpan) -> bool
     span.until.saturating_sub(1) == span.first
 }
 
-/// Appends how many ns a holder is from a span, in seconds, and its entry.
+/// Appends the distance of a holder from a span, in seconds, and the holder's entry.
 fn add_near(
     apart: u128,
     words: &str,

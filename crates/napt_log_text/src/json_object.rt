@@ -14,15 +14,15 @@ use std::alloc::{AllocError, Global};
 /// The type of an ICMP echo request (RFC 792).
 const ECHO_REQUEST: u8 = 8;
 
-/// What an object tells: a packet of a run, and what became of it.
+/// The values of an object: a packet of a run, and its outcome.
 #[derive(Clone, Copy)]
 pub struct JsonObject<'a> {
-    /// From 1, in the order of the run.
+    /// The number of the packet, from 1, in the order of the run.
     pub number: u64,
-    /// The packet as it arrived, or bytes that are none.
+    /// The packet as it arrived, or bytes that are not a packet.
     pub input: &'a Input,
     pub outcome: &'a Outcome,
-    /// What the packet did to the binding that it used first.
+    /// What the packet did to the first binding that it used.
     pub note: LogNote,
 }
 
@@ -34,17 +34,17 @@ struct Ends {
     numbers: PacketNumbers,
 }
 
-/// What the numbers of endpoints are.
+/// The meaning of the numbers of endpoints.
 #[derive(Clone, Copy)]
 enum PacketNumbers {
     Ports,
     Identifier,
-    /// An ICMP error has none.
+    /// An ICMP error has no number.
     Absent,
 }
 
 impl JsonObject<'_> {
-    /// Appends it, on a line of its own (RFC 8259). Its time is in ns since 1970-01-01 UTC. Fails only if memory runs out.
+    /// Appends the object, on its own line. Its time is in ns since 1970-01-01 UTC. Fails only if memory is refused.
     pub fn add_to(&self, alloc: Global, text: &mut String) -> Result<(), AllocError>
         ensures { OnOk result (string_bytes text.new ≡ string_bytes text.old ++ objects.object_text
             self.now.number self.now.input.now self.now.outcome.now self.now.note) }
@@ -54,7 +54,7 @@ impl JsonObject<'_> {
         Ok(())
     }
 
-    /// Appends it without the end of the line.
+    /// Appends the object without the end of its line.
     #[tactic(auto, unfolding(crate::specs::Objects::object_of))]
     fn add_members(&self, alloc: Global, text: &mut String) -> Result<(), AllocError>
         ensures { OnOk result (string_bytes text.new ≡ string_bytes text.old ++ objects.object_of
@@ -75,7 +75,7 @@ impl JsonObject<'_> {
     }
 }
 
-/// Appends the members that tell what became of a packet, with a comma before them.
+/// Appends the members of the outcome of a packet, with a comma before them.
 #[tactic(auto, unfolding(crate::specs::Objects::fate_members))]
 fn add_fate(
     side: Side,
@@ -124,7 +124,7 @@ fn side_text(side: Side) -> &'static str
     }
 }
 
-/// What a packet that left did to the first binding that it used.
+/// Returns what a packet that left did to the first binding that it used.
 #[tactic(auto, unfolding(crate::specs::Objects::quoted))]
 fn binding(outcome: &Outcome, note: LogNote) -> &'static str
     ensures { result.now ≡ objects.binding_text outcome.now note }
@@ -137,7 +137,7 @@ fn binding(outcome: &Outcome, note: LogNote) -> &'static str
     }
 }
 
-/// The member that says whether a packet came from the inside and goes back in, with a comma before it.
+/// Returns the member that says whether a packet came from the inside and goes back in, with a comma before it.
 fn hairpin(side: Side, outcome: &Outcome) -> &'static str
     ensures { result.now ≡ codes ",\"hairpin\":"
         ++ objects.boolean (objects.is_hairpin side outcome.now) }
@@ -148,7 +148,7 @@ fn hairpin(side: Side, outcome: &Outcome) -> &'static str
     }
 }
 
-/// The packet that leaves, if one does.
+/// Returns the packet that leaves, if one does.
 fn left(outcome: &Outcome) -> Option<&Packet>
     ensures { option_map (λ packet. packet.now) result ≡ objects.left outcome.now }
 {
@@ -158,7 +158,7 @@ fn left(outcome: &Outcome) -> Option<&Packet>
     }
 }
 
-/// Appends the object of the packet that an input is, or null if its bytes do not read as one.
+/// Appends the object of an input's packet, or null if its bytes cannot be read as one.
 fn add_arrived(alloc: Global, input: &Input, text: &mut String) -> Result<(), AllocError>
     ensures { OnOk result (string_bytes text.new ≡ string_bytes text.old
         ++ objects.packet_or_null (objects.arrival_member input.now)) }
@@ -194,7 +194,7 @@ fn add_packet(packet: &Packet, text: &mut String) -> Result<(), AllocError>
     Ok(())
 }
 
-/// Appends the member that tells what an ICMP error is about, with a comma before it.
+/// Appends the member with what an ICMP error is about, with a comma before it.
 fn add_about(kind: Kind, text: &mut String) -> Result<(), AllocError>
     ensures { OnOk result (string_bytes text.new ≡ string_bytes text.old
         ++ (codes ",\"about\":" ++ objects.about_text kind)) }
@@ -223,7 +223,7 @@ fn add_quoted(inner: Inner, text: &mut String) -> Result<(), AllocError>
 }
 
 impl Ends {
-    /// Those of a packet.
+    /// Returns the endpoints of a packet.
     fn of(packet: &Packet) -> Ends
         ensures { result ≡ objects.ends_of packet.now }
     {
@@ -234,7 +234,7 @@ impl Ends {
         }
     }
 
-    /// Those of the packet that an ICMP error quotes.
+    /// Returns the endpoints of the packet that an ICMP error quotes.
     fn quoted(inner: Inner) -> Ends
         ensures { result ≡ objects.ends_in inner }
     {
@@ -245,7 +245,7 @@ impl Ends {
         }
     }
 
-    /// Appends their members, with a comma before them.
+    /// Appends the members of the endpoints, with a comma before them.
     #[tactic(auto, unfolding(crate::specs::Objects::end_members))]
     fn add_to(self, text: &mut String) -> Result<(), AllocError>
         ensures { OnOk result (string_bytes text.new ≡ string_bytes text.old
@@ -267,7 +267,7 @@ impl Ends {
 }
 
 impl PacketNumbers {
-    /// Those of a packet.
+    /// Returns the numbers of a packet.
     fn of(kind: Kind) -> PacketNumbers
         ensures { result ≡ objects.packet_numbers kind }
     {
@@ -278,7 +278,7 @@ impl PacketNumbers {
         }
     }
 
-    /// Those of the packet that an ICMP error quotes.
+    /// Returns the numbers of the packet that an ICMP error quotes.
     fn quoted(protocol: Protocol) -> PacketNumbers
         ensures { result ≡ objects.numbers_in protocol }
     {
@@ -288,7 +288,7 @@ impl PacketNumbers {
         }
     }
 
-    /// Appends the number of an end if it is a port, else null.
+    /// Appends the number of an end if it is a port, and otherwise null.
     fn add_port(self, number: u16, text: &mut String) -> Result<(), AllocError>
         ensures { OnOk result (string_bytes text.new
             ≡ string_bytes text.old ++ objects.port_text self number) }
@@ -299,7 +299,7 @@ impl PacketNumbers {
         }
     }
 
-    /// Appends the identifier that one of the ends has, if it is one, else null.
+    /// Appends the identifier of one of the ends, if there is one, and otherwise null.
     fn add_identifier(self, one: u16, other: u16, text: &mut String) -> Result<(), AllocError>
         ensures { OnOk result (string_bytes text.new
             ≡ string_bytes text.old ++ objects.identifier_text self one other) }
@@ -324,8 +324,8 @@ fn kind_text(packet: &Packet) -> &'static str
     }
 }
 
-/// The type of an ICMP message: the first byte behind the IP header (RFC 792), whose length is in units of four bytes
-/// (RFC 791, section 3.1).
+/// Returns the type of an ICMP message: the first byte after the IP header (RFC 792), whose length is in units of four
+/// bytes (RFC 791, section 3.1).
 fn icmp_type(bytes: &[u8]) -> u8
     ensures { result ≡ byte_at (transport_start 0 bytes.now) bytes.now }
 {
@@ -333,7 +333,7 @@ fn icmp_type(bytes: &[u8]) -> u8
     byte(bytes, 4 * usize::from(first & 15))
 }
 
-/// A byte, or 0 past the end.
+/// Returns a byte, or 0 past the end.
 fn byte(bytes: &[u8], place: usize) -> u8
     ensures { result ≡ byte_at place bytes.now }
 {

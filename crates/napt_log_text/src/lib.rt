@@ -21,8 +21,8 @@ pub use json_object::JsonObject;
 pub use log_reader::{LogFileFault, LogReader, log_has_rows};
 pub use log_row::{LogField, LogRow};
 pub use log_rows::{
-    add_entered, add_first, add_living, add_opening, add_part, begins_piece, log_grows, logs_join,
-    traces_have_the_rows,
+    add_first, add_living, add_opening, add_part, begins_piece, effects_have_the_rows, log_grows,
+    logs_join,
 };
 pub use moment::TimeStamp;
 pub use napt_account::LogEntry;

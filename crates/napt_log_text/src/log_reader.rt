@@ -1,4 +1,4 @@
-//! A log that was written before, read again row by row.
+//! Reads a saved log row by row.
 ghost use Rattle.std.specs.{Prelude.{◌≡◌, ◌≢◌, ◌++◌, ◌<◌, ℕ, List, [], IsOkAnd, length}, List.All};
 ghost use Rattle.napt_config.specs.Rules.{Rules};
 ghost use Rattle.napt_log_text.specs.Rows as rows;
@@ -12,14 +12,14 @@ use std::alloc::Global;
 use std::io;
 use std::io::BufRead;
 
-/// Why a log is refused.
+/// The reason why a log is refused.
 #[derive(Debug, Drop)]
 pub enum LogFileFault {
     /// A read failed, memory ran out, or the bytes are not UTF-8.
     Unread(io::Error),
-    /// A row is none of a log: what was expected.
+    /// A row is not one of a log; with it, what was expected.
     Wrong(&'static str),
-    /// The last row breaks off: it has no end of a line.
+    /// The last row is incomplete: it has no line feed at its end.
     Torn,
 }
 
@@ -50,7 +50,7 @@ impl<R: BufRead + Drop> LogReader<R> {
         }
     }
 
-    /// A piece of a log behind the first one, of which nothing is read yet.
+    /// Returns the reader of a later piece of a log, of which nothing has been read yet.
     pub fn piece(alloc: Global, reader: R) -> LogReader<R>
         ensures { R.remaining result.reader ≡ R.remaining reader }
     {
@@ -65,7 +65,7 @@ impl<R: BufRead + Drop> LogReader<R> {
         self.line.as_str() == header()
     }
 
-    /// Reads the next row, of the next event; `None` at the end. Of what is no row an error says what was expected.
+    /// Reads the next row, or returns `None` at the end. If the line is not a row, the error says what was expected.
     pub fn next(&mut self) -> Result<Option<LogRow>, LogFileFault>
         ensures row { (rules : Rules) (event : Told) (rest : List ℕ) → saved.IsEvent event →
             R.remaining self.old.reader ≡ Some (rows.csv_row rules event ++ rest) →
@@ -95,7 +95,7 @@ impl<R: BufRead + Drop> LogReader<R> {
     }
 }
 
-/// Behind its header a log has the rows of its events, so that [`LogReader`] reads these back, in order.
+/// The rows of the events of a log follow its header, so that [`LogReader`] reads these events, in order.
 #[tactic(auto, using(crate::proofs::SavedLogs::has_rows))]
 pub fn log_has_rows()
     ensures { logs.LogHasRows }

@@ -1,5 +1,5 @@
-//! Rows of a log that was written before, read again.
-ghost use Rattle.std.specs.Prelude.{◌≡◌, ◌++◌, ℕ, [], Option, codes, decimal, length, slice_index_or};
+//! Rows of a saved log.
+ghost use Rattle.std.specs.Prelude.{◌≡◌, ◌++◌, ◌∷◌, ℕ, List, [], Option, codes, decimal, length};
 ghost use Rattle.napt_config.specs.{Rules.Rules, Text.address_text};
 ghost use Rattle.napt_wire.specs.declared.{Endpoint.Endpoint as End, Protocol.Protocol as Carried};
 ghost use Rattle.napt_account.specs.declared.log.{LogEntry.LogEntry as Logged, Shortage.Shortage as Short};
@@ -11,74 +11,89 @@ use napt_config::Address;
 use napt_rules::Row;
 use napt_wire::{Endpoint, Protocol};
 
-/// How many fields a row of a log has.
-const FIELDS: usize = 15;
+/// The number of fields after the redirect in a row of a log: the counts and the last use.
+const OTHERS: usize = 4;
 
 /// A field that may have a number.
 #[derive(Clone, Copy, Debug, PartialEq, Eq)]
 pub enum LogField {
     Empty,
     Number(u128),
-    /// What is no number, or one of more than 128 bits.
+    /// A text that is not a number, or a number of more than 128 bits.
     Other,
 }
 
-/// What a row of a log says, but for the dates, the counts and the last use.
+/// The values in a row of a log, except for the dates, the counts and the last use.
 #[derive(Clone, Copy, Debug, PartialEq, Eq)]
 pub struct LogRow {
     /// The time, in ns.
     pub time: LogField,
-    /// natEvent (RFC 8158): 8, a binding was made; 9, one ended; 12 and 13, a packet got none; empty, a binding lives at the
-    /// end of the log, and ends at the time of the row if no packet comes.
+    /// natEvent (RFC 8158): 8, a binding was made; 9, one ended; 12 and 13, a packet got none; empty, a binding is live
+    /// at the end of the log, and ends at the time of the row if no packet comes.
     pub event: LogField,
     /// The number of the protocol (IANA).
     pub protocol: LogField,
-    /// `None` also where only an address is told.
+    /// `None` also if there is only an address.
     pub inside: Option<Endpoint>,
     pub external: Option<Endpoint>,
     /// The number of the binding, from 1.
     pub number: LogField,
-    /// 1 of a redirect, 0 of another binding.
+    /// 1 for a redirect, 0 for another binding.
     pub redirect: LogField,
 }
 
 impl LogRow {
-    /// Reads a row without the line feed at its end. `None` if it has not as many fields as a row of a log.
+    /// Reads a row without the line feed at its end. Returns `None` if it does not have the number of fields of a row.
     pub fn read(row: &str) -> Option<LogRow>
         ensures { (rules : Rules) (event : Told) → saved.IsEvent event →
             rows.csv_row rules event ≡ row.now ++ codes "\n" →
             result ≡ Some (saved.saved_row event) }
     {
-        if field_count(row) == FIELDS {
-            Some(LogRow::from_fields(row))
+        let (read, rest) = LogRow::from_fields(row);
+        if field_count(rest) == OTHERS {
+            Some(read)
         } else {
             None
         }
     }
 
-    /// The fields at their places in [`header`](crate::header), from 0.
-    fn from_fields(row: &str) -> LogRow
+    /// Returns the values of the fields in the order of [`header`](crate::header), up to the redirect, and the fields after it.
+    fn from_fields(row: &str) -> (LogRow, &str)
         ensures binding { (time event : Option ℕ) (listed : Logged) →
             saved.IsTimeField time → saved.IsTimeField event → saved.IsEntryField listed →
             saved.fields_in row.now ≡ rows.time_fields time ++ rows.listed_fields event listed →
-            result ≡ saved.binding_row time event listed }
+            (result.0 ≡ saved.binding_row time event listed)
+            × (length (saved.fields_in result.1.now) ≡ 4) }
         ensures refusal { (external : ℕ) (shortage : Short) → saved.IsTimeField (Some shortage.at) →
             saved.fields_in row.now
             ≡ rows.time_fields (Some shortage.at) ++ rows.shortage_fields external shortage →
-            result ≡ saved.refusal_row shortage }
+            (result.0 ≡ saved.refusal_row shortage)
+            × (length (saved.fields_in result.1.now) ≡ 4) }
     {
-        LogRow {
-            time: number_at(row, 0),
-            event: number_at(row, 2),
-            protocol: number_at(row, 3),
-            inside: endpoint_of(field(row, 4), field(row, 5)),
-            external: endpoint_of(field(row, 6), field(row, 7)),
-            number: number_at(row, 9),
-            redirect: number_at(row, 10),
-        }
+        let (time, row) = first_field(row);
+        let (_, row) = first_field(row);
+        let (event, row) = first_field(row);
+        let (protocol, row) = first_field(row);
+        let (inside, row) = first_field(row);
+        let (inside_number, row) = first_field(row);
+        let (external, row) = first_field(row);
+        let (external_number, row) = first_field(row);
+        let (_, row) = first_field(row);
+        let (number, row) = first_field(row);
+        let (redirect, row) = first_field(row);
+        let read = LogRow {
+            time: number_in(time),
+            event: number_in(event),
+            protocol: number_in(protocol),
+            inside: endpoint_of(inside, inside_number),
+            external: endpoint_of(external, external_number),
+            number: number_in(number),
+            redirect: number_in(redirect),
+        };
+        (read, row)
     }
 
-    /// The binding of a row of one; of another an error says what was expected, and in which field.
+    /// Returns the binding of a row. If there is none, the error says what was expected, and in which field.
     pub fn binding(&self) -> Result<Row, &'static str>
         ensures { (time event : Option ℕ) (listed : Logged) →
             self.now ≡ saved.binding_row time event listed → result ≡ Ok listed.entry.binding }
@@ -108,27 +123,27 @@ impl LogRow {
     }
 }
 
-/// How many fields a row has.
+/// Returns the number of fields in a row.
 fn field_count(row: &str) -> usize
     ensures { result ≡ length (saved.fields_in row.now) }
 {
     row.split(',').count()
 }
 
-/// A field of a row by its place, from 0; empty where there are not so many.
-fn field(row: &str, place: usize) -> &str
-    ensures { result.now ≡ slice_index_or (saved.fields_in row.now) place [] }
+/// Returns the first field of a row, and the text of the fields after it, which is empty if there are none.
+fn first_field(row: &str) -> (&str, &str)
+    ensures { (field next : List ℕ) (others : List (List ℕ)) →
+        saved.fields_in row.now ≡ field ∷ next ∷ others →
+        (result.0.now ≡ field) × (saved.fields_in result.1.now ≡ next ∷ others) }
 {
-    row.split(',').nth(place).unwrap_or("")
+    row.split_once(',').unwrap_or((row, ""))
 }
 
-/// The number in the field at a place.
-fn number_at(row: &str, place: usize) -> LogField
+/// Returns the number in a field.
+fn number_in(text: &str) -> LogField
     ensures { (number : Option ℕ) → saved.IsTimeField number →
-        slice_index_or (saved.fields_in row.now) place [] ≡ rows.number_if_any number →
-        result ≡ saved.number_field number }
+        text.now ≡ rows.number_if_any number → result ≡ saved.number_field number }
 {
-    let text = field(row, place);
     if text.is_empty() {
         return LogField::Empty;
     }
@@ -138,7 +153,7 @@ fn number_at(row: &str, place: usize) -> LogField
     }
 }
 
-/// A protocol by its number (IANA).
+/// Returns the protocol with a number (IANA).
 fn protocol_of(number: LogField) -> Option<Protocol>
     ensures { (protocol : Carried) →
         number ≡ saved.number_field (Some (rows.csv_protocol protocol)) →
@@ -152,7 +167,7 @@ fn protocol_of(number: LogField) -> Option<Protocol>
     }
 }
 
-/// An endpoint by its address and its number.
+/// Returns the endpoint with an address and a number.
 fn endpoint_of(address: &str, number: &str) -> Option<Endpoint>
     ensures some { (endpoint : End) → saved.IsEndpointField endpoint →
         address.now ≡ address_text endpoint.address → number.now ≡ decimal endpoint.number →

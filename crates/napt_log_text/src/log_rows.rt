@@ -1,32 +1,28 @@
 //! The text of the log of a run, part by part, while packets come.
 ghost use Rattle.std.specs.{Prelude.{◌≡◌, ◌++◌, OnOk, option_map, string_bytes}, Int.NonZero.{non_zero_u32_get}};
-ghost use Rattle.napt_account.specs.{TrackedRuns.told_of_input, ResumedLogs.told_first, TraceLogs.told_in};
+ghost use Rattle.napt_account.specs.{LogBuilders.part_in};
 ghost use Rattle.napt_log_text.specs.Logs as logs;
 
 use crate::event::{LogEvent, header};
-use napt_account::{LogEntry, LogStep, LogTrace, Shortage, logs_go_on, traces_tell_the_log};
+use napt_account::{InputPart, LogEntry, OpenLog, Shortage, effects_are_the_log, logs_go_on};
 use napt_config::Config;
 use std::alloc::AllocError;
 use std::num::NonZeroU32;
 
 const NANOSECONDS_A_SECOND: u64 = 1_000_000_000;
 
-/// Appends the beginning of a log: the names of its fields, and a row for each binding that lives before the first packet,
-/// as the redirects of a run that begins anew. Fails only if memory runs out.
-pub fn add_opening(
-    config: &Config,
-    living: &[LogEntry],
-    text: &mut String,
-) -> Result<(), AllocError>
+/// Appends the beginning of a log, or of a piece of one: the names of its fields, and a row for each entry that has not ended.
+/// Fails only if memory runs out.
+pub fn add_opening(config: &Config, log: &OpenLog, text: &mut String) -> Result<(), AllocError>
     ensures { OnOk result (string_bytes text.new ≡ string_bytes text.old
-        ++ logs.opening_text config.now living.now) }
+        ++ logs.opening_text config.now log.now) }
 {
     text.push_str(header())?;
-    add_made(config, living, text)
+    add_made(config, &log.entries, text)
 }
 
-/// Appends the rows of what a log that goes on tells before the first packet: entries that end, and new ones. Fails only if
-/// memory runs out.
+/// Appends the rows of what a log tells before the first input: entries that end, and new ones. Fails only if memory runs
+/// out.
 pub fn add_first(
     config: &Config,
     ended: &[LogEntry],
@@ -34,32 +30,22 @@ pub fn add_first(
     text: &mut String,
 ) -> Result<(), AllocError>
     ensures { OnOk result (string_bytes text.new ≡ string_bytes text.old
-        ++ logs.told_rows config.now (told_first ended.now made.now)) }
+        ++ logs.part_rows config.now (logs.first_part ended.now made.now)) }
 {
     add_ended(config, ended, text)?;
     add_made(config, made, text)
 }
 
-/// Appends the rows of what the log tells with an input: the bindings that ended since the clock of the input before, the
+/// Appends the rows of what the log tells with an input: the bindings that ended since the time of the input before, the
 /// binding that its packet made, and the packet itself if no binding could be made for it. Fails only if memory runs out.
-pub fn add_part(config: &Config, step: &LogStep, text: &mut String) -> Result<(), AllocError>
-    ensures { OnOk result (string_bytes text.new ≡ string_bytes text.old
-        ++ logs.told_rows config.now (told_of_input step.now)) }
-{
-    add_ended(config, &step.ended, text)?;
-    add_made(config, &step.made, text)?;
-    add_refused(config, &step.refused, text)
-}
-
-/// Appends the rows of what the log tells with the trace of an input, as `add_part` does. Fails only if memory runs out.
 #[inline(never)]
-pub fn add_entered(config: &Config, told: &LogTrace, text: &mut String) -> Result<(), AllocError>
+pub fn add_part(config: &Config, part: &InputPart, text: &mut String) -> Result<(), AllocError>
     ensures { OnOk result (string_bytes text.new ≡ string_bytes text.old
-        ++ logs.told_rows config.now (told_in told.now)) }
+        ++ logs.part_rows config.now (part_in part.now)) }
 {
-    add_ended(config, &told.ended, text)?;
-    add_made(config, &told.made, text)?;
-    add_refused(config, &told.refused, text)
+    add_ended(config, &part.ended, text)?;
+    add_made(config, &part.made, text)?;
+    add_refused(config, &part.refused, text)
 }
 
 /// Whether a log in pieces of `each` seconds begins one with an input at a time, in ns, whose clock was `last` before: whether
@@ -91,11 +77,10 @@ pub fn log_grows()
     ensures { logs.LogGrows }
 {}
 
-/// The log of a run that goes on from before any input is that of the run. The log of a run, without rows of what lives,
-/// and then that of the run that goes on where it was left, is the log of the run over all inputs; also where the state was
-/// saved and taken up. From where a piece begins the log is that of the run that goes on there with a new one.
+/// The log of a run, without rows of what lives, and then that of the run that goes on where it was left, is the log of the
+/// run over all inputs; also where the state was saved and taken up. From where a piece begins the log is that of the run
+/// that goes on there with a new one.
 pub fn logs_join()
-    ensures anew { logs.LogsBeginAnew }
     ensures join { logs.LogsJoin }
     ensures saved { logs.SavedLogsJoin }
     ensures pieces { logs.PiecesStandAlone }
@@ -103,12 +88,11 @@ pub fn logs_join()
     logs_go_on();
 }
 
-/// The rows of the traces of a run are those of its inputs, also of a run that goes on from a state.
-pub fn traces_have_the_rows()
-    ensures rows { logs.TracesHaveTheRows }
-    ensures rest { logs.TracesHaveTheRest }
+/// The rows by the effects of a run's inputs are those of its log.
+pub fn effects_have_the_rows()
+    ensures { logs.EffectsHaveTheRows }
 {
-    traces_tell_the_log();
+    effects_are_the_log();
 }
 
 fn add_made(config: &Config, made: &[LogEntry], text: &mut String) -> Result<(), AllocError>

@@ -11,7 +11,7 @@ const SECOND: u64 = 1_000_000_000;
 
 const MINUTES: u32 = 60;
 
-/// The first time of the year 10000: from it on a year has more than the four digits of RFC 3339.
+/// The first time of the year 10000, from which on a year has more than the four digits of RFC 3339.
 const UNDATED: u128 = 253_402_300_800_000_000_000;
 
 /// A time, in ns since 1970-01-01 UTC.
@@ -19,7 +19,7 @@ const UNDATED: u128 = 253_402_300_800_000_000_000;
 pub struct TimeStamp(pub u128);
 
 impl TimeStamp {
-    /// The whole seconds.
+    /// Returns the whole seconds.
     fn seconds(self) -> u128
         ensures { result ≡ self.0 / times.ns_per_log_second }
     {
@@ -29,7 +29,7 @@ impl TimeStamp {
         }
     }
 
-    /// The ns after the last whole second.
+    /// Returns the ns after the last whole second.
     fn rest(self) -> u32
         ensures { result ≡ self.0 % times.ns_per_log_second }
     {
@@ -39,7 +39,7 @@ impl TimeStamp {
         }
     }
 
-    /// Appends it in seconds, with nine decimals. Fails only if memory runs out.
+    /// Appends the time in seconds, with nine decimals. Fails only if memory is refused.
     pub fn add_seconds(self, text: &mut String) -> Result<(), AllocError>
         ensures { OnOk result (string_bytes text.new
             ≡ string_bytes text.old ++ times.seconds_text self.0) }
@@ -51,14 +51,14 @@ impl TimeStamp {
         Ok(())
     }
 
-    /// Whether its year has four digits.
+    /// Whether the year has four digits.
     fn has_date(self) -> bool
         ensures { result ≡ times.has_date self.0 }
     {
         self.0 < UNDATED
     }
 
-    /// Appends its date and time of day.
+    /// Appends the date and the time of day.
     fn add_known_date(self, text: &mut String) -> Result<(), AllocError>
         requires { self.0 < 253402300800000000000 }
         ensures { OnOk result (string_bytes text.new
@@ -75,8 +75,8 @@ impl TimeStamp {
         Ok(())
     }
 
-    /// Appends its date and time of day in UTC (RFC 3339), such as `2026-11-26T10:02:07.000000001Z`; nothing from the
-    /// year 10000 on. Fails only if memory runs out.
+    /// Appends the date and the time of day in UTC (RFC 3339), such as `2026-11-26T10:02:07.000000001Z`, or nothing
+    /// from the year 10000 on. Fails only if memory is refused.
     pub fn add_date(self, text: &mut String) -> Result<(), AllocError>
         ensures { OnOk result (string_bytes text.new
             ≡ string_bytes text.old ++ times.date_if_any self.0) }
@@ -87,8 +87,8 @@ impl TimeStamp {
         self.add_known_date(text)
     }
 
-    /// Appends it in seconds, and its date in brackets if it has one, such as `1.000000000
-    /// (1970-01-01T00:00:01.000000000Z)`. Fails only if memory runs out.
+    /// Appends the time in seconds, and its date in brackets if it has one, such as `1.000000000
+    /// (1970-01-01T00:00:01.000000000Z)`. Fails only if memory is refused.
     #[tactic(auto, unfolding(crate::specs::Times::moment_text))]
     pub fn add_to(self, text: &mut String) -> Result<(), AllocError>
         ensures { OnOk result (string_bytes text.new

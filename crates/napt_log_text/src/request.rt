@@ -6,7 +6,7 @@ use napt_account::{Entry, Party};
 use napt_wire::Protocol;
 use std::alloc::{AllocError, Global};
 
-/// A span of time in ns since 1970-01-01 UTC: from its first moment until one that is no longer in it.
+/// A span of time in ns since 1970-01-01 UTC: from its first moment until the first one after it.
 #[derive(Clone, Copy, Debug, PartialEq, Eq)]
 pub struct TimeSpan {
     pub first: u128,
@@ -16,10 +16,10 @@ pub struct TimeSpan {
 /// Who had an external endpoint, or any endpoint of an external address?
 #[derive(Clone, Copy)]
 pub struct Request {
-    /// If absent, any.
+    /// Any protocol if absent.
     pub protocol: Option<Protocol>,
     pub party: Party,
-    /// At some moment of this span; if absent, at any time.
+    /// At some moment of this span, or at any time if absent.
     pub at: Option<TimeSpan>,
 }
 
@@ -33,7 +33,7 @@ pub struct NearestEntries {
 }
 
 impl Request {
-    /// The entries of a log that answer the request, in their order; `AllocError` if memory is refused.
+    /// Returns the entries of a log that answer the request, in their order; `AllocError` if memory is refused.
     pub fn holders_among(&self, alloc: Global, entries: &[Entry]) -> Result<Vec<Entry>, AllocError>
         ensures { IfOk result (λ found. found.items ≡ requests.holders self.now entries.now) }
     {
@@ -44,7 +44,7 @@ impl Request {
             .collect(alloc)
     }
 
-    /// The nearest holders among the entries of a log.
+    /// Returns the nearest holders among the entries of a log.
     pub fn nearest_among(&self, entries: &[Entry]) -> NearestEntries
         ensures before { result.before ≡ requests.last_before self.now entries.now }
         ensures after { result.after ≡ requests.first_after self.now entries.now }
@@ -62,7 +62,7 @@ impl Request {
         is_of(self.protocol, entry.binding.protocol) && self.party.has(entry.binding.external)
     }
 
-    /// Whether it had the endpoint at some moment of the span.
+    /// Whether the binding had the endpoint at some moment of the span.
     fn is_answered_by(&self, entry: &Entry) -> bool
         ensures { result ≡ requests.is_holder self.now entry.now }
     {
@@ -73,7 +73,7 @@ impl Request {
             }
     }
 
-    /// Whether it had the endpoint and was made after the span.
+    /// Whether the binding had the endpoint and was made after the span.
     fn is_before(&self, entry: &Entry) -> bool
         ensures { result ≡ requests.is_next self.now entry.now }
     {
@@ -84,7 +84,7 @@ impl Request {
             }
     }
 
-    /// Whether it had the endpoint and had ended before the span.
+    /// Whether the binding had the endpoint and had ended before the span.
     fn is_behind(&self, entry: &Entry) -> bool
         ensures { result ≡ requests.is_past self.now entry.now }
     {
@@ -95,7 +95,7 @@ impl Request {
             }
     }
 
-    /// The one that ended last of those that had the endpoint and had ended before the span.
+    /// Returns the entry that ended last of those that had the endpoint and had ended before the span.
     fn last_before(&self, entries: &[Entry]) -> Option<Entry>
         ensures { result ≡ requests.last_before self.now entries.now }
     {
@@ -104,7 +104,7 @@ impl Request {
             .fold(None, |last, entry| self.last_so_far(last, entry))
     }
 
-    /// The same up to an entry.
+    /// Returns the same up to an entry.
     fn last_so_far(&self, last: Option<Entry>, entry: &Entry) -> Option<Entry>
         ensures { result ≡ requests.last_so_far self.now last entry.now }
     {
@@ -117,7 +117,7 @@ impl Request {
 }
 
 impl TimeSpan {
-    /// Whether the binding of an entry has a moment in common with it.
+    /// Whether the binding of an entry has a moment in common with the span.
     fn meets(self, entry: &Entry) -> bool
         ensures { result ≡ requests.has_moment_of self entry.now }
     {
@@ -129,7 +129,7 @@ impl TimeSpan {
     }
 }
 
-/// Whether a protocol is the one that is wanted, if one is.
+/// Whether a protocol is the requested one, if one is requested.
 fn is_of(wanted: Option<Protocol>, protocol: Protocol) -> bool
     ensures { result ≡ requests.holder_is_of wanted protocol }
 {
@@ -142,7 +142,7 @@ fn is_of(wanted: Option<Protocol>, protocol: Protocol) -> bool
     }
 }
 
-/// The one that ended later, and the second if both ended at one time.
+/// Returns the entry that ended later, and the second if both ended at one time.
 fn later(found: Option<Entry>, entry: &Entry) -> Entry
     ensures { result ≡ requests.later_ended found entry.now }
 {

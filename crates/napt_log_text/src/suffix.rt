@@ -1,4 +1,4 @@
-//! The end of a text, written from its last byte to its first.
+//! The end of a text, which is written from its last byte to its first.
 ghost use Rattle.std.specs.Prelude.{◌≡◌, ◌+◌, ◌<◌, ◌≤◌, List, ℕ, [], ◌∷◌, ◌++◌, length, drop, OnOk, IsAscii, decimal, string_bytes};
 ghost use Rattle.napt_config.specs.Text.{address_text};
 
@@ -7,10 +7,10 @@ use std::alloc::AllocError;
 use std::marker::Model;
 use std::str;
 
-/// How many bytes it has room for: an endpoint needs 21.
+/// The capacity in bytes: an endpoint needs 21.
 const ROOM: usize = 40;
 
-/// The end of an ASCII text, which grows to the front and takes no memory. A text of many numbers is so appended at once.
+/// The end of an ASCII text, which grows to the front and takes no memory. A text of many numbers is appended at once.
 #[derive(Drop)]
 pub(crate) struct Suffix {
     bytes: [u8; ROOM],
@@ -27,7 +27,7 @@ impl Model for Suffix {
 }
 
 impl Suffix {
-    /// An empty one.
+    /// Returns an empty suffix.
     pub(crate) fn new() -> Suffix
         ensures { result ≡ [] }
     {
@@ -70,7 +70,7 @@ impl Suffix {
         self.push_number(u16::from(first));
     }
 
-    /// Appends it to a text. Fails only if memory runs out.
+    /// Appends the suffix to a text. Fails only if memory is refused.
     pub(crate) fn add_to(&self, text: &mut String) -> Result<(), AllocError>
         ensures { OnOk result (string_bytes text.new ≡ string_bytes text.old ++ self.now) }
     {

@@ -1,6 +1,7 @@
 pub mod ConfigLemmas
 pub mod LineLemmas
 pub mod LogLemmas
+pub mod LogRowLemmas
 pub mod NumberLemmas
 pub mod OneKind
 pub mod OptionLemmas

@@ -1,10 +1,8 @@
 -- The reasons for which a text gives no state.
-use Rattle.std.proofs.{lemmas.{Grind.common_steps, Bool.Decides.nat_tests}, Common.{◌≡◌, [], Bool, true, false, Option, Some, None, IfSome, is_some, refl, sym, subst, arith}}
+use Rattle.std.proofs.{lemmas.{Grind.common_steps, Bool.Decides.nat_tests}, Common.{◌≡◌, Bool, true, false, Option, is_some, arith}}
 use Rattle.clap.specs.Words.{Text}
 use Rattle.napt_program.specs.{CommandLine.{files_of, files_with_log}, Command.IsRunStop, State.{IsNewStop, IsSaveStop}}
 use Rattle.napt_program.specs.declared.{options.RunOptions.RunOptions, options_with_log.OptionsWithLog.OptionsWithLog, stop.Stop.Stop, streams.StandardStreams.StandardStreams}
-use Rattle.napt_account.specs.ResumedLogRuns.{LogStateModel, IsFew}
-use Rattle.napt_state.specs.declared.state_contents.LogPosition.{LogPosition}
 use Rattle.napt_state.specs.{StateContents.unless_for, declared.fault.StateReason.{StateReason, TheVariants.{Unread, NotUtf8, Memory}}}
 
 -- A text was not read if what would hold after reading it does not hold.
@@ -26,9 +24,3 @@ pub save_stop : (s : StandardStreams) (o : OptionsWithLog) (stop : Stop) → is_
     IsSaveStop stop →
     IsRunStop s (files_with_log o) stop
 save_stop s o stop named is = grind (arith, common_steps, nat_tests)
-
--- If the counts of a state's log are small enough, so are those that are kept, and there are none without a log.
-pub few_kept : (log : Option LogPosition) (kept : LogStateModel) → IfSome log (λ it. IsFew it.log) →
-    IfSome log (λ it. kept ≡ it.log) → (log ≡ None → kept ≡ record { made = 0; living = [] }) → IsFew kept
-few_kept None kept few is none = subst IsFew (sym (none refl)) (record { made = omega arith; packets = tt })
-few_kept (Some it) kept few is none = subst IsFew (sym is) few

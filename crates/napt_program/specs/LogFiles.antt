@@ -1,6 +1,7 @@
 -- The text of a log to which a run may append.
-use Rattle.std.specs.{Prelude.{◌≡◌, ◌≢◌, ◌⊎◌, ◌<◌, ◌^◌, ◌==◌, ◌&&◌, nat_eq, nat_lt, not, ℕ, Bool, List, [], ◌∷◌, ◌++◌, codes, decimal, length, Option, Some, None, if◌then◌else◌}, List.{list_any, starts_with}}
+use Rattle.std.specs.{Prelude.{◌≡◌, ◌≢◌, ◌⊎◌, ◌<◌, ◌^◌, ◌-◌, ◌*◌, ◌%◌, ◌==◌, ◌&&◌, nat_eq, nat_lt, min, not, ℕ, Bool, List, [], ◌∷◌, ◌++◌, codes, decimal, drop, fold, length, slice_index, take, unwrap_or, Option, Some, None, if◌then◌else◌}, List.{last_or, list_any, slice_split, starts_with}, Int.Bits.bit_xor}
 use Rattle.napt_log_text.specs.Rows.{csv_header}
+use Rattle.napt_state.specs.declared.line.LogEnd.{LogEnd}
 use Rattle.napt_program.specs.declared.{log_file.TheConstants.MOST_TORN, log_pieces.LogPieces.LogPieces, stop.{LogRefusal.LogRefusal, Stop.Stop, TheConstants.MEMORY}}
 use Rattle.napt_program.specs.declared.role.FileRole.TheVariants as role
 use Rattle.napt_program.specs.declared.stop.LogRefusal.TheVariants as refusal
@@ -13,13 +14,32 @@ is_line_feed byte = byte == 10
 abbrev pub is_torn : List ℕ → Bool
 is_torn end = nat_lt (length end) MOST_TORN && not (list_any is_line_feed end)
 
--- Why a run must not append to a log, if so. The state records `told` bytes. The list has the log's bytes from the
--- last of them on: that byte must end a row, and at most a partial row may follow it.
-abbrev pub refusal_at : ℕ → List ℕ → Option LogRefusal
-refusal_at told [] = Some (refusal.Another told)
-refusal_at told (byte ∷ behind) =
-    if not (is_line_feed byte) then Some (refusal.Another told)
-    else (if is_torn behind then None else Some (refusal.Longer told))
+-- The bytes after the last line feed.
+abbrev pub last_row : List ℕ → List ℕ
+last_row text = unwrap_or (last_or None (slice_split is_line_feed text)) text
+
+-- FNV-1a, of 64 bits (the hash of Fowler, Noll and Vo): of each byte the exclusive or, and then the product.
+abbrev pub row_hash : List ℕ → ℕ
+row_hash row = fold (λ hash byte. (bit_xor hash byte * 1099511628211) % 2 ^ 64) 14695981039346656037 row
+
+-- The text ends with a row that has this hash, and its line feed.
+abbrev pub is_last_row : ℕ → List ℕ → Bool
+is_last_row hash text =
+    nat_lt 0 (length text) && (is_line_feed (slice_index text (length text - 1))
+    && (row_hash (last_row (take (length text - 1) text)) == hash))
+
+-- How many bytes before a place are looked at.
+abbrev pub bytes_before : ℕ → ℕ
+bytes_before place = min place MOST_TORN
+
+-- Why a run must not append to a log, if so. The state says that the log ends at a length with a row. The list has the
+-- log's bytes around that place: the row before it must be that one, and at most a partial row may follow it.
+abbrev pub refusal_at : LogEnd → List ℕ → Option LogRefusal
+refusal_at told text =
+    let before : ℕ = bytes_before told.length in
+    if nat_lt (length text) before then Some (refusal.Another told.length)
+    else (if not (is_last_row told.row (take before text)) then Some (refusal.Another told.length)
+    else (if is_torn (drop before text) then None else Some (refusal.Longer told.length)))
 
 -- The name of the piece with a number: the path of the log, a dot and the number.
 abbrev pub piece_name : List ℕ → ℕ → List ℕ
@@ -37,9 +57,10 @@ piece_of pieces = pieces.number
 abbrev pub needs_new_piece : {R F A : Type 0} → LogPieces R F A → List ℕ → Bool
 needs_new_piece pieces bytes = pieces.has_text && starts_with nat_eq bytes csv_header
 
--- The bytes of the text that are kept are none, or as many as the state records.
-abbrev pub LogTextIsKept : Option ℕ → ℕ → Type 0
-LogTextIsKept told kept = (kept ≡ 0) ⊎ (told ≡ Some kept)
+-- The bytes of the text that are kept are none, or as many as the log of the state has in one file.
+abbrev pub LogTextIsKept : Option LogEnd → ℕ → Type 0
+LogTextIsKept None kept = kept ≡ 0
+LogTextIsKept (Some end) kept = (kept ≡ 0) ⊎ ((end.piece ≡ 0) × (end.length ≡ kept))
 
 -- The text is refused, it could not be read, or memory was refused.
 abbrev pub IsLogStop : Stop → Type 0

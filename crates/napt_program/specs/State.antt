@@ -1,26 +1,28 @@
 -- The states in a run's files.
-use Rattle.std.specs.Prelude.{◌≡◌, ℕ, List, [], Bool, true, false, None, IfSome}
+use Rattle.std.specs.Prelude.{◌≡◌, ℕ, List, [], Bool, true, false, Some}
 use Rattle.napt_config.specs.Rules.{Rules}
-use Rattle.napt_rules.specs.Prelude.{with_redirects}
-use Rattle.napt_account.specs.ResumedLogRuns.{IsFew}
-use Rattle.napt_state.specs.{StateText.{saved_text}, declared.state_contents.StateFileContents.{StateFileContents}}
-use Rattle.napt_program.specs.declared.stop.{Stop.Stop, TheConstants.MEMORY}
+use Rattle.napt_rules.specs.{Prelude.{misfit}, declared.Row.Row}
+use Rattle.napt_account.specs.LogStarts.{no_saved_log}
+use Rattle.napt_state.specs.{Saved.{log_end, log_taken, state_taken}, StateContents.IsReadAs, StateFiles.{StateFileModel}}
+use Rattle.napt_program.specs.declared.{state_reading.ResumedState.ResumedState, stop.{Stop.Stop, TheConstants.MEMORY}}
 use Rattle.napt_program.specs.declared.role.FileRole.TheVariants as role
 use Rattle.napt_program.specs.declared.stop.Stop.TheVariants as stop
 use Rattle.napt_program.specs.declared.stop.StateRefusal.TheVariants as refusal
 
 -- The state has no bindings, its clock is 0, and it has no log.
-abbrev pub IsAnew : StateFileContents → Type 0
-IsAnew saved = saved ≡ record { state = record { clock = 0; list = [] }; log = None }
+abbrev pub IsAnew : ResumedState → Type 0
+IsAnew it = (it.state ≡ record { clock = 0; list = [] }) × (it.saved ≡ no_saved_log)
 
--- If the state has a log, its counts are small enough for a run.
-abbrev pub HasFew : StateFileContents → Type 0
-HasFew saved = IfSome saved.log (λ log. IsFew log.log)
+-- It is what the text says, under the rules: the text of these contents, unless an earlier version wrote its log.
+abbrev pub IsStateOf : Rules → List ℕ → ResumedState → Type 0
+IsStateOf rules text it = (told : StateFileModel) × IsReadAs text told
+    × (it.state ≡ state_taken rules.timers told) × (it.saved ≡ log_taken rules.timers told) × (it.log ≡ log_end told.log)
 
--- Under the rules the state continues as the text's state does, and with the same log.
-abbrev pub IsStateOf : Rules → List ℕ → StateFileContents → Type 0
-IsStateOf rules text saved = (told : StateFileContents) × (text ≡ saved_text told)
-    × (with_redirects rules saved.state ≡ with_redirects rules told.state) × (saved.log ≡ told.log)
+-- If the stop refuses a binding, the text is that of a state whose first misfit under the rules has the stop's reason.
+abbrev pub ReportsMisfit : Rules → List ℕ → Stop → Type 0
+ReportsMisfit rules text (stop.State (refusal.Binding why)) = (told : StateFileModel) × IsReadAs text told
+    × (row : Row) × (misfit rules (state_taken rules.timers told) ≡ Some (row, why))
+ReportsMisfit rules text other = Unit {0}
 
 -- The stop refuses a line.
 abbrev pub is_bad_line : Stop → Bool

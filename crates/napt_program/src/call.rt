@@ -8,10 +8,10 @@ use crate::options::{LineFault, Manual};
 use crate::record_counter::CountedSource;
 use crate::role::FileRole;
 use crate::stop::{LogRefusal, Stop, line_at_end, status_at_end};
+use crate::stop_reason::StopReason;
 use crate::streams::StandardStreams;
-use napt_config::ConfigFault;
+use napt_config::{Address, Config};
 use napt_log_text::TimeStamp;
-use napt_records::Fault;
 use std::alloc::{AllocError, Global};
 use std::env::Env;
 use std::fmt;
@@ -33,8 +33,8 @@ pub fn answer_line(rt: &impl Print, fault: LineFault) -> Result<(), Stop>
     }
 }
 
-/// Prints on standard error that the log begins a new entry for each binding of the state, at the
-/// state's clock, in ns. Fails only if memory is refused.
+/// Prints on standard error that the log lists all bindings of the state anew, at the state's
+/// clock, in ns. Fails only if memory is refused.
 pub fn print_new_entries(
     rt: &impl Eprint,
     alloc: Global,
@@ -44,7 +44,7 @@ pub fn print_new_entries(
     let mut date = String::new(alloc);
     TimeStamp(u128::from(clock)).add_date(&mut date)?;
     let _ = eprintln!(rt;
-        "{name}: the log begins a new entry for each binding of the state, at {date}"
+        "{name}: the log lists all bindings of the state anew, at {date}: the run before had no log"
     );
     Ok(())
 }
@@ -58,28 +58,40 @@ pub struct ProgramCall {
     pub is_heard: bool,
     /// Whether standard error is open and is a terminal.
     pub at_terminal: bool,
+    /// Whether standard error gets more than the fault line: at a terminal, or with `--verbose`.
+    pub is_verbose: bool,
 }
 
 impl ProgramCall {
     /// Returns the call of the program with this name.
     pub fn of(rt: &HostRuntime, streams: StandardStreams, name: &'static str) -> ProgramCall {
+        let at_terminal = streams.error && rt.stderr().is_terminal();
         ProgramCall {
             name,
             is_heard: streams.error,
-            at_terminal: streams.error && rt.stderr().is_terminal(),
+            at_terminal,
+            is_verbose: at_terminal,
         }
     }
 
-    /// Ends the program: prints the fault line, without taking memory, and advice, if there is a
-    /// fault and standard error is open. Returns the exit status.
-    pub fn ended(self, rt: &impl Eprint, answer: &Result<(), Stop>) -> ExitCode
+    /// Returns the call with `--verbose`.
+    pub fn verbose(self) -> ProgramCall {
+        ProgramCall {
+            is_verbose: self.is_heard,
+            ..self
+        }
+    }
+
+    /// Ends the program: prints the fault line, without taking memory, and the reason, if there is
+    /// a fault and standard error is open. Returns the exit status.
+    pub fn ended(self, rt: &impl Eprint, answer: &Result<(), Stop>, reason: &StopReason) -> ExitCode
         ensures { exit_status result ≡ status_at_end answer.now }
     {
         if let Some(line) = line_at_end(self.name, self.is_heard, answer) {
             let _ = rt.eprintln(line);
         }
         if let Err(stop) = answer {
-            self.print_advice(rt, *stop);
+            self.print_reason(rt, *stop, reason);
         }
         ExitCode::from(status_at_end(answer))
     }
@@ -110,19 +122,23 @@ impl ProgramCall {
         }
     }
 
-    /// Prints advice on a stop in a line after its fault line, at a terminal; on a refused log it
-    /// is printed wherever standard error goes.
-    fn print_advice(self, rt: &impl Eprint, stop: Stop) {
-        if self.at_terminal || (self.is_heard && matches!(stop, Stop::LogFile(_))) {
-            let _ = rt.eprintln(Advice {
-                name: self.name,
-                stop,
-            });
+    /// Prints in a line after the fault line why the program stopped, if that is requested, or
+    /// where help is; what a run must not write after in a log is printed in any case.
+    fn print_reason(self, rt: &impl Eprint, stop: Stop, reason: &StopReason) {
+        if !self.is_heard {
+            return;
         }
+        let name = self.name;
+        let _ = match (stop, reason.text()) {
+            (Stop::LogFile(refusal), _) => eprintln!(rt; "  the log {refusal}"),
+            _ if !reason.is_requested => Ok(()),
+            (_, Some(text)) => eprintln!(rt; "{name}: {text}"),
+            _ => eprintln!(rt; "  {name} --help tells what it takes, and what each line means"),
+        };
     }
 
-    /// Warns that the saved entries of the log do not match the state's bindings, so that new
-    /// entries begin at the state's clock, in ns. Fails only if memory is refused.
+    /// Warns that the state's bindings have no accounts, so that the log lists all of them anew, at
+    /// the state's clock, in ns. Fails only if memory is refused.
     pub fn print_new_entries(
         self,
         rt: &impl Eprint,
@@ -135,23 +151,56 @@ impl ProgramCall {
         Ok(())
     }
 
-    /// Prints at a terminal which captures end inside a record.
-    pub fn print_cuts<S, Q>(
+    /// Prints that a packet has this time, in ns, which is earlier than the clock of the state with
+    /// which the run starts. Fails only if memory is refused.
+    pub fn print_earlier(
         self,
         rt: &impl Eprint,
+        alloc: Global,
+        time: u64,
+        clock: u64,
+    ) -> Result<(), AllocError> {
+        if !self.is_heard {
+            return Ok(());
+        }
+        let (mut date, mut dated) = (String::new(alloc), String::new(alloc));
+        TimeStamp(u128::from(time)).add_date(&mut date)?;
+        TimeStamp(u128::from(clock)).add_date(&mut dated)?;
+        let name = self.name;
+        let _ = eprintln!(rt;
+            "{name}: a packet is of {date}, earlier than the state's time, {dated}: until then packets count as at that time, and no timer ends"
+        );
+        Ok(())
+    }
+
+    /// Prints what the captures show against themselves: that they seem to be swapped, and which
+    /// end inside a record.
+    pub fn print_flaws<S, Q>(
+        self,
+        rt: &impl Eprint,
+        config: &Config,
         inside: &CountedSource<S>,
         outside: &CountedSource<Q>,
     ) {
-        if inside.is_cut() {
-            self.print_cut(rt, FileRole::Inside);
+        if !self.is_heard {
+            return;
         }
-        if outside.is_cut() {
-            self.print_cut(rt, FileRole::Outside);
+        let name = self.name;
+        if let (Some(here), Some(there)) = (inside.first_source(), outside.first_source())
+            && !config.is_inside(here)
+            && config.is_inside(there)
+        {
+            let (here, there) = (Address(here), Address(there));
+            let _ = eprintln!(rt;
+                "{name}: the captures seem to be swapped: the first packet from inside is from {here}, and that from outside from {there}"
+            );
         }
+        self.print_cut(rt, FileRole::Inside, inside.is_cut());
+        self.print_cut(rt, FileRole::Outside, outside.is_cut());
     }
 
-    fn print_cut(self, rt: &impl Eprint, role: FileRole) {
-        if self.at_terminal {
+    fn print_cut(self, rt: &impl Eprint, role: FileRole, is_cut: bool) {
+        if is_cut {
             let (name, side) = (self.name, role.name());
             let _ = eprintln!(rt;
                 "{name}: the capture {side} is cut: its last packet is not whole, and is left out"
@@ -168,38 +217,6 @@ fn is_called(words: &[String], name: &str) -> bool {
     }
 }
 
-/// The advice on a stop: `explain`, if it knows more of the cause, or else the help.
-#[derive(Clone, Copy, Debug)]
-struct Advice {
-    name: &'static str,
-    stop: Stop,
-}
-
-impl fmt::Display for Advice {
-    fn fmt<W: fmt::Write>(&self, f: &mut fmt::Formatter<W>) -> fmt::Result {
-        match self.stop {
-            Stop::Config(ConfigFault::Memory)
-            | Stop::Usage
-            | Stop::LineMemory
-            | Stop::Help
-            | Stop::Log
-            | Stop::Save
-            | Stop::Run(Fault::Run(_) | Fault::Write(..)) => {
-                let name = self.name;
-                write!(
-                    f,
-                    "  {name} --help tells what it takes, and what each line means"
-                )
-            }
-            Stop::LogFile(refusal) => write!(f, "  the log {refusal}"),
-            Stop::Config(_) | Stop::State(_) | Stop::File(_) | Stop::Run(Fault::Capture(..)) =>
-                f.write_str(
-                    "  explain (installed: napt-explain) with the same words tells why, and what to do",
-                ),
-        }
-    }
-}
-
 impl fmt::Display for LogRefusal {
     fn fmt<W: fmt::Write>(&self, f: &mut fmt::Formatter<W>) -> fmt::Result {
         match self {
@@ -212,6 +229,10 @@ impl fmt::Display for LogRefusal {
             LogRefusal::Another(bytes) => write!(
                 f,
                 "is not that of the state, which has {bytes} bytes: name that one, or a new file"
+            ),
+            LogRefusal::Piece(number) => write!(
+                f,
+                "does not end with piece {number} as the state has it: move later pieces away, or name a new file"
             ),
             LogRefusal::Longer(bytes) => write!(
                 f,

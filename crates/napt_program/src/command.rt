@@ -4,7 +4,7 @@ ghost use Rattle.std.specs.{Prelude.{◌≡◌, ◌≢◌, ◌⊎◌, [], Err, I
 ghost use Rattle.napt_program.specs.{CommandLine.files_with_log, Command.{IsOfLog, IsRunStop, stop_after}};
 ghost use Rattle.napt_program.specs.{Standard.standard_again, Streams.closed_stream};
 ghost use Rattle.napt_records.specs.Faults.{is_shut_gate_fault};
-ghost use Rattle.napt_account.specs.ResumedLogRuns.{IsFew};
+ghost use Rattle.napt_account.specs.LogStarts.{is_saved_log_state};
 ghost use Rattle.napt_rules.specs.Prelude.{TakesState};
 
 use crate::config_file::configuration;
@@ -14,15 +14,14 @@ use crate::log_file::LogOutput;
 use crate::log_pieces::LogPieces;
 use crate::options_with_log::OptionsWithLog;
 use crate::state_file::{StateFile, state_file};
-use crate::state_reading::state_at;
+use crate::state_reading::{ResumedState, state_at};
 use crate::stop::{MEMORY, Stop};
 use crate::streams::{StandardStreams, closed_stream_with_log};
 use either::Either;
 use napt_account::SavedLogState;
-use napt_config::Config;
+use napt_config::{Config, ConfigPlace};
 use napt_records::Fault;
 use napt_rules::State;
-use napt_state::{LogPosition, StateFileContents};
 use napt_wire::Side;
 use std::alloc::Global;
 use std::env::Env;
@@ -58,8 +57,8 @@ pub struct RunResources<S, T: Write + Drop, F: Write + Drop, P> {
     pub config: Config,
     /// The state from which the run starts.
     pub state: State,
-    /// The saved entries of its log, or none if there was no log.
-    pub kept: SavedLogState,
+    /// What the state keeps of its log, or nothing if there was no log.
+    pub saved: SavedLogState,
     pub devices: RunDevices<S, T, F>,
     /// The log, if one is named.
     pub log: Option<LogOutput<LogDevice<Either<T, F>, P>>>,
@@ -71,14 +70,16 @@ pub struct RunResources<S, T: Write + Drop, F: Write + Drop, P> {
 /// captures, outputs and log, each with a buffer, and last the new file of a state.
 ///
 /// Before that, fails with the role of a needed standard stream that is closed, or that another
-/// option uses; then if the configuration or state is refused, or as `open_files` does.
+/// option uses; then if the configuration, of which the place is set, or the state is refused, or
+/// as `open_files` does.
 pub fn open<'r, R: Files + Input + Print + AllocGlobal>(
     rt: &'r R,
     streams: StandardStreams,
     options: &OptionsWithLog,
+    place: &mut ConfigPlace,
 ) -> Result<RunResources<Box<R::Reader>, Printer<'r, R>, R::File, LogPieces<'r, R>>, Stop>
     ensures taken { IfOk result (λ o. TakesState o.config o.state) }
-    ensures few { IfOk result (λ o. IsFew o.kept) }
+    ensures saved { IfOk result (λ o. is_saved_log_state o.state o.saved ≡ true) }
     ensures save { IfOk result (λ o. is_some o.save ≡ is_some options.now.files.save) }
     ensures log { IfOk result (λ o. is_some o.log ≡ is_some options.now.log) }
     ensures stop { IfErr result (IsRunStop streams (files_with_log options.now)) }
@@ -94,41 +95,19 @@ pub fn open<'r, R: Files + Input + Print + AllocGlobal>(
     if let Some(role) = options.standard_again() {
         return Err(Stop::File(role));
     }
-    let config = configuration(rt, options.files.config.as_ref())?;
-    let StateFileContents { state, log } = state_at(rt, &config, options.files.resume.as_ref())?;
-    let told = options.files.resume.as_ref().map(|_| announced_bytes(&log));
+    let config = configuration(rt, options.files.config.as_ref(), place)?;
+    let ResumedState { state, saved, log } = state_at(rt, &config, options.files.resume.as_ref())?;
+    let told = options.files.resume.as_ref().map(|_| log);
     let FilesWithLog { files, log: file } = open_files(rt, options, told)?;
     let held = if file.is_some() { HELD } else { BUFFERED };
     Ok(RunResources {
         config,
         state,
-        kept: entries_of(rt.alloc(), log),
+        saved,
         devices: buffered(rt.alloc(), files, held)?,
         log: buffered_log(rt.alloc(), file)?,
         save: state_file(rt, &options.files)?,
     })
-}
-
-/// Returns the length in bytes that a state records of its log, or 0 if it has none.
-fn announced_bytes(log: &Option<LogPosition>) -> u64
-    ensures some { IfSome log.now (λ log. result ≡ log.length) }
-    ensures none { log.now ≡ None → result ≡ 0 }
-{
-    match log {
-        Some(log) => log.length,
-        None => 0,
-    }
-}
-
-/// Returns the saved entries of a log, or none if there is no log.
-fn entries_of(alloc: Global, log: Option<LogPosition>) -> SavedLogState
-    ensures kept { IfSome log (λ log. result ≡ log.log) }
-    ensures none { log ≡ None → result ≡ record { made = 0; living = [] } }
-{
-    match log {
-        Some(LogPosition { log, .. }) => log,
-        None => SavedLogState::none(alloc),
-    }
 }
 
 /// Returns why a program stops after a fault of its run. The device in place of a missing outside

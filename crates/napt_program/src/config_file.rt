@@ -9,7 +9,7 @@ use crate::options::is_dash;
 use crate::role::FileRole;
 use crate::stop::Stop;
 use either::{Either, Left, Right};
-use napt_config::{Config, ConfigFault};
+use napt_config::{Config, ConfigFault, ConfigPlace};
 use std::alloc::Global;
 use std::fs::File;
 use std::io;
@@ -24,6 +24,7 @@ pub const MOST_BYTES: u64 = 67_108_864;
 pub fn configuration<R: Files + Input + AllocGlobal>(
     rt: &R,
     path: Option<&String>,
+    place: &mut ConfigPlace,
 ) -> Result<Config, Stop>
     ensures built_in { path.entry ≡ None → IfOk result (λ config. config ≡ built_in) }
     ensures stop { IfErr result (IsConfigStop (is_some path.entry)) }
@@ -31,7 +32,7 @@ pub fn configuration<R: Files + Input + AllocGlobal>(
     let Some(path) = path else {
         return Config::built_in(rt.alloc()).map_err(|_| Stop::Config(ConfigFault::Memory));
     };
-    config_from(rt.alloc(), open_config(rt, path)?)
+    config_from(rt.alloc(), open_config(rt, path)?, place)
 }
 
 /// Opens a configuration for reading, or standard input for `-`. Fails with its role, or with
@@ -47,17 +48,21 @@ pub fn open_config<R: Files + Input>(rt: &R, path: &str) -> Result<Either<R::Rea
     Ok(Right(file))
 }
 
-/// Reads a configuration from a reader to its end.
+/// Reads a configuration from a reader to its end. If its text is refused, the place is set.
 ///
 /// Fails with `Stop::Config` if the text is refused, with `ConfigFault::Memory` if memory is, and
 /// with the file's role if the reader fails or has more than `MOST_BYTES`.
-pub fn config_from<D: Read + Drop>(alloc: Global, device: D) -> Result<Config, Stop>
+pub fn config_from<D: Read + Drop>(
+    alloc: Global,
+    device: D,
+    place: &mut ConfigPlace,
+) -> Result<Config, Stop>
     ensures read { IfSome (D.remaining device) (λ text. IsReadingOf text result) }
     ensures bounded { OnOk result (IfSome (D.remaining device) (λ text. length text ≤ MOST_BYTES)) }
     ensures refused { IfErr result (IsConfigStop true) }
 {
     let text = config_text(alloc, device)?;
-    Ok(Config::read(alloc, &text)?)
+    Ok(Config::read_at(alloc, &text, place)?)
 }
 
 /// Returns all bytes of the reader, at most `MOST_BYTES`.

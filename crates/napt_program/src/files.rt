@@ -13,6 +13,7 @@ use crate::options_with_log::OptionsWithLog;
 use crate::role::FileRole;
 use crate::stop::{MEMORY, Stop};
 use either::{Either, Left, Right};
+use napt_state::LogEnd;
 use std::fs::File;
 use std::io;
 use std::io::Printer;
@@ -62,14 +63,14 @@ pub struct InputFiles<S, F> {
 }
 
 /// Opens the captures, the inside first, then creates or empties the outputs: to the outside, to
-/// the inside, the report, the log. `told` is the log's length by the state, if there is one.
+/// the inside, the report, the log. `told` is where the log of the state ends, if there is a state.
 ///
 /// Fails with the role of a file that cannot be opened or created. Before any output is touched,
 /// fails for one that an earlier option names, or if the log or memory is refused.
 pub fn open_files<'r, R: Files + Input + Print + AllocGlobal>(
     rt: &'r R,
     options: &OptionsWithLog,
-    told: Option<u64>,
+    told: Option<LogEnd>,
 ) -> Result<OpenFiles<'r, R>, Stop>
     ensures open { IfOk result (AreOpenWithLog (files_with_log options.now)) }
     ensures refused { IfErr result (IsOpenStop (files_with_log options.now)) }
@@ -93,7 +94,7 @@ pub fn open_files<'r, R: Files + Input + Print + AllocGlobal>(
 fn kept_of_log<R: Files + AllocGlobal>(
     rt: &R,
     options: &OptionsWithLog,
-    told: Option<u64>,
+    told: Option<LogEnd>,
 ) -> Result<u64, Stop>
     ensures kept { has_pieces (files_with_log options.now) ≡ false →
         IfOk result (LogTextIsKept told) }

@@ -11,6 +11,7 @@ mod file_locations;
 mod files;
 mod log_file;
 mod log_pieces;
+mod named_files;
 mod options;
 mod options_with_log;
 mod outputs;
@@ -20,6 +21,7 @@ mod role;
 mod state_file;
 mod state_reading;
 mod stop;
+mod stop_reason;
 mod streams;
 
 pub use crate::call::{ProgramCall, answer_line, print_new_entries};
@@ -31,8 +33,9 @@ pub use crate::devices::{LogDevice, OutputDevices, RunDevices, buffered};
 pub use crate::file_location::{FileId, FileLocation, is_same, place_of};
 pub use crate::file_locations::{is_log_lost, lost_file};
 pub use crate::files::{FilesWithLog, InputFiles, RunFiles, open_files, open_inputs};
-pub use crate::log_file::LogOutput;
+pub use crate::log_file::{LogOutput, SeekableFile};
 pub use crate::log_pieces::LogPieces;
+pub use crate::named_files::{NamedFiles, again_text, closed_text, input_reason, shared_text};
 pub use crate::options::{LineFault, Manual, RunOptions, VERSION, parse_words, parse_words_of};
 pub use crate::options_with_log::{OptionsWithLog, parse_words_with_log};
 pub use crate::outputs::{refuse_unmade, unmade};
@@ -40,9 +43,10 @@ pub use crate::program_host::ProgramHost;
 pub use crate::record_counter::CountedSource;
 pub use crate::role::FileRole;
 pub use crate::state_file::{StateFile, new_path};
-pub use crate::state_reading::{state_at, state_from, stop_of_state};
+pub use crate::state_reading::{ResumedState, state_at, state_from, stop_of_state};
 pub use crate::stop::{
     CaptureFaultName, LogRefusal, MEMORY, StateRefusal, StateRefusalName, Stop, StopLine,
     line_at_end, name_of_config_fault, status_at_end, stop_status,
 };
+pub use crate::stop_reason::{StopReason, misfit_reason, take_verbose};
 pub use crate::streams::{StandardStreams, closed_stream, closed_stream_with_log};

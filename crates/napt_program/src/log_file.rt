@@ -2,7 +2,7 @@
 
 ghost use Rattle.std.specs.Prelude.{◌≡◌, ◌==◌, ◌⊎◌, IfErr, IfOk, false, true};
 ghost use Rattle.either.specs.Either.{is_left};
-ghost use Rattle.napt_program.specs.{Files.is_stream_log, LogFiles.{LogTextIsKept, IsLogStop, refusal_at}, Standard.is_dash};
+ghost use Rattle.napt_program.specs.{Files.is_stream_log, LogFiles.{LogTextIsKept, IsLogStop, bytes_before, is_last_row, last_row, refusal_at, row_hash}, Standard.is_dash};
 
 use crate::devices::LogDevice;
 use crate::log_pieces::LogPieces;
@@ -10,13 +10,14 @@ use crate::options::is_dash;
 use crate::role::FileRole;
 use crate::stop::{LogRefusal, Stop, unread};
 use either::{Either, Left, Right};
+use napt_state::LogEnd;
 use std::fs::{File, OpenFile, OpenOptions};
 use std::io::{Printer, Read, Seek, SeekFrom, Write};
 use std::rt::Files;
 use std::{fs, io};
 
 /// An upper bound for a row in bytes: fewer bytes after the last whole row may be a partial row.
-const MOST_TORN: usize = 4_096;
+pub(crate) const MOST_TORN: usize = 4_096;
 
 /// A log that is open for writing.
 #[derive(Drop)]
@@ -26,15 +27,16 @@ pub struct LogOutput<D> {
     pub is_new: bool,
 }
 
-/// Returns how many bytes of its text the log at `path` keeps, or 0 if it has no text. `told` is
-/// the length that the state records, or `None` if the run starts without a state. Changes nothing.
+/// Returns how many bytes of its text the log at `path`, in one file, keeps, or 0 if it has no text.
+/// `told` is where the log of the state ends, or `None` if the run starts without a state. Changes
+/// nothing.
 ///
 /// Fails with `Stop::LogFile` if the run must not append to the text, with the file's role if it
 /// cannot be read, and with `MEMORY` if memory is refused.
 pub(crate) fn bytes_to_keep<R: Files + AllocGlobal>(
     rt: &R,
     path: &str,
-    told: Option<u64>,
+    told: Option<LogEnd>,
 ) -> Result<u64, Stop>
     ensures kept { IfOk result (LogTextIsKept told) }
     ensures stop { IfErr result IsLogStop }
@@ -45,12 +47,12 @@ pub(crate) fn bytes_to_keep<R: Files + AllocGlobal>(
     let Some(told) = told else {
         return Err(Stop::LogFile(LogRefusal::Anew));
     };
-    if told == 0 {
+    if told.length == 0 || told.piece > 0 {
         return Err(Stop::LogFile(LogRefusal::Untold));
     }
-    match refusal_at(told, &end_at(rt, path, told - 1)?) {
+    match refusal_at(told, &text_around(rt, path, told.length)?) {
         Some(refusal) => Err(Stop::LogFile(refusal)),
-        None => Ok(told),
+        None => Ok(told.length),
     }
 }
 
@@ -62,30 +64,79 @@ fn bytes_at<R: Files>(rt: &R, path: &str) -> u64 {
     }
 }
 
-/// Returns up to `MOST_TORN` + 1 bytes of a file from `place` on. Fails as `bytes_to_keep` does.
-fn end_at<R: Files + AllocGlobal>(rt: &R, path: &str, place: u64) -> Result<Vec<u8>, Stop>
+/// Returns the bytes of a file around a place: up to `MOST_TORN` before it, and up to as many from
+/// there on and one more. Fails as `bytes_to_keep` does.
+pub(crate) fn text_around<R: Files + AllocGlobal>(
+    rt: &R,
+    path: &str,
+    place: u64,
+) -> Result<Vec<u8>, Stop>
     ensures { IfErr result IsLogStop }
 {
     let mut file = File::open(rt, path).map_err(|error| unread(&error, FileRole::Log))?;
-    file.seek(SeekFrom::Start(place))
+    file.seek(SeekFrom::Start(place.saturating_sub(MOST_TORN as u64)))
         .map_err(|error| unread(&error, FileRole::Log))?;
-    let mut end = Vec::new(rt.alloc());
-    file.take(MOST_TORN as u64 + 1)
-        .read_to_end(&mut end)
+    let mut text = Vec::new(rt.alloc());
+    file.take(place.min(MOST_TORN as u64) + MOST_TORN as u64 + 1)
+        .read_to_end(&mut text)
         .map_err(|error| unread(&error, FileRole::Log))?;
-    Ok(end)
+    Ok(text)
 }
 
-/// Returns why a run must not append to this log, if so. `end` has its bytes from the last of the
-/// `told` ones on: that byte must end a row, and at most a partial row may follow it.
-fn refusal_at(told: u64, end: &[u8]) -> Option<LogRefusal>
-    ensures { result ≡ refusal_at told end.now }
+/// Returns why a run must not append to this log, if so. `text` has the bytes around the place where
+/// the log of the state ends (`text_around`): the row before it must be the last one of that log,
+/// and at most a partial row may follow it.
+pub(crate) fn refusal_at(told: LogEnd, text: &[u8]) -> Option<LogRefusal>
+    ensures { result ≡ refusal_at told text.now }
 {
-    match end {
-        [b'\n', torn @ ..] if torn.len() < MOST_TORN && !torn.contains(&b'\n') => None,
-        [b'\n', ..] => Some(LogRefusal::Longer(told)),
-        _ => Some(LogRefusal::Another(told)),
+    let Some((before, after)) = text.split_at_checked(bytes_before(told.length)) else {
+        return Some(LogRefusal::Another(told.length));
+    };
+    if !is_last_row(told.row, before) {
+        return Some(LogRefusal::Another(told.length));
     }
+    if after.len() < MOST_TORN && !after.contains(&b'\n') {
+        None
+    } else {
+        Some(LogRefusal::Longer(told.length))
+    }
+}
+
+/// Returns how many bytes before a place `text_around` reads.
+fn bytes_before(place: u64) -> usize
+    ensures { result ≡ bytes_before place }
+{
+    place.min(MOST_TORN as u64) as usize
+}
+
+/// Returns whether a text ends with a row that has this hash, and with its line feed.
+fn is_last_row(hash: u64, text: &[u8]) -> bool
+    ensures { result ≡ is_last_row hash text.now }
+{
+    match text {
+        [rows @ .., b'\n'] => row_hash(last_row(rows)) == hash,
+        _ => false,
+    }
+}
+
+/// Returns the bytes after the last line feed.
+fn last_row(text: &[u8]) -> &[u8]
+    ensures { result.now ≡ last_row text.now }
+{
+    match text.iter().rposition(|byte| *byte == b'\n') {
+        Some(place) => &text[place + 1..],
+        None => text,
+    }
+}
+
+/// Returns the FNV-1a hash of a row, of 64 bits.
+pub(crate) fn row_hash(row: &[u8]) -> u64
+    ensures { result ≡ row_hash row.now }
+{
+    row.iter().fold(
+        14_695_981_039_346_656_037_u64,
+        |hash, byte| (hash ^ u64::from(*byte)).wrapping_mul(1_099_511_628_211),
+    )
 }
 
 /// Opens the file of a log for appending after the bytes that it keeps, and removes those after
@@ -107,6 +158,7 @@ pub(crate) fn open_log<'r, R: Files + Print, P>(
         });
     }
     let file = OpenOptions::new()
+        .read(true)
         .append(true)
         .create(true)
         .open(rt, path)
@@ -120,32 +172,55 @@ pub(crate) fn open_log<'r, R: Files + Print, P>(
     })
 }
 
-impl<'r, T: Write + Drop, F: Write + OpenFile + Drop, R: Files + AllocGlobal> LogOutput<
+/// A file of a log, the end of whose text is read after it was written.
+pub trait SeekableFile: Read + Write + Seek + OpenFile {}
+
+impl<F: Read + Write + Seek + OpenFile> SeekableFile for F {}
+
+impl<'r, T: Write + Drop, F: SeekableFile + Drop, R: Files + AllocGlobal> LogOutput<
     LogDevice<Either<T, F>, LogPieces<'r, R>>,
 > {
-    /// Syncs the file, or the last piece, after the run. Returns its length in bytes, or 0 if it is
-    /// not a regular file. Fails with `Stop::Log`.
-    pub fn synced_length(self) -> Result<u64, Stop>
+    /// Syncs the file, or the last piece, after the run. Returns where its text ends; all is 0 if it
+    /// is not a regular file. Fails with `Stop::Log`.
+    pub fn synced_end(self) -> Result<LogEnd, Stop>
         ensures { IfErr result (λ stop. stop ≡ Stop.Log) }
     {
         let writer = match self.device.into_inner() {
             Left(writer) => writer,
-            Right(pieces) => return pieces.synced_length().map_err(|_| Stop::Log),
+            Right(pieces) => return pieces.synced_end().map_err(|_| Stop::Log),
         };
         match writer.into_inner() {
-            Ok(Right(file)) => synced_bytes(&file).map_err(|_| Stop::Log),
-            Ok(Left(_)) => Ok(0),
+            Ok(Right(file)) => synced_end(file, 0).map_err(|_| Stop::Log),
+            Ok(Left(_)) => Ok(LogEnd::default()),
             Err(_) => Err(Stop::Log),
         }
     }
 }
 
-/// Syncs a file and returns its length in bytes, or returns 0 if it is not a regular file.
-fn synced_bytes<F: OpenFile>(file: &F) -> io::Result<u64> {
+/// Syncs a file if it is a regular one, and returns its length in bytes then.
+pub(crate) fn synced_length<F: OpenFile>(file: &F) -> io::Result<Option<u64>> {
     let known = file.metadata()?;
     if !known.is_file() {
-        return Ok(0);
+        return Ok(None);
     }
     file.sync_all()?;
-    Ok(known.len())
+    Ok(Some(known.len()))
+}
+
+/// Syncs a file of a log, which is its piece of this number, or 0 if it is the log. Returns where its
+/// text ends; all is 0 if it is not a regular file.
+pub(crate) fn synced_end<F: SeekableFile + Drop>(mut file: F, piece: u64) -> io::Result<LogEnd> {
+    let Some(length) = synced_length(&file)? else {
+        return Ok(LogEnd::default());
+    };
+    let mut room = [0; MOST_TORN];
+    let end = &mut room[..bytes_before(length)];
+    file.seek(SeekFrom::Start(length - end.len() as u64))?;
+    file.read_exact(end)?;
+    let rows = end.strip_suffix(b"\n").unwrap_or(end);
+    Ok(LogEnd {
+        piece,
+        length,
+        row: row_hash(last_row(rows)),
+    })
 }

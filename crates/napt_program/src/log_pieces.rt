@@ -1,15 +1,17 @@
 //! A log in pieces: the files FILE.1, FILE.2 and so on, each of which begins with the header.
 
-ghost use Rattle.std.specs.{Prelude.{◌≡◌, ℕ, ◌<◌, ◌^◌, ◌&&◌, IfErr, IfOk, IfSome, None, decimal, false, nat_lt, slice_index, string_bytes, true}, Io.{KnownBytes.WriteAppends, WritesAtMost}};
+ghost use Rattle.std.specs.{Prelude.{◌≡◌, ◌⊎◌, ℕ, ◌<◌, ◌^◌, ◌&&◌, IfErr, IfOk, IfSome, None, decimal, false, nat_lt, slice_index, string_bytes, true}, Io.{KnownBytes.WriteAppends, WritesAtMost}};
 ghost use Rattle.napt_program.specs.LogFiles.{IsLogStop, IsOfNoPiece, needs_new_piece, piece_name, piece_of};
 
 use crate::devices::BUFFERED;
-use crate::log_file::bytes_to_keep;
+use crate::file_location::folder_of;
+use crate::log_file::{MOST_TORN, refusal_at, synced_end, text_around};
 use crate::role::FileRole;
 use crate::stop::{LogRefusal, Stop, unread};
 use napt_log_text::header;
+use napt_state::LogEnd;
 use std::alloc::{AllocError, Global};
-use std::fs::{File, OpenFile};
+use std::fs::{OpenFile, OpenOptions};
 use std::io::{BufWriter, ErrorKind, Write};
 use std::rt::Files;
 use std::{fs, io};
@@ -67,12 +69,13 @@ impl<'r, R: Files + AllocGlobal> LogPieces<'r, R> {
         Ok(())
     }
 
-    /// Syncs the last piece after the run. Returns its length in bytes.
-    pub(crate) fn synced_length(mut self) -> io::Result<u64> {
-        self.piece.flush()?;
-        let file = self.piece.get_ref();
-        file.sync_all()?;
-        Ok(file.metadata()?.len())
+    /// Syncs the last piece after the run. Returns where its text ends.
+    pub(crate) fn synced_end(self) -> io::Result<LogEnd> {
+        let LogPieces { number, piece, .. } = self;
+        match piece.into_inner() {
+            Ok(file) => synced_end(file, number),
+            Err(error) => Err(io::Error::from(error.error().kind())),
+        }
     }
 }
 
@@ -112,7 +115,12 @@ fn piece_behind<R: Files + AllocGlobal>(
     for before in last..u64::MAX {
         let number = before + 1;
         let name = name_of(rt.alloc(), path, number)?;
-        match File::create_new(rt, &name) {
+        let created = OpenOptions::new()
+            .read(true)
+            .write(true)
+            .create_new(true)
+            .open(rt, &name);
+        match created {
             Ok(file) => {
                 let piece = BufWriter::with_capacity(rt.alloc(), BUFFERED, file)?;
                 return Ok((number, piece));
@@ -131,18 +139,20 @@ fn name_of(alloc: Global, path: &str, number: u64) -> Result<String, AllocError>
 }
 
 /// Returns the greatest number of an existing piece of the log at `path`, or 0 if there is none.
-/// `told` is the last one's length by the state, or `None` without a state. Changes nothing.
+/// `told` is where the log of the state ends, or `None` without a state. Changes nothing.
 ///
 /// Fails with the log's role if the state would be saved as a piece, or if the last piece or its
-/// folder cannot be read; with `Stop::LogFile` if there is a piece but no state, or if the run must
-/// not append to the last one; and with `MEMORY` if memory is refused.
+/// folder cannot be read; with `Stop::LogFile` if there is a piece but no state, or if the last
+/// piece is not the one in which the log of the state ends, or does not end there; and with
+/// `MEMORY` if memory is refused.
 pub(crate) fn last_piece<R: Files + AllocGlobal>(
     rt: &R,
     path: &str,
     save: Option<&String>,
-    told: Option<u64>,
+    told: Option<LogEnd>,
 ) -> Result<u64, Stop>
     ensures anew { told ≡ None → IfOk result (λ last. last ≡ 0) }
+    ensures piece { IfSome told (λ told. IfOk result (λ last. (last ≡ 0) ⊎ (last ≡ told.piece))) }
     ensures save { IfOk result (λ _.
         IfSome save.entry (λ it. IsOfNoPiece path.now (string_bytes it.now))) }
     ensures stop { IfErr result IsLogStop }
@@ -156,20 +166,35 @@ pub(crate) fn last_piece<R: Files + AllocGlobal>(
     if last == 0 {
         return Ok(0);
     }
-    if told.is_none() {
+    let Some(told) = told else {
         return Err(Stop::LogFile(LogRefusal::Anew));
+    };
+    if told.piece == 0 {
+        return Err(Stop::LogFile(LogRefusal::Untold));
     }
-    bytes_to_keep(rt, &name_of(rt.alloc(), path, last)?, told)?;
+    if told.piece != last || !ends_at(rt, &name_of(rt.alloc(), path, last)?, told)? {
+        return Err(Stop::LogFile(LogRefusal::Piece(told.piece)));
+    }
     Ok(last)
+}
+
+/// Returns whether the text of a piece ends where the log of a state does, with the same row. Fails
+/// as `last_piece` does.
+fn ends_at<R: Files + AllocGlobal>(rt: &R, name: &str, told: LogEnd) -> Result<bool, Stop>
+    ensures { IfErr result IsLogStop }
+{
+    let text = text_around(rt, name, told.length)?;
+    let is_longer = text.len() as u64 > told.length.min(MOST_TORN as u64);
+    Ok(!is_longer && refusal_at(told, &text).is_none())
 }
 
 /// Returns the greatest number of a piece in the log's folder. Fails if that is unreadable.
 fn greatest_number<R: Files + AllocGlobal>(rt: &R, path: &str) -> io::Result<u64> {
-    let (folder, name) = path.rsplit_once('/').unwrap_or((".", path));
-    if name.is_empty() {
-        return Err(io::Error::from(ErrorKind::InvalidFilename));
-    }
-    let folder = if folder.is_empty() { "/" } else { folder };
+    let name = path.rsplit_once('/').map_or(path, |(_, name)| name);
+    let folder = match folder_of(path) {
+        Some(folder) if !name.is_empty() => folder,
+        _ => return Err(io::Error::from(ErrorKind::InvalidFilename)),
+    };
     let mut greatest = 0;
     for entry in fs::read_dir(&rt, folder)? {
         match entry {

@@ -47,41 +47,43 @@ Examples:
   napt --config napt.toml --inside inside.pcap --outside outside.pcap \\
        --to-outside to-outside.pcap --to-inside to-inside.pcap --report report.txt
 
-Exit status, and the line on standard error that says why (explain with the same
-words prints where in a file, and what to do):
+--verbose adds a second line on standard error, which a terminal gets anyway: the
+option, its file, and what is wrong with it (in a configuration, with the place).
+
+Exit status, and the line on standard error that says why:
   0  done, without a line
   2  napt: usage
-       an unknown option, one that stands twice, or one without its file
+       an option is unknown, is given twice, or lacks its file
   3  napt: config WORD
-       not-toml           no TOML in UTF-8
-       unknown-key        a key that no configuration has
+       not-toml           the text is not TOML in UTF-8
+       unknown-key        no configuration has this key
        missing            a required key is absent, or its list is empty
-       bad-shape          a value is of another kind than its key asks for
+       bad-shape          a value is not of the type that its key takes
        too-many           a list has more entries than it may have
-       bad-address        no IPv4 address, or in a redirect no endpoint
-       bad-prefix         no IPv4 prefix, or bits past its length are set
+       bad-address        it is no IPv4 address, or in a redirect no endpoint
+       bad-prefix         it is no IPv4 prefix, or bits past its length are set
        bad-number         a number is out of its range
-       bad-word           no word that the key knows
-       bad-seed           no 32 hexadecimal digits
-       seed-unused        a seed without random numbers
-       double-address     an address stands twice in the pool
+       bad-word           the key does not take this word
+       bad-seed           the seed is not 32 hexadecimal digits
+       seed-unused        there is a seed, and numbers are not random
+       double-address     an address is in the pool twice
        pool-inside        a pool address is in a prefix of inside
-       prefixes-overlap   two prefixes have an address in common, with blocks
+       prefixes-overlap   with blocks, two prefixes have an address in common
        block-too-large    not every host has a block at the pool's addresses
-       pair-with-block    there are pairs and blocks
-       hold-with-block    there are a hold and blocks
+       pair-with-block    there are both pairs and blocks
+       hold-with-block    there are both a hold and blocks
        double-pair        a host has two pairs
        not-in-pool        the external address of a pair is not in the pool
        not-inside         a host is in no prefix of inside
-       redirect-in-block  its external port is above 1023 and not its host's
+       redirect-in-block  with blocks, the port is above 1023 and not its host's
        double-redirect    two redirects share an inside or an external endpoint
-       timer-too-short    a timer is below what the RFC asks
+       timer-too-short    a timer is shorter than the RFC requires
        memory             memory ran out
   4  napt: capture SIDE WORD, where SIDE is inside or outside
-       no-header        fewer than 24 bytes
-       bad-magic        no libpcap capture (pcapng is another format)
-       bad-version      not version 2.4
-       bad-link         neither link type 101 (raw IP) nor 228 (raw IPv4)
+       no-header        there are fewer than 24 bytes
+       bad-magic        it is no libpcap capture (pcapng is another format)
+       bad-version      it is not version 2.4
+       bad-link         the link type is neither 101 (raw IP) nor 228 (raw IPv4)
        bad-fraction N   the time of record N has a fraction of a second or more
        too-long N       record N has more than 262144 bytes
        too-large        reading would ask for more than 68719476736 bytes
@@ -89,23 +91,23 @@ words prints where in a file, and what to do):
        memory           memory ran out
   5  napt: run WORD
        memory           memory ran out
-       too-many         more than 4294967295 packets
+       too-many         there are more than 4294967295 packets
        no-thread        the system refused a worker its thread
        gate-shut N      the gate kept worker N waiting; never in this program
        ring             the ends of a ring disagree; nothing is known to cause it
   6  napt: file OPTION
-       not opened, read or created; its stream is closed; a configuration of more
-       than 64 MiB; or an output, or a standard stream, that another option has too
+       it cannot be opened, read or created; its stream is closed; a configuration
+       has over 64 MiB; or another option has the same output or standard stream
      napt: write OPTION
-       writing failed; help goes where to-outside goes by default, so that help
-       which could not be written to standard output is write to-outside
+       writing failed; help that could not be written is write to-outside, since
+       both go to standard output
   8  napt: state WORD
        bad-line N       line N is not a line of a state, or is missing
        not-utf-8 N      line N is not UTF-8
        not-inside       the host of a binding is in no prefix of inside
        not-paired       its external address is not the one of its host
        not-its-number   a number of it is 0, or is not of its host's block
-       used-later       it was used after the time of the state
+       used-later       it, or a flow of it, was used after the time of the state
        flows-share      two of its flows are of one remote endpoint
        redirected       a redirect has its inside or its external endpoint
        shared           another binding has one of them";

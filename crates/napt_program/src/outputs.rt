@@ -1,14 +1,19 @@
-//! Finds outputs that cannot be created, without creating any.
+//! Finds outputs that cannot be created, without creating any, and syncs those of a run.
 
 ghost use Rattle.std.specs.Prelude.{◌≡◌, IfErr, IsSome};
-ghost use Rattle.napt_program.specs.{CommandLine.files_of, Files.IsFileStop};
+ghost use Rattle.napt_program.specs.{CommandLine.{CommandLineFiles, files_of}, Command.IsRunStop, Files.IsFileStop, declared.streams.StandardStreams.StandardStreams};
 
+use crate::devices::OutputDevices;
 use crate::file_location::folder_of;
+use crate::log_file::synced_length;
 use crate::options::{RunOptions, is_dash};
 use crate::role::FileRole;
 use crate::stop::Stop;
-use std::fs::{FileType, OpenOptions};
-use std::io::ErrorKind;
+use either::{Either, Left, Right};
+use napt_capture::{NullSink, Watched, WriteFault};
+use napt_records::{Fault, Which};
+use std::fs::{FileType, OpenFile, OpenOptions};
+use std::io::{BufWriter, ErrorKind, Write};
 use std::os::unix::fs::FileTypeExt;
 use std::path::Path;
 use std::rt::Files;
@@ -77,4 +82,51 @@ fn missing_folder<R: Files>(rt: &R, path: &str, error: io::Error) -> Option<io::
     }
     let folder = folder_of(path).unwrap_or(Path::new("."));
     fs::metadata(rt, folder).err()
+}
+
+impl<T: Write + Drop, F: Write + OpenFile + Drop> OutputDevices<T, F> {
+    /// Syncs the outputs that are regular files to disk, before a state is saved that counts on
+    /// them. Fails as if the output could not be written.
+    pub fn sync(self) -> Result<(), Stop>
+        ensures { (streams : StandardStreams) (named : CommandLineFiles) →
+            IfErr result (IsRunStop streams named) }
+    {
+        let OutputDevices {
+            to_outside,
+            to_inside,
+            report,
+        } = self;
+        let fault = WriteFault { written: 0 };
+        if !is_synced(to_outside) {
+            return Err(Stop::Run(Fault::Write(Which::Outside, fault)));
+        }
+        if !is_synced_if(to_inside) {
+            return Err(Stop::Run(Fault::Write(Which::Inside, fault)));
+        }
+        if !is_synced_if(report) {
+            return Err(Stop::Run(Fault::Write(Which::Report, fault)));
+        }
+        Ok(())
+    }
+}
+
+/// Syncs an output as `is_synced` does, if there is one.
+fn is_synced_if<T: Write + Drop, F: Write + OpenFile + Drop>(
+    device: Either<Watched<BufWriter<Either<T, F>>>, NullSink>,
+) -> bool {
+    match device {
+        Left(device) => is_synced(device),
+        Right(_) => true,
+    }
+}
+
+/// Syncs an output if it is a regular file. Returns whether that succeeded.
+fn is_synced<T: Write + Drop, F: Write + OpenFile + Drop>(
+    device: Watched<BufWriter<Either<T, F>>>,
+) -> bool {
+    match device.into_inner().into_inner() {
+        Ok(Right(file)) => synced_length(&file).is_ok(),
+        Ok(Left(_)) => true,
+        Err(_) => false,
+    }
 }

@@ -1,12 +1,15 @@
-//! Counts the records of a capture in its bytes as they are read.
+//! Counts the records of a capture in its bytes as they are read, and notes the first of them.
 ghost use Rattle.std.specs.Prelude.{◌≡◌};
 
 use napt_capture::{DeviceFault, Source};
 
+/// The number of bytes of a packet up to the end of its source address (RFC 791, section 3.1).
+const SOURCE_END: u64 = 16;
+
 /// The part of a capture to which its next bytes belong.
 #[derive(Clone, Copy)]
 enum CounterState {
-    /// The magic number, four bytes that give the byte order of the rest.
+    /// The magic number, four bytes that give the byte order of the rest and the unit of fractions.
     Magic,
     /// The rest of the file header.
     FileHeader,
@@ -14,7 +17,9 @@ enum CounterState {
     Time,
     /// The captured length of a record.
     Captured,
-    /// The original length of a record and its bytes.
+    /// The original length of a record, and the packet up to the end of its source address.
+    Source,
+    /// The original length of a record and its bytes, or those after its source address.
     Record,
 }
 
@@ -24,9 +29,17 @@ struct RecordCounter {
     part: CounterState,
     /// The number of bytes of this part that are still to come.
     left: u64,
-    /// The last four bytes of the magic number or a length, as a little-endian number.
-    word: u32,
+    /// The last eight bytes that were read one by one, as a little-endian number.
+    word: u64,
     is_big: bool,
+    /// The number of bytes of a packet after its source address.
+    behind_source: u64,
+    /// The length of a fraction of a second in the capture, in ns.
+    unit: u64,
+    /// The time of the first record, in ns.
+    first_time: Option<u64>,
+    /// The source address of the first packet that has one.
+    first_source: Option<u32>,
 }
 
 impl RecordCounter {
@@ -36,6 +49,10 @@ impl RecordCounter {
         left: 4,
         word: 0,
         is_big: false,
+        behind_source: 0,
+        unit: 0,
+        first_time: None,
+        first_source: None,
     };
 
     /// Reads the next bytes of a capture. Returns the number of records that end in them.
@@ -47,12 +64,11 @@ impl RecordCounter {
             let Some(byte) = rest.first() else {
                 return records;
             };
-            let many = match self.part {
-                CounterState::Magic | CounterState::Captured => {
-                    self.word = self.word >> 8 | u32::from(*byte) << 24;
-                    1
-                }
-                _ => self.left.min(rest.len() as u64),
+            let many = if self.is_noted() {
+                self.word = self.word >> 8 | u64::from(*byte) << 56;
+                1
+            } else {
+                self.left.min(rest.len() as u64)
             };
             rest = rest.get(many as usize..).unwrap_or(&[]);
             self.left = self.left.saturating_sub(many);
@@ -63,19 +79,71 @@ impl RecordCounter {
         records
     }
 
+    /// Returns whether the bytes of this part are read one by one.
+    fn is_noted(&self) -> bool {
+        match self.part {
+            CounterState::Magic | CounterState::Captured | CounterState::Source => true,
+            CounterState::Time => self.first_time.is_none(),
+            CounterState::FileHeader | CounterState::Record => false,
+        }
+    }
+
     /// Moves on to the next part. Returns whether a record has ended.
     fn next_part(&mut self) -> bool {
         let has_ended = matches!(self.part, CounterState::Record);
-        (self.part, self.left) = match self.part {
+        let (part, left) = match self.part {
             CounterState::Magic => {
-                self.is_big = matches!(self.word.to_be(), 0xa1b2_c3d4 | 0xa1b2_3c4d);
+                self.note_magic();
                 (CounterState::FileHeader, 20)
             }
             CounterState::FileHeader | CounterState::Record => (CounterState::Time, 8),
-            CounterState::Time => (CounterState::Captured, 4),
-            CounterState::Captured => (CounterState::Record, u64::from(self.captured()) + 4),
+            CounterState::Time => {
+                self.first_time = self.first_time.or(Some(self.time()));
+                (CounterState::Captured, 4)
+            }
+            CounterState::Captured => self.begin_record(),
+            CounterState::Source => {
+                let [.., a, b, c, d] = self.word.to_le_bytes();
+                self.first_source = Some(u32::from_be_bytes([a, b, c, d]));
+                (CounterState::Record, self.behind_source)
+            }
         };
+        self.part = part;
+        self.left = left;
         has_ended
+    }
+
+    /// Notes the byte order of the capture, and the unit of its fractions.
+    fn note_magic(&mut self) {
+        let [.., a, b, c, d] = self.word.to_le_bytes();
+        let magic = u32::from_be_bytes([a, b, c, d]);
+        self.is_big = matches!(magic, 0xa1b2_c3d4 | 0xa1b2_3c4d);
+        self.unit = match magic {
+            0xa1b2_3c4d | 0x4d3c_b2a1 => 1,
+            _ => 1_000,
+        };
+    }
+
+    /// Returns what follows the captured length of a record, and its number of bytes.
+    fn begin_record(&mut self) -> (CounterState, u64) {
+        let [.., a, b, c, d] = self.word.to_le_bytes();
+        let captured = u64::from(self.number([a, b, c, d]));
+        if self.first_source.is_none() && captured > SOURCE_END {
+            self.behind_source = captured - SOURCE_END;
+            (CounterState::Source, 4 + SOURCE_END)
+        } else {
+            (CounterState::Record, captured + 4)
+        }
+    }
+
+    /// Returns the time in the last eight bytes, in ns.
+    fn time(self) -> u64 {
+        let [a, b, c, d, e, f, g, h] = self.word.to_le_bytes();
+        let seconds = u64::from(self.number([a, b, c, d]));
+        let fraction = u64::from(self.number([e, f, g, h]));
+        seconds
+            .saturating_mul(1_000_000_000)
+            .saturating_add(fraction.saturating_mul(self.unit))
     }
 
     /// Returns whether a record or the file header has begun and has not ended.
@@ -83,12 +151,12 @@ impl RecordCounter {
         !matches!(self.part, CounterState::Time) || self.left != 8
     }
 
-    /// Returns the captured length in the last four bytes, in the capture's byte order.
-    fn captured(self) -> u32 {
+    /// Returns the number in four bytes of the capture, in its byte order.
+    fn number(self, bytes: [u8; 4]) -> u32 {
         if self.is_big {
-            self.word.swap_bytes()
+            u32::from_be_bytes(bytes)
         } else {
-            self.word
+            u32::from_le_bytes(bytes)
         }
     }
 }
@@ -119,6 +187,17 @@ impl<S> CountedSource<S> {
     /// Returns the number of records that were read completely.
     pub fn records(&self) -> u64 {
         self.records
+    }
+
+    /// Returns the time of the first record in ns, if it was read and records are counted.
+    pub fn first_time(&self) -> Option<u64> {
+        self.tally.first_time
+    }
+
+    /// Returns the source address of the first packet that has one, if it was read and records are
+    /// counted.
+    pub fn first_source(&self) -> Option<u32> {
+        self.tally.first_source
     }
 
     /// Returns whether the bytes read end inside a record; `false` if records are not counted.

@@ -1,6 +1,6 @@
 //! The file of a saved state: a new file is written, and then renamed to replace the old one.
 
-ghost use Rattle.std.specs.{Prelude.{◌≡◌, ◌++◌, IfErr, IfOk, IfSome, codes, is_some, string_bytes}, Io.KnownBytes.Appends, Option.option_copied};
+ghost use Rattle.std.specs.{Prelude.{◌≡◌, ◌++◌, IfErr, IfOk, IfSome, codes, is_some, string_bytes}, Io.KnownBytes.Appends};
 ghost use Rattle.napt_state.specs.StateText.{saved_text};
 ghost use Rattle.napt_program.specs.State.{IsNewStop, IsSaveStop};
 
@@ -9,8 +9,7 @@ use crate::file_location::is_at;
 use crate::options::RunOptions;
 use crate::role::FileRole;
 use crate::stop::{MEMORY, Stop};
-use napt_rules::State;
-use napt_state::{LogPosition, write_state};
+use napt_state::{StateFileContents, write_state};
 use std::alloc::{AllocError, Global};
 use std::fs::{OpenFile, OpenOptions};
 use std::io::{ErrorKind, Write};
@@ -28,7 +27,7 @@ pub struct StateFile<F> {
 }
 
 impl<F: Write + OpenFile + Drop> StateFile<F> {
-    /// Writes the state and its log position, if any, syncs the file, and renames it to its path.
+    /// Writes the state, syncs the file, and renames it to its path.
     /// The rename is the last step and is atomic, so that the path has the old state or the new
     /// one, whole. Fails with `Stop::Save` and keeps the old one, also if another run has replaced
     /// the new file since; or with `MEMORY` if memory is refused. Returns the file.
@@ -36,16 +35,15 @@ impl<F: Write + OpenFile + Drop> StateFile<F> {
         self,
         rt: &R,
         alloc: Global,
-        state: &State,
-        log: Option<&LogPosition>,
+        state: &StateFileContents,
     ) -> Result<F, Stop>
         ensures written { IfOk result (λ kept. Appends (F.contents self.file) (F.contents kept)
-            (saved_text (record { state = state.now; log = option_copied log.entry }))) }
+            (saved_text state.now)) }
         ensures refused { IfErr result IsSaveStop }
     {
         let StateFile { file, new, path } = self;
         let mut writer = writer(alloc, file, BUFFERED)?;
-        write_state(alloc, &mut writer, state, log).map_err(|error| unsaved(&error))?;
+        write_state(alloc, &mut writer, state).map_err(|error| unsaved(&error))?;
         let file = writer.into_inner().map_err(|_| Stop::Save)?;
         file.sync_all().map_err(|error| unsaved(&error))?;
         let known = file.metadata().map_err(|error| unsaved(&error))?;

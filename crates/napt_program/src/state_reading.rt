@@ -1,20 +1,33 @@
 //! Reads the state from which a run starts, and its log position.
 
-ghost use Rattle.std.specs.Prelude.{◌≡◌, IfErr, IfOk, IfSome, None, Some, false, is_some, true};
+ghost use Rattle.std.specs.Prelude.{◌≡◌, ℕ, List, IfErr, IfOk, IfSome, None, Some, false, is_some, true};
+ghost use Rattle.napt_config.specs.Rules.{Rules};
+ghost use Rattle.napt_account.specs.LogStarts.{is_saved_log_state};
 ghost use Rattle.napt_rules.specs.Prelude.{TakesState};
-ghost use Rattle.napt_state.specs.{StateContents.{unless_for}, StateText.{IsSaved, saved_text}, declared.state_contents.StateFileContents.{StateFileContents as Told}};
-ghost use Rattle.napt_program.specs.State.{HasFew, IsAnew, IsStateOf, IsStateStop, is_bad_line};
+ghost use Rattle.napt_state.specs.{StateContents.{unless_for}, Saved.{IsSaved}, StateFiles.{StateFileModel as Told}, StateText.{saved_text}};
+ghost use Rattle.napt_program.specs.State.{IsAnew, IsStateOf, IsStateStop, ReportsMisfit, is_bad_line};
 
 use crate::devices::reader;
 use crate::role::FileRole;
 use crate::stop::{MEMORY, StateRefusal, Stop, unread};
+use napt_account::SavedLogState;
 use napt_config::Config;
 use napt_rules::State;
-use napt_state::{StateFault, StateFileContents, StateReason, read_state, take_up};
+use napt_state::{LogEnd, StateFault, StateReason, TakenState, read_state};
 use std::alloc::Global;
 use std::fs::File;
 use std::io::Read;
 use std::rt::Files;
+
+/// A state from which a run starts, as its configuration accepts it.
+#[derive(Drop)]
+pub struct ResumedState {
+    pub state: State,
+    /// What the state keeps of its log; nothing if there was no log.
+    pub saved: SavedLogState,
+    /// Where its log ends; all is 0 if there was none in a file.
+    pub log: LogEnd,
+}
 
 /// Returns the state in the file as the configuration accepts it, or one without bindings or log
 /// for `None`. Fails as `state_from` does, and with the file's role if the file cannot be opened.
@@ -22,25 +35,25 @@ pub fn state_at<R: Files + AllocGlobal>(
     rt: &R,
     config: &Config,
     path: Option<&String>,
-) -> Result<StateFileContents, Stop>
+) -> Result<ResumedState, Stop>
     ensures taken { IfOk result (λ saved. TakesState config.now saved.state) }
-    ensures few { IfOk result HasFew }
+    ensures saved { IfOk result (λ it. is_saved_log_state it.state it.saved ≡ true) }
     ensures anew { path.entry ≡ None → IfOk result IsAnew }
     ensures stop { IfErr result (IsStateStop (is_some path.entry)) }
 {
     let Some(path) = path else {
         let list = Vec::new(rt.alloc());
-        return Ok(StateFileContents {
+        return Ok(ResumedState {
             state: State { clock: 0, list },
-            log: None,
+            saved: SavedLogState::none(rt.alloc()),
+            log: LogEnd::default(),
         });
     };
     let file = File::open(rt, path).map_err(|error| unread(&error, FileRole::Resume))?;
     state_from(rt.alloc(), config, file)
 }
 
-/// Reads a state from a reader to its end. Leaves out what has no effect under the configuration,
-/// redirects and what has expired by the state's clock, but nothing of the log.
+/// Reads a state from a reader to its end.
 ///
 /// Fails with `Stop::State` if the text is refused or a binding is not accepted, with the file's
 /// role if the reader fails, and with `MEMORY` if memory is refused.
@@ -48,22 +61,25 @@ pub fn state_from<D: Read + Drop>(
     alloc: Global,
     config: &Config,
     device: D,
-) -> Result<StateFileContents, Stop>
+) -> Result<ResumedState, Stop>
     ensures taken { IfOk result (λ saved. TakesState config.now saved.state) }
-    ensures few { IfOk result HasFew }
+    ensures saved { IfOk result (λ it. is_saved_log_state it.state it.saved ≡ true) }
     ensures read { IfOk result (λ saved. IfSome (D.remaining device) (λ text.
         IsStateOf config.now text saved)) }
     ensures whole { (told : Told) → IsSaved told → D.remaining device ≡ Some (saved_text told)
         → IfErr result (λ stop. is_bad_line stop ≡ false) }
+    ensures misfit { (text : List ℕ) → D.remaining device ≡ Some text
+        → IfErr result (ReportsMisfit config.now text) }
     ensures stop { IfErr result (IsStateStop true) }
 {
-    let mut saved = match read_state(alloc, reader(alloc, device)?) {
+    let saved = match read_state(alloc, reader(alloc, device)?) {
         Ok(saved) => saved,
         Err(fault) => return Err(stop_of_state(&fault)),
     };
-    match take_up(alloc, config, &mut saved.state)? {
-        None => Ok(saved),
-        Some((_, misfit)) => Err(Stop::State(StateRefusal::Binding(misfit))),
+    let log = saved.log.map_or(LogEnd::default(), |log| log.end);
+    match saved.take_up(alloc, config)? {
+        Ok(TakenState { state, log: saved }) => Ok(ResumedState { state, saved, log }),
+        Err((_, misfit)) => Err(Stop::State(StateRefusal::Binding(misfit))),
     }
 }
 
@@ -75,6 +91,7 @@ pub fn stop_of_state(fault: &StateFault) -> Stop
     ensures utf8 { fault.now.reason ≡ StateReason.NotUtf8 →
         result ≡ Stop.State (StateRefusal.NotUtf8 fault.now.line) }
     ensures memory { fault.now.reason ≡ StateReason.Memory → result ≡ MEMORY }
+    ensures misfit { (rules : Rules) (text : List ℕ) → ReportsMisfit rules text result }
     ensures stop { IsStateStop true result }
 {
     match &fault.reason {

@@ -44,12 +44,17 @@ pub enum Stop {
 pub enum LogRefusal {
     /// The run starts without a state, and there is text or a piece.
     Anew,
-    /// The state was saved without a log, or with a log that was not in a file.
+    /// The state was saved without a log, or with a log that was not in a file, or in pieces if this
+    /// one is not.
     Untold,
-    /// It is not the state's log, of this length in bytes: it is shorter, or no row ends there.
+    /// It is not the state's log, of this length in bytes: it is shorter, or that log's last row does
+    /// not end there.
     Another(u64),
     /// More than a partial row follows the first bytes, whose number the state records.
     Longer(u64),
+    /// The last piece is not the one in which the state's log ends, of this number, or does not end
+    /// there.
+    Piece(u64),
 }
 
 /// The reason why a state is refused.

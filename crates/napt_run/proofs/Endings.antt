@@ -1,7 +1,7 @@
 -- What a run comes to at its report.
 use native.Mathlib.Omega.{arith}
 use Rattle.std.proofs.lemmas.{Grind.common_steps, Bool.Decides.nat_tests}
-use Rattle.std.proofs.Common.{◌≡◌, ◌⊎◌, ℕ, ◌+◌, Bool, true, false, append-nil, List, Option, Result, Ok, Err, IfErr, OnOk, refl, subst}
+use Rattle.std.proofs.Common.{◌≡◌, ◌⊎◌, ℕ, ◌+◌, Bool, true, false, append-nil, List, Option, Result, Ok, Err, IfErr, refl, subst}
 use Rattle.napt_capture.specs.declared.device.Sink.{Ghosts}
 use Rattle.napt_run.specs.Origins.{OriginModel, ran_by}
 use Rattle.napt_records.specs.{Counts.AreCountsOf, Report.{report_of, report_text}, declared.{Fault.{Fault, TheVariants.{Run, Write}}, Which.Which}}

@@ -1,12 +1,62 @@
 -- The rows of an input, written or not.
-use Rattle.std.proofs.lemmas.{Grind.common_steps, Bool.Decides.nat_tests}
-use Rattle.std.proofs.Common.{◌≡◌, ℕ, ◌+◌, List, [], ◌∷◌, ◌++◌, refl, sym, arith, subst, append-nil, length-append}
+use Rattle.std.proofs.lemmas.{Grind.common_steps, Bool.{Decides.nat_tests, eqb-true}}
+use Rattle.std.proofs.Common.{◌≡◌, ℕ, ◌+◌, ◌^◌, ◌<◌, ◌==◌, Bool, true, false, cond, List, [], ◌∷◌, ◌++◌, length, Option, Some, None, refl, sym, ◌∙◌, ap, arith, subst, append-nil, length-append}
 use Rattle.napt_capture.specs.declared.device.Sink.{Ghosts}
-use Rattle.napt_account.specs.TraceLogs.{IsOfTraces}
+use Rattle.napt_account.{specs.{Effects.log_after, Log.{after_input}, LogBuilders.{IsBuilderFault, LogBuilderModel}, LogParts.{LogDelta, part_between}}, proofs.GoingOn.fold_joined}
 use Rattle.napt_records.specs.declared.Fault.TheVariants as faults
 use Rattle.napt_sequential.specs.declared.passage.Trace.{Trace}
-use Rattle.napt_run.specs.{OutputSinkLaws.grows_none, Outputs.OutputGrows, LogOrigins.{LoggedOrigin, begun_at}, RunningLogs.{EntersNot, EntersWith, FailsBy, LogGoesOnFrom, LogIsAt, rows_in}}
+use Rattle.napt_run.specs.{OutputSinkLaws.grows_none, Outputs.OutputGrows, LogOrigins.LoggedOrigin, RunningLogLaws.time_joined, RunningLogs.{EntersNot, EntersWith, FailsBy, LogGoesOnFrom, LogIsAt, known_logs, last_time, rows_in, last_trace_time}}
 use Rattle.napt_run.specs.declared.{logged_fault.LogRunFault.{LogRunFault, TheVariants.{Run, Log}}, output.Output.Output, running_log.RunningLog.RunningLog}
+
+-- THE TIME OF THE LAST INPUT
+
+some_last : (now : ℕ) (traces : List Trace) → last_time (Some now) traces ≡ Some (last_trace_time now traces)
+some_last now [] = refl
+some_last now (trace ∷ traces) = some_last trace.now traces
+
+some_if : (none : Bool) (last : Option ℕ) → (none ≡ true → ⊥) → cond none None last ≡ last
+some_if true last some = absurd (some refl)
+some_if false last some = refl
+
+-- there is one, if the log took any
+pub last_is : (clock : ℕ) (traces : List Trace) →
+    cond (length traces == 0) None (Some (last_trace_time clock traces)) ≡ last_time None traces
+last_is clock [] = refl
+last_is clock (trace ∷ traces) =
+    some_if (length (trace ∷ traces) == 0) (Some (last_trace_time trace.now traces))
+    (λ none. let zero = eqb-true _ 0 none in omega (arith, zero)) ∙ sym (some_last trace.now traces)
+
+-- THE LOG AFTER ONE MORE
+
+abbrev with_input : LogBuilderModel → Trace → LogBuilderModel
+with_input it trace =
+    record it { clock = trace.now; log = after_input it.log trace; taken = it.taken + 1 }
+
+known_with : (from : LoggedOrigin) (before : List Trace) (trace : Trace) →
+    with_input (known_logs from before) trace ≡ known_logs from (before ++ trace ∷ [])
+known_with from before trace = λ i. record {
+  rules = from.origin.rules;
+  clock = sym (time_joined from.origin.state.clock before (trace ∷ [])) i;
+  log = sym (fold_joined after_input before (trace ∷ []) from.log) i;
+  taken = sym (length-append before (trace ∷ [])) i;
+  is_stopped = false;
+}
+
+module _ (from : LoggedOrigin) (before : List Trace) (trace : Trace) (old : LogBuilderModel)
+    (was : old ≡ known_logs from before) where
+  pub known_more : (new : LogBuilderModel) → new ≡ with_input old trace →
+      new ≡ known_logs from (before ++ trace ∷ [])
+  known_more new is = is ∙ (ap (λ (l : LogBuilderModel). with_input l trace) was ∙ known_with from before trace)
+
+  pub few_more : old.taken + 1 < 2 ^ 62 → length before + 1 < 2 ^ 62
+  few_more few = subst (λ (l : LogBuilderModel). l.taken + 1 < 2 ^ 62) was few
+
+  -- what it tells with the input
+  pub part_is : (part : LogDelta) → part ≡ part_between old.clock trace.now old.log (after_input old.log trace) →
+      part ≡ part_between (last_trace_time from.origin.state.clock before) trace.now (log_after from.log before)
+      (after_input (log_after from.log before) trace)
+  part_is part is = is
+      ∙ ap (λ (l : LogBuilderModel). part_between l.clock trace.now l.log (after_input l.log trace)) was
 
 module _ {L : Type 0} {S : Ghosts L} (from : LoggedOrigin) (before : List Trace) (old : RunningLog L S) where
   pub enter_failed : (trace : Trace) (fault : LogRunFault) (new : RunningLog L S) →
@@ -18,7 +68,7 @@ module _ {L : Type 0} {S : Ghosts L} (from : LoggedOrigin) (before : List Trace)
     others = [];
     all = refl;
     wrote = subst (λ (o : Output L S). OutputGrows old.output [] o) (sym p.0) (grows_none old.output);
-    of_traces = subst (λ (l : List Trace). IsOfTraces (begun_at from.origin from.log) l trace fault)
+    of_traces = subst (λ (l : List Trace). IsBuilderFault (known_logs from l) trace fault)
         (sym (append-nil before)) p.1;
   }
   enter_failed trace (Run (faults.Capture side fault)) new p = absurd p

@@ -1,23 +1,23 @@
 -- What a run with a log leaves on its devices.
 use Rattle.std.proofs.lemmas.{Grind.common_steps, Bool.Decides.nat_tests}
 use Rattle.std.specs.Prelude.{if◌then◌else◌}
-use Rattle.std.proofs.Common.{◌≡◌, ◌⊎◌, inl, inr, ℕ, ◌+◌, ◌^◌, ◌<◌, ◌≤◌, Bool, true, List, [], ◌∷◌, ◌++◌, length, map, take, Option, Result, Ok, Err, IfErr, refl, sym, ◌∙◌, ap, subst, arith, append-nil, append_assoc, length-append}
+use Rattle.std.proofs.Common.{◌≡◌, ◌⊎◌, inl, inr, ℕ, ◌+◌, ◌^◌, ◌<◌, ◌≤◌, max, Bool, true, List, [], ◌∷◌, ◌++◌, length, map, take, Option, Result, Ok, Err, IfErr, refl, sym, ◌∙◌, ap, subst, arith, append-nil, append_assoc, length-append}
 use Rattle.std.{proofs.{lemmas.List.take-append-le, Math.Seq.take-append_seam, KnownBytes.Appends-trans}, specs.Io.KnownBytes.Appends}
 use Rattle.napt_wire.specs.declared.Side.{Side}
 use Rattle.napt_capture.specs.declared.{device.Sink.Ghosts, fault.{CaptureFault.CaptureFault, WriteFault.WriteFault}}
 use Rattle.napt_laws.specs.Dispatching.{IsFrontOf}
-use Rattle.napt_account.specs.{ResumedLogRuns.{LogStateModel, log_left}, LogParts.in_order_of_end, TraceLogs.IsNext}
+use Rattle.napt_account.specs.{Effects.{IsNext, log_after}, Log.{LogModel, log_on}, LogParts.{in_order_of_end, kept_at}, ResumedLogRuns.left_of}
 use Rattle.napt_log_text.specs.{Logs.{living_rows, rows_from}, Times.TimeText}
 use Rattle.napt_records.specs.{RecordMerging.MergedInputs, declared.{Fault.Fault, Which.Which}}
 use Rattle.napt_records.specs.declared.Fault.TheVariants as faults
 use Rattle.napt_records.specs.declared.Which.TheVariants as outputs
-use Rattle.napt_rules.specs.Prelude.{Arrival}
-use Rattle.napt_sequential.{specs.declared.{fault.RunFault.RunFault, passage.{Passage.Passage, Trace.Trace}}, proofs.JoinedSteps.traces_long}
+use Rattle.napt_rules.specs.Prelude.{Arrival, Binding, RunEffect, Rules, last_clock, step}
+use Rattle.napt_sequential.{specs.{Traces.traces_from, declared.{fault.RunFault.RunFault, passage.{Passage.Passage, Trace.Trace}}}, proofs.JoinedSteps.traces_long}
 use Rattle.napt_sequential.specs.declared.fault.RunFault.TheVariants as reasons
 use Rattle.napt_run.specs.OutputSinkLaws.{breaks_more, grows_more}
 use Rattle.napt_run.specs.LoggedStreams.{FailsAtMostOnce, HasBytes, HasLog, HasPart, HasRows, HasWritten, LogIsKept, LogIsLeft, LoggedSays, besides_log, logged_fault_of}
-use Rattle.napt_run.specs.{LogRuns.{EntersAll, EntersFront, LogFailsOver, Legs, LogsTo, as_run, legs_told, traces_by}, LogOrigins.{LoggedOrigin, begun_at, ending, text_so_far, texts_of, whole_text}, Outputs.{Breaks, OutputGrows}, Origins.OriginModel, Runs.{IfHeld, ResultSays}}
-use Rattle.napt_run.specs.RunningLogs.{Adds, AreLaws, Enters, LogFails, FailsBy, FailsMore, LogGoesOnFrom, LogHalts, LogIsAt, IsFlushedAt, ending_with, left_with, rows_in, running_log_traces}
+use Rattle.napt_run.specs.{LogRuns.{EntersAll, EntersFront, LogFailsOver, Legs, LogsTo, as_run, legs_told, traces_by}, LogOrigins.{LoggedOrigin, ending, text_so_far, texts_of, whole_text}, Outputs.{Breaks, OutputGrows}, Origins.OriginModel, Runs.{IfHeld, ResultSays}}
+use Rattle.napt_run.specs.RunningLogs.{Adds, AreLaws, Enters, LogFails, FailsBy, FailsMore, LogGoesOnFrom, LogHalts, LogIsAt, IsFlushedAt, ending_with, left_with, rows_in, running_log_traces, last_trace_time}
 use Rattle.napt_run.specs.{Streams.{AreTaken, DeviceGetsFrom, HasRead, IsOfRun}, declared.logged_fault.LogRunFault.{LogRunFault, TheVariants.{Run, Log}}}
 use Rattle.napt_run.specs.declared.{logging.LoggingFault.LoggingFault, output.Output.Output, capture_run.Totals.Totals, running_log.RunningLog.RunningLog}
 use Rattle.napt_run.proofs.{Endings.all_left, Streamed.{IfHeld-all, IfHeld-map}, TraceFronts.{NextInput, next_input}}
@@ -171,6 +171,19 @@ told_traces origin inputs = running_log_traces (legs_told (λ (p : Passage). p) 
 
 pub traces_told : (origin : OriginModel) (inputs : List Arrival) → told_traces origin inputs ≡ traces_by origin inputs
 traces_told origin inputs = traces_back (traces_by origin inputs)
+
+-- the time of the last trace is that of the last input
+time_from : (rules : Rules) (number clock : ℕ) (inputs : List Arrival) (list : List Binding) →
+    last_trace_time clock (traces_from rules number clock inputs list) ≡ last_clock clock inputs
+time_from rules number clock [] list = refl
+time_from rules number clock (input ∷ inputs) list =
+    let now : ℕ = max clock input.clock in
+    let course : RunEffect = step rules number now input list in
+    time_from rules (number + 1) now inputs course.list
+
+time_is : (origin : OriginModel) (inputs : List Arrival) →
+    last_trace_time origin.state.clock (traces_by origin inputs) ≡ last_clock origin.state.clock inputs
+time_is origin inputs = time_from origin.rules 0 origin.state.clock inputs origin.state.list
 
 -- THE LOG WHILE THE RUN GOES
 
@@ -373,10 +386,14 @@ module _ {L : Type 0} {S : Ghosts L} (from : LoggedOrigin) (laws : AreLaws from.
     pub at_end : LogIsAt from (traces_by from.origin s.inputs) after
     at_end = (entered s.inputs s.entered).at
 
+    left_is : left_with from (traces_by from.origin s.inputs)
+        ≡ left_of from.origin.rules from.origin.state from.log s.inputs
+    left_is = λ i. kept_at (time_is from.origin s.inputs i) (laws.is_log s.inputs i)
+
     ending_at : ending_with from (traces_by from.origin s.inputs) ≡ ending from s.inputs
     unfolding ending
-    ending_at = ap (λ (kept : LogStateModel). if from.goes_on then [] else living_rows from.origin.rules
-        (in_order_of_end kept.living)) (laws.tell.left s.inputs)
+    ending_at = ap (λ (kept : LogModel). if from.goes_on then [] else living_rows from.origin.rules
+        (in_order_of_end kept.entries)) left_is
 
     abbrev pub Closed : Result (Unit {0}) LogRunFault → Type 0
     Closed closed = Adds from (traces_by from.origin s.inputs) (ending from s.inputs) after.output closed last
@@ -390,8 +407,8 @@ module _ {L : Type 0} {S : Ghosts L} (from : LoggedOrigin) (laws : AreLaws from.
     pub kept_at_end : last.left ≡ left_with from (traces_by from.origin s.inputs) →
         LogIsKept from.origin from.log inside outside last.left
     kept_at_end is = IfHeld-map (λ all. all ≡ record { arrivals = s.inputs; end = Ok totals.cuts })
-        (λ all. last.left ≡ log_left from.origin.rules from.origin.state from.log all.arrivals) inside outside
-        (λ all whole. rw whole (is ∙ laws.tell.left s.inputs)) s.all
+        (λ all. last.left ≡ left_of from.origin.rules from.origin.state from.log all.arrivals) inside outside
+        (λ all whole. rw whole (is ∙ left_is)) s.all
 
     pub ended_well : Closed (Ok tt) → LogIsLeft (texts_of from) inside outside (Ok totals) old.output last.output
     ended_well p =
@@ -587,10 +604,14 @@ module _ {L : Type 0} {S : Ghosts L} (open_gate : Bool) (from : LoggedOrigin) (l
 
   -- a trace of a run always comes next
   never_refused : (inputs : List Arrival) (first : List Trace) (next : Trace) →
-      NextInput from.origin inputs first next → (¬ IsNext (begun_at from.origin from.log) first next) → ⊥
+      NextInput from.origin inputs first next →
+      (¬ IsNext (last_trace_time from.origin.state.clock first) (log_after from.log first) next) → ⊥
   never_refused inputs first next n never =
-      never (subst (λ (ts : List Trace). IsNext (begun_at from.origin from.log) ts next) (sym n.first_is)
-      (laws.tell.tell n.before n.input next n.grown).1)
+      never (subst (λ (ts : List Trace). IsNext (last_trace_time from.origin.state.clock ts) (log_after from.log ts) next)
+      (sym n.first_is) (subst (λ (l : LogModel). IsNext (last_trace_time from.origin.state.clock
+      (traces_by from.origin n.before)) l next) (sym (laws.is_log n.before))
+      (subst (λ (t : ℕ). IsNext t (log_on from.origin.rules from.origin.state from.log n.before) next)
+      (sym (time_is from.origin n.before)) (laws.come n.before n.input next n.grown))))
 
   pub halt_says : (halt : LoggingFault LogRunFault) → Halted halt →
       ResultSays open_gate (from.origin) inside outside (as_run (Err halt)) →

@@ -1,16 +1,16 @@
 -- What a run leaves, by one relation for each output.
-use Rattle.std.{proofs.lemmas.{Grind.common_steps, Bool.Decides.nat_tests}, specs.Io.KnownBytes.Appends}
-use Rattle.std.proofs.Common.{◌≡◌, ◌∙◌, inl, inr, ap, ℕ, ◌+◌, ◌-◌, ◌^◌, ◌≤◌, ◌<◌, Bool, true, false, List, [], length, take, Option, Result, Ok, Err, IfErr, IfOk, OnOk, refl, sym, subst, arith, append-nil, add-zero, length-append}
+use Rattle.std.{specs.Io.KnownBytes.Appends}
+use Rattle.std.proofs.Common.{◌≡◌, ◌∙◌, inl, inr, ap, ℕ, ◌+◌, ◌^◌, ◌≤◌, ◌<◌, Bool, true, false, List, [], length, take, Option, Result, Ok, Err, IfErr, IfOk, OnOk, refl, sym, subst, arith, append-nil, add-zero, length-append}
 use Rattle.napt_capture.specs.{Text.file_header, declared.{device.Sink.Ghosts, fault.WriteFault.WriteFault}}
 use Rattle.napt_laws.specs.Dispatching.{IsFrontOf}
-use Rattle.napt_records.specs.{Faults.is_shut_gate_fault, RecordMerging.MergedInputs, declared.{Fault.{Fault, TheVariants.{Capture, Run, Write}}, Which.{Which, TheVariants.{Outside, Inside, Report, Log}}}}
+use Rattle.napt_records.specs.{RecordMerging.MergedInputs, declared.{Fault.{Fault, TheVariants.{Capture, Run, Write}}, Which.{Which, TheVariants.{Outside, Inside, Report, Log}}}}
 use Rattle.napt_rules.specs.Prelude.{Arrival}
 use Rattle.napt_sequential.specs.declared.fault.RunFault.TheVariants.{Memory, TooMany, Pool}
 use Rattle.napt_wire.specs.declared.Side.TheVariants as sides
 use Rattle.napt_run.specs.{Captures.{failed_readings, failed_writings}, LogLaws.held, LogOrigins.LogTexts, OutputSinkLaws.appends_none, Origins.OriginModel, Posts.{CapturePost, ExplainsPost, ExtentPost, FailedPost, FaultPost, IsBeforeReport, IsDone, OutputPost, SinkPost, capture_to, log_by, output_text_by}, OutputSinks.records_text, Runs.{IfHeld, run_left_of}}
 use Rattle.napt_run.specs.Streams.{DeviceGetsFrom, Explains, GetsOf, HasAll, HasRead, IsOfRun, IsReading, IsReportFault, IsSettledBy, IsStopFault, capture_text, stream_ended, side_of}
 use Rattle.napt_run.specs.LoggedStreams.{StreamsCountFailures, DeviceGetsOrFrom, HasBytes, HasLog, IsLoggedStop, LogGetsText, LoggedExplains, Logs, LogsOf, besides_log}
-use Rattle.napt_account.specs.ResumedLogRuns.{LogStateModel}
+use Rattle.napt_account.specs.Log.{LogModel}
 use Rattle.napt_run.specs.Logs.{fault_of_logged_run, unified, with_log}
 use Rattle.napt_run.specs.declared.capture_run.Totals.{Totals}
 use Rattle.napt_run.specs.declared.logged_fault.LogRunFault.{LogRunFault}
@@ -514,29 +514,29 @@ log_unbegun S texts inside outside log = record {
 
 -- WHAT A RUN COMES TO, with what is kept of its log
 
-pub end_with : (told : Result Totals Fault) (log : LogStateModel) (result : Result (Totals × LogStateModel) Fault) →
+pub end_with : (told : Result Totals Fault) (log : LogModel) (result : Result (Totals × LogModel) Fault) →
     result ≡ with_log told log → stream_ended result ≡ stream_ended told
 end_with (Ok totals) log result is = ap stream_ended is
 end_with (Err fault) log result is = ap stream_ended is
 
-pub log_with : (told : Result Totals Fault) (log : LogStateModel) (result : Result (Totals × LogStateModel) Fault) →
+pub log_with : (told : Result Totals Fault) (log : LogModel) (result : Result (Totals × LogModel) Fault) →
     result ≡ with_log told log → stream_ended (log_by result) ≡ stream_ended told
-log_with (Ok totals) log result is = ap (λ (r : Result (Totals × LogStateModel) Fault). stream_ended (log_by r)) is
-log_with (Err fault) log result is = ap (λ (r : Result (Totals × LogStateModel) Fault). stream_ended (log_by r)) is
+log_with (Ok totals) log result is = ap (λ (r : Result (Totals × LogModel) Fault). stream_ended (log_by r)) is
+log_with (Err fault) log result is = ap (λ (r : Result (Totals × LogModel) Fault). stream_ended (log_by r)) is
 
-pub told_with : (P : Totals → Type 0) (told : Result Totals Fault) (log : LogStateModel)
-    (result : Result (Totals × LogStateModel) Fault) → result ≡ with_log told log → IfOk told P →
+pub told_with : (P : Totals → Type 0) (told : Result Totals Fault) (log : LogModel)
+    (result : Result (Totals × LogModel) Fault) → result ≡ with_log told log → IfOk told P →
     IfOk result (λ both. P both.0)
 told_with P (Ok totals) log result is p = rw is p
 told_with P (Err fault) log result is p = rw is tt
 
-pub err_with : (P : Fault → Type 0) (told : Result Totals Fault) (log : LogStateModel)
-    (result : Result (Totals × LogStateModel) Fault) → result ≡ with_log told log → IfErr told P → IfErr result P
+pub err_with : (P : Fault → Type 0) (told : Result Totals Fault) (log : LogModel)
+    (result : Result (Totals × LogModel) Fault) → result ≡ with_log told log → IfErr told P → IfErr result P
 err_with P (Ok totals) log result is p = rw is tt
 err_with P (Err fault) log result is p = rw is p
 
-pub kept_with : (P : LogStateModel → Type 0) (told : Result Totals Fault) (log : LogStateModel)
-    (result : Result (Totals × LogStateModel) Fault) → result ≡ with_log told log → OnOk told (P log) →
+pub kept_with : (P : LogModel → Type 0) (told : Result Totals Fault) (log : LogModel)
+    (result : Result (Totals × LogModel) Fault) → result ≡ with_log told log → OnOk told (P log) →
     IfOk (log_by result) P
 kept_with P (Ok totals) log result is p = rw is p
 kept_with P (Err fault) log result is p = rw is tt

@@ -1,5 +1,5 @@
 -- What a run does to its devices.
-use Rattle.std.specs.Prelude.{◌≡◌, Bool, List, ℕ, Option, Result}
+use Rattle.std.specs.Prelude.{Bool, Result}
 use Rattle.napt_capture.specs.declared.device.Sink as sink
 use Rattle.napt_capture.specs.declared.device.Source as source
 use Rattle.napt_records.specs.declared.{Fault.Fault, Which.TheVariants.{Outside, Inside}}

@@ -1,8 +1,8 @@
 -- If writing the report fails, the log is as it is after success.
-use Rattle.std.specs.Prelude.{◌≡◌, ℕ, ◌+◌, List, Option, Some, None, Result, Ok, Err}
+use Rattle.std.specs.Prelude.{◌≡◌, ℕ, ◌+◌, List, Option, Some, None, Ok, Err}
 use Rattle.std.proofs.Common.{◌∙◌, add-zero, inl}
 use Rattle.napt_capture.specs.declared.device.Sink.{Ghosts}
-use Rattle.napt_account.specs.ResumedLogRuns.{LogStateModel}
+use Rattle.napt_account.specs.Log.{LogModel}
 use Rattle.napt_records.specs.{RecordMerging.MergedInputs, declared.{Fault.{Fault, TheVariants.{Capture, Run, Write}}, Which.TheVariants.{Outside, Inside, Report, Log}}}
 use Rattle.napt_sequential.specs.declared.fault.RunFault.TheVariants.{Memory, TooMany, Pool}
 use Rattle.napt_run.specs.{Files.files_until, LogOrigins.LogTexts, Logs.LogPost, Posts.{FailedPost, OutputPost}, Runs.IfHeld}
@@ -49,17 +49,16 @@ failed_unreported (Write Outside fault) report old new p = absurd report
 failed_unreported (Write Inside fault) report old new p = absurd report
 failed_unreported (Write Log fault) report old new p = absurd report
 
-pub log_unreported : {L : Type 0} (S : Ghosts L) (start : Start) (inside outside : Option (List ℕ)) (log : LogStateModel)
+pub log_unreported : {L : Type 0} (S : Ghosts L) (start : Start) (inside outside : Option (List ℕ)) (log : LogModel)
     (fault : Fault) (old new : LogWriter L) → IsReportFault fault →
     LogPost S start inside outside (Ok log) old new → LogPost S start inside outside (Err fault) old new
-log_unreported S start inside outside log fault old new report post = λ l told is.
-    let p = post l told is in record {
-      written = record {
-        contents = held _ _ inside outside
-            (output_unreported _ fault report (S.contents old.device) (S.contents new.device)) p.written.contents;
-        failed = failed_unreported fault report (S.failed old.device) (S.failed new.device) p.written.failed;
-        flushed = λ settled. p.written.flushed tt;
-      };
-      kept = tt;
-      few = λ done. p.few tt;
-    }
+log_unreported S start inside outside log fault old new report p = record {
+  written = record {
+    contents = held _ _ inside outside
+        (output_unreported _ fault report (S.contents old.device) (S.contents new.device)) p.written.contents;
+    failed = failed_unreported fault report (S.failed old.device) (S.failed new.device) p.written.failed;
+    flushed = λ settled. p.written.flushed tt;
+  };
+  kept = tt;
+  few = λ done. p.few tt;
+}

@@ -4,7 +4,7 @@ use Rattle.std.specs.Io.KnownBytes.{Appends}
 use Rattle.napt_wire.specs.declared.Side.{Side}
 use Rattle.napt_capture.specs.declared.{device.Sink.Ghosts, fault.CaptureFault.CaptureFault}
 use Rattle.napt_laws.specs.Dispatching.{IsFrontOf}
-use Rattle.napt_account.specs.ResumedLogRuns.{LogStateModel, log_left}
+use Rattle.napt_account.specs.{Log.LogModel, ResumedLogRuns.left_of}
 use Rattle.napt_records.specs.{RecordMerging.MergedInputs, declared.{Fault.Fault, Which.Which}, Faults.is_shut_gate_fault}
 use Rattle.napt_records.specs.declared.Fault.TheVariants as faults
 use Rattle.napt_records.specs.declared.Which.TheVariants as outputs
@@ -89,9 +89,9 @@ pub record LogGetsText {L T : Type 0} (S : Ghosts L) (texts : LogTexts) (inside 
   pub settled : IsSettledBy (stream_ended (besides_log result)) → S.is_flushed new
 
 -- this is kept of the log beside the state that the run leaves
-abbrev pub LogIsKept : OriginModel → LogStateModel → Option (List ℕ) → Option (List ℕ) → LogStateModel → Type 0
+abbrev pub LogIsKept : OriginModel → LogModel → Option (List ℕ) → Option (List ℕ) → LogModel → Type 0
 LogIsKept origin log inside outside left = IfKnown inside outside (λ bytes others.
-    left ≡ log_left origin.rules origin.state log (files_until bytes others).arrivals)
+    left ≡ left_of origin.rules origin.state log (files_until bytes others).arrivals)
 
 -- THE FAULT
 

@@ -2,16 +2,14 @@
 -- each output has, and which fault the run returns. Nothing is said of the bytes of a device that are not known.
 use Rattle.std.specs.Prelude.{◌≡◌, ◌⊎◌, ⊤, ℕ, ◌+◌, ◌-◌, ◌^◌, ◌≤◌, min, List, length, take, Bool, true, false, Option, Result, Ok, Err, IsOk}
 use Rattle.std.specs.Io.KnownBytes.{Appends}
-use Rattle.napt_wire.specs.declared.Side.{Side}
-use Rattle.napt_capture.specs.{Reading.IsReadFault, Text.file_header, declared.{device.Sink.Ghosts, fault.CaptureFault.CaptureFault}}
-use Rattle.napt_account.specs.ResumedLogRuns.{LogStateModel}
-use Rattle.napt_dispatch.specs.declared.workers.RunSummary.{RunSummary}
+use Rattle.napt_capture.specs.{Reading.IsReadFault, Text.file_header, declared.{device.Sink.Ghosts}}
+use Rattle.napt_account.specs.Log.{LogModel}
 use Rattle.napt_laws.specs.Dispatching.{IsFrontOf}
 use Rattle.napt_records.specs.{Faults.is_shut_gate_fault, RecordMerging.MergedInputs, declared.{Fault.{Fault, TheVariants.{Capture, Run, Write}}, Which.{Which, TheVariants.{Outside, Inside, Report, Log}}}}
 use Rattle.napt_rules.specs.Prelude.{Arrival}
 use Rattle.napt_sequential.specs.declared.fault.RunFault.TheVariants as reasons
 use Rattle.napt_run.specs.{Captures.failed_writings, LogOrigins.LogTexts, Origins.OriginModel, Runs.IfHeld, declared.run_end.RunEnd.RunEnd}
-use Rattle.napt_run.specs.Streams.{HasRead, IsStreamFaultOf, IsOfRun, IsSettledBy, capture_text, side_of}
+use Rattle.napt_run.specs.Streams.{IsStreamFaultOf, IsOfRun, IsSettledBy, capture_text, side_of}
 
 -- THE TEXT OF AN OUTPUT
 
@@ -108,12 +106,12 @@ pub record FaultPost (is_kept open_gate : Bool) (inside outside : Option (List �
   pub gate : open_gate ≡ true → is_shut_gate_fault fault ≡ false
 
 -- What is saved of the log, by the result of the run.
-abbrev pub log_of_end : Result RunEnd Fault → Result LogStateModel Fault
+abbrev pub log_of_end : Result RunEnd Fault → Result LogModel Fault
 log_of_end (Ok end) = Ok end.log
 log_of_end (Err fault) = Err fault
 
 -- The same before the report is written.
-abbrev pub log_by : {T : Type 0} → Result (T × LogStateModel) Fault → Result LogStateModel Fault
+abbrev pub log_by : {T : Type 0} → Result (T × LogModel) Fault → Result LogModel Fault
 log_by (Ok (told, log)) = Ok log
 log_by (Err fault) = Err fault
 

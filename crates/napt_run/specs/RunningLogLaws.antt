@@ -1,12 +1,13 @@
 -- What is entered in a log in two parts is entered as one.
-use Rattle.std.{specs.Prelude.{◌≡◌, List, [], ◌∷◌, ◌++◌}, proofs.{Common.{sym, ◌∙◌, ap, subst, append-nil, append_assoc}, lemmas.List.map-append}}
+use Rattle.std.{specs.Prelude.{◌≡◌, ℕ, List, [], ◌∷◌, ◌++◌, Option, Some, None}, proofs.{Common.{refl, sym, ◌∙◌, ap, subst, append-nil, append_assoc}, lemmas.List.map-append}}
 use Rattle.napt_capture.specs.declared.device.Sink.{Ghosts}
-use Rattle.napt_account.specs.TraceLogs.{IsOfTraces}
-use Rattle.napt_log_text.{specs.{Logs.text_by, Times.TimeText}, proofs.Logs.added-append}
+use Rattle.napt_config.specs.Rules.{Rules}
+use Rattle.napt_account.{specs.{Effects.log_after, Log.{LogModel, after_input}, LogBuilders.IsBuilderFault, LogParts.{kept_at, part_between}}, proofs.GoingOn.fold_joined}
+use Rattle.napt_log_text.specs.{Logs.{part_rows, piece_opening, rows_by}, Times.TimeText}
 use Rattle.napt_records.specs.declared.fault.Fault.TheVariants as faults
 use Rattle.napt_sequential.specs.declared.passage.{Passage.Passage, Trace.Trace}
 use Rattle.napt_run.specs.{OutputSinkLaws.{breaks_more, grows_more, grows_none}, LogRuns.Legs, Outputs.{Breaks, OutputGrows}}
-use Rattle.napt_run.specs.{LogOrigins.{LoggedOrigin, begun_at}, RunningLogs.{Enters, LogFails, FailsBy, LogIsAt, rows_in, running_log_traces}, declared.logged_fault.LogRunFault.LogRunFault}
+use Rattle.napt_run.specs.{LogOrigins.LoggedOrigin, RunningLogs.{Enters, LogFails, FailsBy, LogIsAt, known_logs, last_time, rows_in, running_log_traces, last_trace_time}, declared.logged_fault.LogRunFault.LogRunFault}
 use Rattle.napt_run.specs.declared.{logged_fault.LogRunFault.TheVariants.{Run, Log}, running_log.RunningLog.RunningLog}
 
 traces_join : (xs ys : List (Legs Passage)) → running_log_traces (xs ++ ys) ≡ running_log_traces xs
@@ -14,10 +15,35 @@ traces_join : (xs ys : List (Legs Passage)) → running_log_traces (xs ++ ys) �
 traces_join xs ys =
     map-append (λ legs. let t : Trace = record { now = legs.0; first = legs.1; second = legs.2 } in t) xs ys
 
+pub time_joined : (now : ℕ) (xs ys : List Trace) →
+    last_trace_time now (xs ++ ys) ≡ last_trace_time (last_trace_time now xs) ys
+time_joined now [] ys = refl
+time_joined now (x ∷ xs) ys = time_joined x.now xs ys
+
+last_joined : (last : Option ℕ) (xs ys : List Trace) → last_time last (xs ++ ys) ≡ last_time (last_time last xs) ys
+last_joined last [] ys = refl
+last_joined last (x ∷ xs) ys = last_joined (Some x.now) xs ys
+
+rows_joined : (rules : Rules) (each last : Option ℕ) (was : ℕ) (log : LogModel) (xs ys : List Trace) →
+    rows_by rules each last was log (xs ++ ys) ≡ rows_by rules each last was log xs
+    ++ rows_by rules each (last_time last xs) (last_trace_time was xs) (log_after log xs) ys
+rows_joined rules each last was log [] ys = refl
+rows_joined rules each last was log (x ∷ xs) ys =
+    let later : LogModel = after_input log x in
+    let text : TimeText = piece_opening rules each last x.now (kept_at was log)
+    ++ part_rows rules (part_between was x.now log later) in
+    ap (λ (l : TimeText). text ++ l) (rows_joined rules each (Some x.now) x.now later xs ys)
+    ∙ sym (append_assoc text (rows_by rules each (Some x.now) x.now later xs)
+    (rows_by rules each (last_time (Some x.now) xs) (last_trace_time x.now xs) (log_after later xs) ys))
+
 rows_in-append : (from : LoggedOrigin) (before xs ys : List Trace) →
     rows_in from before (xs ++ ys) ≡ rows_in from before xs ++ rows_in from (before ++ xs) ys
 rows_in-append from before xs ys =
-    added-append (text_by from.origin.rules from.each (begun_at from.origin from.log)) before xs ys
+    let clock : ℕ = from.origin.state.clock in
+    rows_joined from.origin.rules from.each (last_time None before) (last_trace_time clock before)
+    (log_after from.log before) xs ys
+    ∙ (λ i. rows_in from before xs ++ rows_by from.origin.rules from.each (sym (last_joined None before xs) i)
+    (sym (time_joined clock before xs) i) (sym (fold_joined after_input before xs from.log) i) ys)
 
 module _ {L : Type 0} {S : Ghosts L} where
   pub enters_none : (x : RunningLog L S) → Enters x [] x
@@ -53,7 +79,7 @@ module _ {L : Type 0} {S : Ghosts L} where
     all = ap (λ (l : List Trace). xs ++ l) two.all ∙ sym (append_assoc xs two.first (two.next ∷ two.others));
     wrote = subst (λ (l : TimeText). OutputGrows x.output l z.output) (sym (rows_in-append from before xs two.first))
         (grows_more x.output y.output z.output _ _ one two.wrote);
-    of_traces = subst (λ (l : List Trace). IsOfTraces (begun_at from.origin from.log) l two.next fault)
+    of_traces = subst (λ (l : List Trace). IsBuilderFault (known_logs from l) two.next fault)
         (append_assoc before xs two.first) two.of_traces;
   }
   fails_by from before xs ys x y z (Run (faults.Capture side fault)) one two = absurd two

@@ -1,23 +1,35 @@
 -- What the log of a run does while its outcomes leave.
 use Rattle.std.specs.Int.NonZero.{non_zero_u32_get}
-use Rattle.std.specs.Prelude.{◌≡◌, ◌⊎◌, ℕ, ◌+◌, ◌<◌, ◌^◌, Bool, List, [], ◌∷◌, ◌++◌, length, map, false, if◌then◌else◌, Option, option_map, string_bytes, Result, Ok, Err}
+use Rattle.std.specs.Prelude.{◌≡◌, ◌⊎◌, ℕ, ◌+◌, ◌<◌, ◌^◌, Bool, List, [], ◌∷◌, ◌++◌, length, map, false, if◌then◌else◌, Option, Some, None, option_map, string_bytes, Result, Ok, Err}
 use Rattle.napt_capture.specs.declared.device.Sink.{Ghosts}
-use Rattle.napt_account.specs.{ResumedLogRuns.{IsLogOf, LogStateModel, kept_at}, TrackedLogs.KnownTraces, TraceLogs.{LogBeginning, IsOfTraces, TracesTellFrom, entries_after, last_time, living_with, trace_time_after}}
-use Rattle.napt_log_text.specs.{Logs.{living_rows, piece_opening, rows_from, rows_with, text_by}, Times.TimeText}
+use Rattle.napt_account.specs.{Effects.{EffectsComeFrom, log_after}, Log.{LogModel, after_input, log_on}, LogBuilders.{IsBuilderFault, LogBuilderModel}, LogParts.{kept_at, living_at, part_between}, ResumedLogRuns.IsLogOf}
+use Rattle.napt_log_text.specs.{Logs.{living_rows, part_rows, piece_opening, rows_by, rows_from}, Times.TimeText}
 use Rattle.napt_records.specs.declared.fault.Fault.TheVariants as faults
 use Rattle.napt_sequential.specs.declared.fault.RunFault.TheVariants as reasons
 use Rattle.napt_sequential.specs.declared.{fault.RunFault.RunFault, passage.{Passage.Passage, Trace.Trace}}
 use Rattle.napt_rules.specs.Prelude.{Arrival}
-use Rattle.napt_run.specs.{LogOrigins.{LoggedOrigin, begun_at}, LogRuns.{Legs, traces_by}, Origins.OriginModel, Outputs.{Breaks, OutputGrows}, declared.{logged_fault.LogRunFault.{LogRunFault, TheVariants.{Run, Log}}, logging.LoggingFault.LoggingFault, output.Output.Output}}
+use Rattle.napt_run.specs.{LogOrigins.LoggedOrigin, LogRuns.{Legs, traces_by}, Origins.OriginModel, Outputs.{Breaks, OutputGrows}, declared.{logged_fault.LogRunFault.{LogRunFault, TheVariants.{Run, Log}}, logging.LoggingFault.LoggingFault, output.Output.Output}}
 use Rattle.napt_run.specs.declared.running_log.RunningLog.{RunningLog}
 use Rattle.napt_run.specs.declared.logging.LoggingFault.TheVariants as log_faults
 
--- what holds of a log by traces
-pub record AreLaws (origin : OriginModel) (log : LogStateModel) : Type 0 where
+-- What holds of a log by what the legs of inputs did.
+pub record AreLaws (origin : OriginModel) (log : LogModel) : Type 0 where
   pub rows : (each : Option ℕ) (inputs : List Arrival) →
-      rows_with origin.rules each (begun_at origin log) [] (traces_by origin inputs)
+      rows_by origin.rules each None origin.state.clock log (traces_by origin inputs)
       ≡ rows_from origin.rules origin.state each log inputs
-  pub tell : TracesTellFrom origin.rules origin.state (begun_at origin log)
+  pub is_log : (inputs : List Arrival) →
+      log_after log (traces_by origin inputs) ≡ log_on origin.rules origin.state log inputs
+  pub come : EffectsComeFrom origin.rules origin.state log
+
+-- The time of the last of these; before them it was this.
+abbrev pub last_trace_time : ℕ → List Trace → ℕ
+last_trace_time now [] = now
+last_trace_time now (trace ∷ traces) = last_trace_time trace.now traces
+
+-- The same, where there may have been none before them.
+abbrev pub last_time : Option ℕ → List Trace → Option ℕ
+last_time last [] = last
+last_time last (trace ∷ traces) = last_time (Some trace.now) traces
 
 -- where a run fails so, its log is flushed already, or cannot be
 abbrev pub IsFlushedAt : LoggingFault LogRunFault → Type 0
@@ -34,31 +46,39 @@ abbrev pub running_log_traces : List (Legs Passage) → List Trace
 running_log_traces all = map (λ legs. record { now = legs.0; first = legs.1; second = legs.2 }) all
 
 -- the log after these traces, and the rows of those that come then
-abbrev pub known_logs : LoggedOrigin → List Trace → KnownTraces
+abbrev pub known_logs : LoggedOrigin → List Trace → LogBuilderModel
 known_logs from traces = record {
   rules = from.origin.rules;
-  begun = begun_at from.origin from.log;
-  traces = traces;
+  clock = last_trace_time from.origin.state.clock traces;
+  log = log_after from.log traces;
+  taken = length traces;
   is_stopped = false;
 }
 
 abbrev pub rows_in : LoggedOrigin → List Trace → List Trace → TimeText
-rows_in from before traces = rows_with from.origin.rules from.each (begun_at from.origin from.log) before traces
+rows_in from before traces = rows_by from.origin.rules from.each (last_time None before)
+    (last_trace_time from.origin.state.clock before) (log_after from.log before) traces
 
 -- the rows of what lives at the end, and what is kept then
 abbrev pub ending_with : LoggedOrigin → List Trace → TimeText
 ending_with from traces = if from.goes_on then []
-    else living_rows from.origin.rules (living_with (begun_at from.origin from.log) traces)
+    else living_rows from.origin.rules
+    (living_at (last_trace_time from.origin.state.clock traces) (log_after from.log traces))
 
-abbrev pub left_with : LoggedOrigin → List Trace → LogStateModel
-left_with from traces =
-    let start : LogBeginning = begun_at from.origin from.log in
-    kept_at (trace_time_after start.clock traces) (entries_after start traces)
+abbrev pub left_with : LoggedOrigin → List Trace → LogModel
+left_with from traces = kept_at (last_trace_time from.origin.state.clock traces) (log_after from.log traces)
 
 -- how a piece begins with an input behind these, if one does
 abbrev pub opening_before : LoggedOrigin → List Trace → ℕ → TimeText
 opening_before from before now =
-    piece_opening from.origin.rules from.each (last_time before) now (left_with from before)
+    piece_opening from.origin.rules from.each (last_time None before) now (left_with from before)
+
+-- the rows of an input behind these
+abbrev pub input_rows : LoggedOrigin → List Trace → Trace → TimeText
+input_rows from before trace =
+    let log : LogModel = log_after from.log before in
+    opening_before from before trace.now ++ part_rows from.origin.rules
+    (part_between (last_trace_time from.origin.state.clock before) trace.now log (after_input log trace))
 
 module _ {L : Type 0} {S : Ghosts L} where
   -- it took these traces, no more than it can count, and goes on
@@ -74,7 +94,7 @@ module _ {L : Type 0} {S : Ghosts L} where
   running_log_of origin it = record {
     origin = origin;
     opening = string_bytes it.opening;
-    log = it.log.begun.log;
+    log = it.log.log;
     each = option_map non_zero_u32_get it.each;
     goes_on = it.goes_on;
   }
@@ -82,7 +102,7 @@ module _ {L : Type 0} {S : Ghosts L} where
   -- nothing was entered, and nothing written
   pub record IsReady (origin : OriginModel) (it : RunningLog L S) : Type 0 where
     pub at : LogIsAt (running_log_of origin it) [] it
-    pub of : IsLogOf origin.rules origin.state it.log.begun.log
+    pub of : IsLogOf origin.rules origin.state it.log.log
     pub written : it.output.written ≡ 0
 
   -- it goes on after these traces, and this text was written
@@ -104,7 +124,7 @@ module _ {L : Type 0} {S : Ghosts L} where
     pub others : List Trace
     pub all : traces ≡ first ++ (next ∷ others)
     pub wrote : OutputGrows old.output (rows_in from before first) new.output
-    pub of_traces : IsOfTraces (begun_at from.origin from.log) (before ++ first) next fault
+    pub of_traces : IsBuilderFault (known_logs from (before ++ first)) next fault
 
   abbrev pub FailsBy : LoggedOrigin → List Trace → List Trace → LogRunFault → RunningLog L S → RunningLog L S → Type 0
   FailsBy from before traces (Log fault) old new = Breaks old.output (rows_in from before traces) fault new.output
@@ -137,10 +157,10 @@ module _ {L : Type 0} {S : Ghosts L} where
     pub output : new.output ≡ old.output
     pub each : new.each ≡ old.each
     pub goes_on : new.goes_on ≡ old.goes_on
-    pub rows : text ≡ text_by from.origin.rules from.each (begun_at from.origin from.log) before trace
+    pub rows : text ≡ input_rows from before trace
 
   -- or failed
   abbrev pub EntersNot : LoggedOrigin → List Trace → Trace → RunningLog L S → LogRunFault → RunningLog L S → Type 0
   EntersNot from before trace old (Run (faults.Run fault)) new =
-      (new.output ≡ old.output) × IsOfTraces (begun_at from.origin from.log) before trace fault
+      (new.output ≡ old.output) × IsBuilderFault (known_logs from before) trace fault
   EntersNot from before trace old other new = ⊥

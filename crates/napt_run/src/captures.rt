@@ -13,7 +13,7 @@ use crate::logging::NoLog;
 use crate::run_end::RunEnd;
 use crate::start::{OriginSetting, Start};
 use crate::whole_captures::RunTally;
-use napt_account::SavedLogState;
+use napt_account::OpenLog;
 use napt_capture::{Capture, Sink, Source, Watched, read_capture, write_text};
 use napt_dispatch::RunSummary;
 use napt_pool::Gate;
@@ -193,7 +193,7 @@ pub fn run_captures<
     )?;
     Ok(RunEnd {
         passed,
-        log: SavedLogState::none(alloc),
+        log: OpenLog::none(alloc),
     })
 }
 

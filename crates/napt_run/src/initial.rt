@@ -4,7 +4,7 @@ ghost use Rattle.napt_config.specs.Rules.{Rules};
 ghost use Rattle.napt_rules.specs.Prelude.{TakesState};
 ghost use Rattle.napt_run.specs.{Captures.{texts, texts_from}, LogOrigins.BeginsLogsAnew, Origins.{initial_origin, resumed_origin}};
 
-use napt_log_text::logs_join;
+use napt_account::started_logs_go_on;
 use napt_rules::State;
 use std::alloc::Global;
 
@@ -18,7 +18,7 @@ pub fn initial_state(alloc: Global) -> State
     // The log of a run from there is that of a run over all of its inputs.
     ensures log { BeginsLogsAnew result }
 {
-    logs_join();
+    started_logs_go_on();
     State {
         clock: 0,
         list: Vec::new(alloc),

@@ -1,7 +1,7 @@
 //! A run over captures as they arrive, with its log.
 ghost use Rattle.std.specs.Prelude.{◌≡◌, OnOk};
 ghost use Rattle.napt_rules.specs.Prelude.{TakesState};
-ghost use Rattle.napt_account.specs.ResumedLogRuns.{LogStateModel as Kept, IsLogOf};
+ghost use Rattle.napt_account.specs.{Log.LogModel, ResumedLogRuns.IsLogOf};
 ghost use Rattle.napt_run.specs.LoggedStreams.{DeviceGetsOrFrom, LogIsKept, LogIsLeft, LoggedSays, besides_log, logged_fault_of};
 ghost use Rattle.napt_run.specs.{LogOrigins.texts_of, Origins.origin_of, RunningLogs.{AreLaws, IsReady, running_log_of}};
 ghost use Rattle.napt_run.specs.Streams.{HasRead, IsOfRun};
@@ -11,9 +11,9 @@ use crate::logged_fault::LogRunFault;
 use crate::logging::LoggingFault;
 use crate::running_log::RunningLog;
 use crate::start::{OriginSetting, Start};
-use napt_account::traces_tell_the_log;
+use napt_account::effects_are_the_log;
 use napt_capture::{Sink, Source};
-use napt_log_text::traces_have_the_rows;
+use napt_log_text::effects_have_the_rows;
 use napt_pool::Gate;
 use napt_records::Which;
 use std::sync::Wait;
@@ -32,11 +32,11 @@ fn fault_of(halt: LoggingFault<LogRunFault>) -> LogRunFault
 /// By the traces of its inputs a log of a state has their rows.
 fn log_laws(start: Start<'_>)
     requires { TakesState start.config.now start.state.now }
-    ensures { (log : Kept) → IsLogOf start.entry.config.now (origin_of start.entry).state log →
+    ensures { (log : LogModel) → IsLogOf start.entry.config.now (origin_of start.entry).state log →
         AreLaws (origin_of start.entry) log }
 {
-    traces_tell_the_log();
-    traces_have_the_rows();
+    effects_are_the_log();
+    effects_have_the_rows();
     // called for its clause alone: a configuration keeps its rules
     let _pool = start.config.pool();
 }
@@ -62,7 +62,7 @@ impl<
             (R.remaining inside.old) (Q.remaining outside.old) result to_inside.old to_inside.new }
         ensures log { LogIsLeft (texts_of (running_log_of (origin_of self.entry.start) log.old))
             (R.remaining inside.old) (Q.remaining outside.old) result log.old.output log.new.output }
-        ensures left { OnOk result (LogIsKept (origin_of self.entry.start) log.old.log.begun.log
+        ensures left { OnOk result (LogIsKept (origin_of self.entry.start) log.old.log.log
             (R.remaining inside.old) (Q.remaining outside.old) log.new.left) }
         ensures says { LoggedSays G.is_open (origin_of self.entry.start) (R.remaining inside.old)
             (Q.remaining outside.old) result }

@@ -1,6 +1,6 @@
 //! What a run leaves.
 
-use napt_account::SavedLogState;
+use napt_account::OpenLog;
 use napt_dispatch::RunSummary;
 
 /// What a run leaves. The next run goes on from there.
@@ -8,6 +8,6 @@ use napt_dispatch::RunSummary;
 pub struct RunEnd {
     /// The counts of the run, with the bindings at its end, from which its state is made.
     pub passed: RunSummary,
-    /// What is saved of the log with the state. It has no entries if the run keeps no log.
-    pub log: SavedLogState,
+    /// What is left of the log beside the state. It has no entries if the run keeps no log.
+    pub log: OpenLog,
 }

@@ -1,7 +1,7 @@
 //! A run without a log, and one with a log on a device.
 
 ghost use Rattle.std.specs.Prelude.{◌≡◌, IfErr, IfOk, false, true};
-ghost use Rattle.napt_account.specs.ResumedLogRuns.{IsFew};
+ghost use Rattle.napt_account.specs.LogStarts.{is_saved_log_state};
 ghost use Rattle.napt_run.specs.{LogRuns.as_run, Logs.{LogPost, NoLogPost, unified, with_log}, Origins.origin_of, Posts.{CapturePost, FaultPost, IsBeforeReport, log_by}, Runs.IsToldOf};
 ghost use Rattle.napt_run.specs.Streams.{HasRead, IsOfRun, stream_ended};
 
@@ -13,7 +13,7 @@ use crate::output::Output;
 use crate::running_log::RunningLog;
 use crate::start::OriginSetting;
 use crate::writer::LogWriter;
-use napt_account::SavedLogState;
+use napt_account::OpenLog;
 use napt_capture::{Sink, Source};
 use napt_pool::Gate;
 use napt_records::{Fault, Which};
@@ -25,7 +25,7 @@ impl<
     T: Threads + Wait + Copy + Send + 'static,
     G: Gate + Send + Sync + Drop + 'static,
 > OriginSetting<'_, '_, T, G> {
-    /// Runs over the captures and writes both outputs. Returns the data of the report, and a saved log without entries.
+    /// Runs over the captures and writes both outputs. Returns the data of the report, and a log without entries.
     pub(crate) fn stream_plain<R: Source, Q: Source, W: Sink, V: Sink>(
         self,
         inside: &mut R,
@@ -33,7 +33,7 @@ impl<
         to_outside: &mut W,
         to_inside: &mut V,
         log: &mut NoLog,
-    ) -> Result<(Totals, SavedLogState), Fault>
+    ) -> Result<(Totals, OpenLog), Fault>
         ensures to_outside { CapturePost W.Sink false Which.Outside (origin_of self.entry.start)
             (R.remaining inside.old) (Q.remaining outside.old) (stream_ended result)
             to_outside.old to_outside.new }
@@ -49,7 +49,7 @@ impl<
         ensures reads { (¬ IsOfRun (stream_ended result)) → HasRead R.failed Q.failed
             inside.old inside.new outside.old outside.new (stream_ended result) }
     {
-        let kept = SavedLogState::none(self.alloc);
+        let kept = OpenLog::none(self.alloc);
         let streamed = self.stream(inside, outside, to_outside, to_inside, log);
         with_log(unlogged(streamed), kept)
     }
@@ -62,8 +62,8 @@ impl<
         to_outside: &mut W,
         to_inside: &mut V,
         log: &mut LogWriter<'_, L>,
-    ) -> Result<(Totals, SavedLogState), Fault>
-        requires { IsFew log.old.start.kept.now }
+    ) -> Result<(Totals, OpenLog), Fault>
+        requires { is_saved_log_state self.start.state.now log.old.start.saved.now ≡ true }
         ensures to_outside { CapturePost W.Sink true Which.Outside (origin_of self.entry.start)
             (R.remaining inside.old) (Q.remaining outside.old) (stream_ended result)
             to_outside.old to_outside.new }
@@ -115,10 +115,7 @@ fn unified(told: Result<Totals, LogRunFault>) -> Result<Totals, Fault>
 }
 
 /// Returns the result of a run with what is saved of its log.
-fn with_log(
-    told: Result<Totals, Fault>,
-    log: SavedLogState,
-) -> Result<(Totals, SavedLogState), Fault>
+fn with_log(told: Result<Totals, Fault>, log: OpenLog) -> Result<(Totals, OpenLog), Fault>
     ensures { result ≡ with_log told log }
 {
     Ok((told?, log))

@@ -1,7 +1,7 @@
 //! The log of a run, written while its outcomes leave.
 
 ghost use Rattle.std.specs.{Prelude.{◌≡◌, [], ◌∷◌, List, true, IfOk, MatchResult, OnOk, string_bytes}, Io.KnownBytes.Appends};
-ghost use Rattle.napt_account.specs.TraceLogs.{told_in};
+ghost use Rattle.napt_account.specs.LogBuilders.{part_in};
 ghost use Rattle.napt_sequential.specs.declared.passage.Trace.{Trace as Did};
 ghost use Rattle.napt_run.specs.LogOrigins.{LoggedOrigin};
 
@@ -9,9 +9,9 @@ use crate::log_start::TakenLog;
 use crate::logged_fault::LogRunFault;
 use crate::logging::{Logging, LoggingFault};
 use crate::output::Output;
-use napt_account::{LogTrace, SavedLogState, TrackedLog};
+use napt_account::{InputPart, LogBuilder, OpenLog};
 use napt_capture::Sink;
-use napt_log_text::{add_entered, add_living, add_opening, begins_piece};
+use napt_log_text::{add_living, add_opening, add_part, begins_piece};
 use napt_records::Fault;
 use napt_sequential::{Passage, Trace};
 use std::alloc::{AllocError, Global};
@@ -22,7 +22,7 @@ use std::num::NonZeroU32;
 #[derive(Drop)]
 pub(crate) struct RunningLog<'a, 'b, L: Sink> {
     alloc: Global,
-    log: TrackedLog<'a>,
+    log: LogBuilder<'a>,
     /// How its text begins, until that is written.
     opening: String,
     /// How many seconds each of its pieces has, if it has pieces.
@@ -30,7 +30,7 @@ pub(crate) struct RunningLog<'a, 'b, L: Sink> {
     /// Whether another run goes on with it.
     goes_on: bool,
     /// What is kept of it, once it is closed.
-    left: SavedLogState,
+    left: OpenLog,
     pub(crate) output: Output<'b, L>,
 }
 
@@ -58,17 +58,17 @@ impl<'a, 'b, L: Sink> RunningLog<'a, 'b, L> {
             opening,
             each,
             goes_on,
-            left: SavedLogState::none(alloc),
+            left: OpenLog::none(alloc),
             output,
         }
     }
 
     /// Takes out what is kept of it.
-    pub(crate) fn take_left(&mut self) -> SavedLogState
+    pub(crate) fn take_left(&mut self) -> OpenLog
         ensures left { result ≡ self.old.left }
         ensures output { self.new.output ≡ self.old.output }
     {
-        mem::replace(&mut self.left, SavedLogState::none(self.alloc))
+        mem::replace(&mut self.left, OpenLog::none(self.alloc))
     }
 
     /// Gives its device back.
@@ -155,12 +155,12 @@ impl<'a, 'b, L: Sink> RunningLog<'a, 'b, L> {
             (λ fault. EntersNot from before trace self.old fault self.new) }
     {
         let opening = self.piece_opening(trace.now);
-        let told = self.log.enter(self.alloc, trace)?;
+        let part = self.log.enter(self.alloc, trace)?;
         let mut text = opening?;
-        if is_quiet(&told) {
+        if is_quiet(&part) {
             return Ok(text);
         }
-        add_entered(self.log.config(), &told, &mut text)?;
+        add_part(self.log.config(), &part, &mut text)?;
         Ok(text)
     }
 
@@ -173,7 +173,7 @@ impl<'a, 'b, L: Sink> RunningLog<'a, 'b, L> {
         let mut text = String::new(self.alloc);
         if begins_piece(self.each, self.log.last(), now) {
             let kept = self.log.left(self.alloc)?;
-            add_opening(self.log.config(), &kept.living, &mut text)?;
+            add_opening(self.log.config(), &kept, &mut text)?;
         }
         Ok(text)
     }
@@ -181,10 +181,10 @@ impl<'a, 'b, L: Sink> RunningLog<'a, 'b, L> {
 
 /// Whether the log has no row with an input.
 #[inline(always)]
-fn is_quiet(told: &LogTrace) -> bool
-    ensures { result ≡ true → told_in told.now ≡ record { ended = []; made = []; refused = [] } }
+fn is_quiet(part: &InputPart) -> bool
+    ensures { result ≡ true → part_in part.now ≡ record { ended = []; made = []; refused = [] } }
 {
-    told.ended.is_empty() && told.made.is_empty() && told.refused.is_empty()
+    part.ended.is_empty() && part.made.is_empty() && part.refused.is_empty()
 }
 
 impl<L: Sink> Logging for RunningLog<'_, '_, L> {

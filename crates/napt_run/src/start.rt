@@ -10,7 +10,7 @@ use std::sync::Arc;
 #[derive(Clone, Copy)]
 pub struct Start<'a> {
     pub config: &'a Config,
-    /// Its redirects, and what has gone by its clock, count for nothing.
+    /// Its redirects and its expired bindings are ignored.
     pub state: &'a State,
 }
 

@@ -1,6 +1,6 @@
 //! A run over captures as they arrive.
 ghost use Rattle.std.specs.Prelude.{◌≡◌, IfErr, IfOk, false, true};
-ghost use Rattle.napt_account.specs.ResumedLogRuns.{IsFew};
+ghost use Rattle.napt_account.specs.LogStarts.{is_saved_log_state};
 ghost use Rattle.napt_rules.specs.Prelude.{TakesState};
 ghost use Rattle.napt_run.specs.{DevicesPosts.{EndPost, ExplainedBy, OutputsPost, ReadsPost}, Logs.{LogPost, NoLogPost}, Origins.origin_of, Posts.log_of_end, Streams.stream_ended};
 
@@ -113,7 +113,7 @@ pub fn run_streams_with_log<
     gate: Arc<G>,
 ) -> Result<RunEnd, Fault>
     requires state { TakesState start.config.now start.state.now }
-    requires log { IsFew devices.old.log.start.kept.now }
+    requires log { is_saved_log_state start.state.now devices.old.log.start.saved.now ≡ true }
     ensures outputs { OutputsPost R.Source Q.Source W.Sink V.Sink U.Sink true
         (origin_of start.entry) devices.old (stream_ended result) devices.new }
     ensures log { LogPost L.Sink start.entry (R.remaining devices.old.inside)

@@ -1,4 +1,4 @@
--- What one worker answered, where none of it was taken before it was closed.
+-- The answers of one worker, if none of them was taken before it was closed.
 use Rattle.std.proofs.Common.{◌≡◌, List, [], ◌∷◌, ◌++◌, map}
 use Rattle.napt_pool.specs.Pools.{zip_with}
 

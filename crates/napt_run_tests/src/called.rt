@@ -1,5 +1,5 @@
-//! What no contract says of the calls that `napt` and `stream` make: their workers are on threads of their own and step at the same time,
-//! one that waits holds up no other, and each asks the gate that the call is given.
+//! What no contract says of the calls that `napt` and `stream` make: their workers step at the same time on threads of
+//! their own, a worker that waits does not delay the others, and each asks the gate that the call is given.
 
 use crate::calls::TestRuntime;
 use crate::captures::{Call, HEADER, RunInput, RunOutput, captured, push_packet};
@@ -14,7 +14,7 @@ use napt_wire::Endpoint;
 use std::sync::Arc;
 use std::test::Fail;
 
-/// What a call writes under a gate, and what the gate counted. The packets come from inside, from and to these endpoints.
+/// Returns what a call writes under a gate, and the gate's count. The packets come from inside, with these endpoints.
 fn under_gate(
     rt: &impl TestRuntime,
     call: Call,
@@ -39,7 +39,7 @@ fn under_gate(
     Ok((written, gate.count()))
 }
 
-/// Both calls come to their end under a gate that counts so much, with a report that begins so.
+/// Checks that both calls end under a gate with this count, and with a report that begins with this text.
 fn assert_ends(
     rt: &impl TestRuntime,
     settings: &str,
@@ -56,7 +56,7 @@ fn assert_ends(
     Ok(())
 }
 
-/// Each of two workers sees the other at its first leg. Workers that step only where the calling thread asks for an answer would not.
+/// Each of two workers sees the other at its first leg. Workers that step only on request do not.
 #[test]
 fn workers_of_a_call_meet(rt: HostRuntime) -> Result<(), Fail> {
     let packets = [(CLIENT, RESOLVER), (SECOND_CLIENT, RESOLVER)];
@@ -64,7 +64,7 @@ fn workers_of_a_call_meet(rt: HostRuntime) -> Result<(), Fail> {
     assert_ends(&rt, TWO_ADDRESSES, &packets, GateMode::Meeting, end)
 }
 
-/// While a hairpin waits for its first worker, what goes to others is offered to them.
+/// While a hairpin waits for its first worker, legs of other workers are offered to them.
 #[test]
 fn others_of_a_call_go_on(rt: HostRuntime) -> Result<(), Fail> {
     let packets = [(CLIENT, external(2, 7000)), (host(4, 5000), RESOLVER)];
@@ -72,8 +72,8 @@ fn others_of_a_call_go_on(rt: HostRuntime) -> Result<(), Fail> {
     assert_ends(&rt, THREE_ADDRESSES, &packets, GateMode::AfterThird, end)
 }
 
-/// The fourth of five packets of 10.0.0.3, whose worker is the second, is asked for a million times. `napt` has then written nothing, and
-/// `stream` at most the three packets before it.
+/// The gate refuses the fourth of five packets of 10.0.0.3, whose worker is the second, a million times. By then `napt`
+/// has written nothing, and `stream` at most the three packets before it.
 #[test]
 fn gate_of_a_call_stays_shut(rt: HostRuntime) -> Result<(), Fail> {
     let packets = [(host(3, 5000), RESOLVER); 5];

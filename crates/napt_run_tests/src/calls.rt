@@ -1,5 +1,5 @@
-//! The two calls that make a run, each in one place, and inputs for them: they promise nothing, so that the proof of a test is short. A
-//! test sees what comes of them when it runs.
+//! The two calls that make a run, each in one function without clauses, so that the proof of a test is short, and
+//! inputs for them. A test checks their results when it runs.
 
 use crate::gates::Hold;
 use crate::sample_inputs::input;
@@ -13,24 +13,24 @@ use std::sync::{Arc, Wait};
 use std::test::Fail;
 use std::thread::Threads;
 
-/// What tests of threads need of the runtime.
+/// The resources of the runtime that tests of threads need.
 pub(crate) trait TestRuntime: Threads + Wait + Abort + AllocGlobal + Copy + Send + 'static {}
 
 impl<R: Threads + Wait + Abort + AllocGlobal + Copy + Send + 'static> TestRuntime for R {}
 
-/// The configuration of settings, with rings of so many slots.
+/// Returns the configuration with these settings, and rings of this number of slots.
 pub(crate) fn with_rings(alloc: Global, settings: &str, ring: &str) -> Result<Config, Fail> {
     let text = format!(in alloc; "ring = {ring}\n{settings}")?;
     Ok(Config::read(alloc, text.as_bytes())?)
 }
 
-/// A run on one thread.
+/// Makes a run on one thread.
 pub(crate) fn plain_run(alloc: Global, settings: &str, inputs: &[Input]) -> Result<Run, Fail> {
     let config = with_rings(alloc, settings, "64")?;
     Ok(run_plain(alloc, &config, inputs)?)
 }
 
-/// A run over workers under a gate, or its fault.
+/// Makes a run over workers under a gate, and returns it or its fault.
 pub(crate) fn workers_run(
     rt: &impl TestRuntime,
     settings: &str,
@@ -43,10 +43,10 @@ pub(crate) fn workers_run(
     Ok(run_workers(rt, alloc, &config, inputs, gate))
 }
 
-/// The side that a packet comes from, its source and its destination.
+/// The side from which a packet arrives, its source and its destination.
 pub(crate) type PacketEnds = (Side, Endpoint, Endpoint);
 
-/// These packets, a second apart.
+/// Returns these packets as inputs, a second apart.
 pub(crate) fn inputs_of(alloc: Global, sent: &[PacketEnds]) -> Result<Vec<Input>, AllocError> {
     let mut inputs = Vec::new(alloc);
     for (second, (side, source, destination)) in sent.iter().enumerate() {

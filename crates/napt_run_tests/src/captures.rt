@@ -1,5 +1,5 @@
-//! What no contract says: that a run over captures comes to its end on threads, of which one may be slow. The bytes of worked
-//! captures are in tests/runs, at the top of the repository, and those of long ones are in tests/hairpins.
+//! What no contract says: a run over captures ends if one of its threads is slow. The bytes of worked captures are in
+//! tests/runs, at the top of the repository, and those of long ones are in tests/hairpins.
 
 ghost use Rattle.std.specs.Prelude.{◌<◌};
 
@@ -31,7 +31,7 @@ pub(crate) enum Device {
     Log,
 }
 
-/// Moves at most so many bytes at a time, but for 0, and goes wrong at a call, counted from 1, or at none.
+/// Moves at most `most` bytes at a time, which is not 0, and fails at a call, counted from 1, or never if that is 0.
 pub(crate) fn at_most(most: usize, call: u64, trouble: InjectedFault) -> FaultPlan
     ensures { 0 < result.most }
 {
@@ -42,14 +42,14 @@ pub(crate) fn at_most(most: usize, call: u64, trouble: InjectedFault) -> FaultPl
     }
 }
 
-/// Moves all that is asked, and fails at a call, counted from 1, or at none.
+/// Moves all bytes of a request, and fails at a call, counted from 1, or never if it is 0.
 pub(crate) fn failing(call: u64) -> FaultPlan
     ensures { 0 < result.most }
 {
     at_most(usize::MAX, call, InjectedFault::Fails)
 }
 
-/// What a device does: the last that is planned for it, or no call of it goes wrong.
+/// Returns the plan of a device: the last one given for it, or one without a failure.
 fn plan_of(plans: &[(Device, FaultPlan)], device: Device) -> FaultPlan
     ensures { 0 < result.most }
 {
@@ -62,7 +62,7 @@ fn plan_of(plans: &[(Device, FaultPlan)], device: Device) -> FaultPlan
     at_most(found.most, found.call, found.trouble)
 }
 
-/// The call that a program makes: `napt` runs over whole captures, `stream` over captures as they come, with a log or without.
+/// The call that a program makes: `napt` reads whole captures, `stream` reads them in steps, with or without a log.
 #[derive(Clone, Copy, Debug, PartialEq, Eq)]
 pub(crate) enum Call {
     Captures,
@@ -70,8 +70,8 @@ pub(crate) enum Call {
     StreamsWithLog,
 }
 
-/// What a run is given: the call, both captures, and what devices do that go wrong or move little at once. Without settings it is in the
-/// built-in configuration.
+/// The arguments of a run: the call, both captures, and the plans of devices that fail or move few bytes at a time.
+/// Without settings the configuration is the built-in one.
 #[derive(Clone, Copy)]
 pub(crate) struct RunInput<'a> {
     pub(crate) call: Call,
@@ -81,7 +81,7 @@ pub(crate) struct RunInput<'a> {
     pub(crate) plans: &'a [(Device, FaultPlan)],
 }
 
-/// What a run answers and writes.
+/// What a run returns and writes.
 #[derive(Drop, PartialEq)]
 pub(crate) struct RunOutput {
     pub(crate) answer: Result<(), Fault>,
@@ -91,7 +91,7 @@ pub(crate) struct RunOutput {
     pub(crate) log: Vec<u8>,
 }
 
-/// Returns the result of a run without what the run leaves.
+/// Returns the result of a run without its `RunEnd`.
 fn ended(run: Result<RunEnd, Fault>) -> Result<(), Fault> {
     match run {
         Ok(_) => Ok(()),
@@ -106,7 +106,7 @@ fn config_of(alloc: Global, settings: Option<&str>) -> Result<Config, Fail> {
     }
 }
 
-/// What a run over captures answers and writes under a gate.
+/// Returns what a run over captures returns and writes under a gate.
 pub(crate) fn captured(
     rt: &impl TestRuntime,
     given: &RunInput<'_>,
@@ -147,7 +147,7 @@ pub(crate) fn captured(
     }
     let kept = SavedLogState::none(alloc);
     let log_start = LogStart {
-        kept: &kept,
+        saved: &kept,
         is_new: true,
         each: None,
         goes_on: false,
@@ -165,7 +165,7 @@ pub(crate) fn captured(
     })
 }
 
-/// All microseconds of a capture here.
+/// All times of a capture here, in microseconds.
 pub(crate) const ALL_TIMES: Range<u32> = 0..1_000_000;
 
 /// The header of a capture in microseconds, little-endian.
@@ -173,7 +173,7 @@ pub(crate) const HEADER: [u8; 24] = [
     0xd4, 0xc3, 0xb2, 0xa1, 2, 0, 4, 0, 0, 0, 0, 0, 0, 0, 0, 0, 0xff, 0xff, 0, 0, 0x65, 0, 0, 0,
 ];
 
-/// A packet at so many microseconds.
+/// Appends a packet at this time, in microseconds.
 pub(crate) fn push_packet(
     text: &mut Vec<u8>,
     microseconds: u32,
@@ -187,7 +187,7 @@ pub(crate) fn push_packet(
     text.extend_from_slice(bytes)
 }
 
-/// A front or a rest of the thousand inputs, by the microseconds of their arrival, as a capture of the inside.
+/// Returns those of the thousand inputs that arrive in this range, in microseconds, as a capture of the inside.
 pub(crate) fn sent_in(alloc: Global, times: &Range<u32>) -> Result<Vec<u8>, AllocError> {
     let mut text = Vec::from_slice(alloc, &HEADER)?;
     for input in &thousand_inputs(alloc)? {
@@ -199,8 +199,8 @@ pub(crate) fn sent_in(alloc: Global, times: &Range<u32>) -> Result<Vec<u8>, Allo
     Ok(text)
 }
 
-/// Of a hundred packets of the resolver to the external endpoints of the thousand inputs in turn, one in each 10 ms, at
-/// the times of inside packets, those that arrive at these microseconds.
+/// Returns those of a hundred replies that arrive in this range, in microseconds. The resolver sends them to the
+/// external endpoints of the thousand inputs in turn, one in each 10 ms, at the times of inside packets.
 pub(crate) fn replies_in(alloc: Global, times: &Range<u32>) -> Result<Vec<u8>, AllocError> {
     let mut text = Vec::from_slice(alloc, &HEADER)?;
     for k in 0..100u16 {
@@ -213,7 +213,7 @@ pub(crate) fn replies_in(alloc: Global, times: &Range<u32>) -> Result<Vec<u8>, A
     Ok(text)
 }
 
-/// What a run over both captures writes under a gate, with rings of so many slots.
+/// Returns what a run over both captures writes under a gate, with rings of this number of slots.
 fn large_run(rt: &impl TestRuntime, ring: &str, gate: Arc<Hold>) -> Result<RunOutput, Fail> {
     let alloc = rt.alloc();
     let settings = format!(in alloc; "{THREE_ADDRESSES}ring = {ring}\n")?;

@@ -1,4 +1,4 @@
-//! Devices of a run that move a byte at a time, and go wrong at each of their calls in turn.
+//! Devices of a run that move a byte at a time, and fail at each of their calls in turn.
 
 use crate::calls::TestRuntime;
 use crate::captures::{Call, Device, HEADER, RunInput, at_most, captured, failing};
@@ -16,24 +16,24 @@ const REPORT: &str =
 drop bad-checksum 0\ndrop fragment 0\ndrop unsupported 0\ndrop bad-inner 0\ndrop bad-port 0\ndrop spoofed 0\ndrop not-ours 0\n\
 drop no-binding 0\ndrop filtered 0\ndrop over-quota 0\ndrop no-port 0\nudp 10.0.0.2:5000 203.0.113.1:5000\n";
 
-/// Moves a byte at a time, and goes wrong once it has moved so many.
+/// Moves a byte at a time, and fails after this number of bytes.
 fn slow(moved: u16, trouble: InjectedFault) -> FaultPlan {
     at_most(1, u64::from(moved) + 1, trouble)
 }
 
-/// What a run answers, and how many bytes of each of its texts it leaves: to the outside, to the inside and of the report.
+/// The result of a run, and the lengths of its texts: to the outside, to the inside, and of the report.
 type DeviceRunEnd = (Result<(), Fault>, [u16; 3]);
 
-/// A run that ends so before anything is written.
+/// The end of a run that fails before it writes anything.
 fn silent(fault: Fault) -> DeviceRunEnd {
     (Err(fault), [0; 3])
 }
 
-/// A run that writes all.
+/// The end of a run that writes everything.
 const WHOLE: DeviceRunEnd = (Ok(()), [70, 24, 307]);
 
-/// A run over the capture of one packet on the inside and of none on the outside comes to that end. What goes to the inside is a header
-/// alone: the 24 bytes with which what goes to the outside begins.
+/// Checks the end of a run over the capture of one packet on the inside and of none on the outside. The capture to the
+/// inside is a header alone: the 24 bytes with which that to the outside begins.
 fn assert_ends(
     rt: &impl TestRuntime,
     plans: &[(Device, FaultPlan)],
@@ -61,7 +61,7 @@ fn assert_ends(
     Ok(())
 }
 
-/// The capture of the inside takes four reads: two headers, the packet, and the end. That of the outside takes two.
+/// The capture of the inside takes four reads: two headers, the packet, and the end. The other takes two.
 #[test]
 fn each_read_of_a_run_fails(rt: HostRuntime) -> Result<(), Fail> {
     let (inside, outside) = (Device::Inside, Device::Outside);
@@ -81,8 +81,8 @@ fn shut_gate_lets_nothing_out(rt: HostRuntime) -> Result<(), Fail> {
     assert_ends(&rt, &[], GateMode::Shut(0, 0), end)
 }
 
-/// Each output goes wrong once it has taken so many bytes: those before it are whole, and those after it have nothing. The call behind the
-/// writes is the flush.
+/// Each output fails after each number of bytes: the outputs before it are complete, and those after it are empty. The
+/// call after the writes is the flush.
 #[test]
 fn each_write_of_a_run_goes_wrong(rt: HostRuntime) -> Result<(), Fail> {
     let fails = InjectedFault::Fails;

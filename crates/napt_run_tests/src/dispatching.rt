@@ -1,4 +1,4 @@
-//! Dispatching to a pool, and what its workers are left with.
+//! Dispatching to a pool, and the state of its workers afterwards.
 
 ghost use Rattle.std.specs.Prelude.{◌≡◌, length, vec_len, IfOk};
 ghost use Rattle.napt_config.specs.Rules.{RulesInvariant};
@@ -18,7 +18,7 @@ use std::alloc::{AllocError, Global};
 use std::marker::PhantomData;
 use std::test::Fail;
 
-/// The workers of all external addresses before any leg, in the order of the pool.
+/// Returns the workers of all external addresses before any leg, in the order of the pool.
 fn workers(alloc: Global, config: &Config) -> Result<Vec<Worker<NoTrace>>, AllocError>
     ensures kept { RulesInvariant config.now }
     ensures made { IfOk result (λ made. made.items
@@ -37,7 +37,7 @@ fn workers(alloc: Global, config: &Config) -> Result<Vec<Worker<NoTrace>>, Alloc
     Ok(made)
 }
 
-/// Each of three workers is left with four bindings, those of its own external address, and owes no answer. Together these are all.
+/// Checks that each of three workers has the four bindings of its own external address, and owes no answer.
 fn assert_left(
     rt: &impl TestRuntime,
     ended: &[Ended<Worker<NoTrace>>],
@@ -57,7 +57,7 @@ fn assert_left(
     Ok(())
 }
 
-/// At most a thousand inputs come to the run on one thread where they are dispatched to a pool under an open gate, which is closed.
+/// Checks that at most a thousand inputs, dispatched to a pool that is then closed, give the run on one thread.
 fn assert_dispatched(
     rt: &impl TestRuntime,
     config: &Config,

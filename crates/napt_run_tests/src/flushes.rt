@@ -1,4 +1,4 @@
-//! What no contract says of the cost of a run over captures as they come: packets that come together are flushed together.
+//! What no contract says of the cost of a run over captures that are read in steps: packets share flushes.
 
 use crate::captures::{ALL_TIMES, HEADER, sent_in};
 use crate::gates::{GateMode, Hold};
@@ -10,7 +10,7 @@ use std::io;
 use std::io::Write;
 use std::test::Fail;
 
-/// Takes all that is written, and counts its bytes and how often it is flushed.
+/// Takes everything that is written, and counts its bytes and its flushes.
 #[derive(Drop)]
 struct Counter {
     bytes: usize,
@@ -34,7 +34,7 @@ const NOTHING: Counter = Counter {
     flushes: 0,
 };
 
-/// Each flush of a file or a pipe is a call of the system: not one for each of the 800 packets to the outside, which come with one read.
+/// A flush of a file or a pipe is a system call. The 800 outgoing packets of one read do not have one each.
 #[test]
 fn packets_that_come_together_are_flushed_together(rt: HostRuntime) -> Result<(), Fail> {
     let alloc = rt.alloc();

@@ -6,25 +6,25 @@ use std::sync::Arc;
 use std::sync::atomic::{AtomicU64, Ordering};
 use std::thread;
 
-/// The most often that a gate looks for what another worker does, and that it may be asked for one leg.
+/// The greatest number of times that a gate looks for a step of another worker, and that it may be asked for one leg.
 pub(crate) const MOST_ASKS: u64 = 1_000_000;
 
-/// Which workers a gate holds back, and what it counts.
+/// The workers that a gate holds back, and what it counts.
 #[derive(Clone, Copy)]
 pub(crate) enum GateMode {
-    /// No worker.
+    /// It holds back no worker.
     Open,
-    /// Worker 0 at its first thousand asks; these are counted, and all others of it.
+    /// It holds back worker 0 at the first thousand requests, and counts all requests of that worker.
     Slow,
-    /// Each of two workers at its first leg, until it has seen the other there; those that have are counted.
+    /// It holds back each of two workers at its first leg until it has seen the other there, and counts these.
     Meeting,
-    /// Worker 0 at its first leg, until worker 2 has entered its own.
+    /// It holds back worker 0 at its first leg, until worker 2 has entered its own.
     AfterThird,
-    /// No worker; the turn that worker 0 asks for is shown.
+    /// It holds back no worker, and shows the turn that worker 0 asks for.
     Shown,
-    /// That worker at that turn, for ever; its asks for it are counted.
+    /// It holds back this worker at this turn, for ever, and counts its requests for it.
     Shut(u32, u64),
-    /// Both of two workers, for ever, worker 0 only once worker 1 was told no for the last time; the asks of worker 1 are counted.
+    /// It holds back two workers, worker 0 until worker 1 is refused for the last time, and counts worker 1's requests.
     SecondFirst,
 }
 
@@ -48,17 +48,17 @@ impl Hold {
         Ok(Arc::new(alloc, hold)?)
     }
 
-    /// What was counted.
+    /// Returns the count.
     pub(crate) fn count(&self) -> u64 {
         self.count.load(Ordering::SeqCst)
     }
 
-    /// Counts one more, and answers how many there were before.
+    /// Adds one to the count, and returns the count before.
     fn counted(&self) -> u64 {
         self.count.fetch_add(1, Ordering::SeqCst)
     }
 
-    /// Waits a while until the other worker has come to its first leg, too.
+    /// Waits a while until the other worker has reached its first leg, too.
     fn meet(&self, worker: u32) {
         let (own, other) = if worker == 0 {
             (&self.first, &self.second)
@@ -71,12 +71,12 @@ impl Hold {
         }
     }
 
-    /// Waits until worker 0 asks for a turn, or so long that it never does.
+    /// Waits until worker 0 asks for a turn, but not for ever.
     pub(crate) fn wait_for(&self, turn: u64) {
         is_soon(&self.first, turn);
     }
 
-    /// Whether worker 2 has entered its first leg, where worker 0 asks for its own.
+    /// Whether worker 2 has entered its first leg, if worker 0 asks for its own.
     fn is_after_third(&self, worker: u32, turn: u64) -> bool {
         if worker == 2 && turn == 0 {
             self.first.store(1, Ordering::SeqCst);
@@ -89,7 +89,7 @@ impl Hold {
     }
 }
 
-/// Waits until a count is as great, or so long that it never is: whether it is.
+/// Waits until a count is at least this great, but not for ever, and returns whether it is.
 fn is_soon(count: &AtomicU64, least: u64) -> bool {
     for _ in 0..MOST_ASKS {
         if count.load(Ordering::SeqCst) >= least {

@@ -1,5 +1,5 @@
-//! What no contract says of runs over workers: that they come to their end, on threads that step at the same time and ask the gate that
-//! they are given. What becomes of their packets is told in `tests/runs/legs.txt`, at the top of the repository.
+//! What no contract says of runs over workers: they end, on threads that step at the same time and ask the gate that
+//! they are given. The outcomes of their packets are in `tests/runs/legs.txt`, at the top of the repository.
 
 use crate::calls::{PacketEnds, TestRuntime, inputs_of, workers_run};
 use crate::gates::{GateMode, Hold, MOST_ASKS};
@@ -13,7 +13,7 @@ use napt_wire::Side;
 use std::sync::Arc;
 use std::test::Fail;
 
-/// The second address is given to 10.0.0.2.
+/// The second address belongs to 10.0.0.2.
 const PAIRED: &str = "pool = ['203.0.113.1', '203.0.113.2']\ninside = ['10.0.0.0/8']\n\
 [[pair]]\nhost = '10.0.0.2'\nexternal = '203.0.113.2'\n";
 
@@ -21,17 +21,17 @@ const QUERY: PacketEnds = (Side::Inside, CLIENT, RESOLVER);
 
 const SECOND_QUERY: PacketEnds = (Side::Inside, SECOND_CLIENT, RESOLVER);
 
-/// From 10.0.0.3:7000.
+/// A packet from 10.0.0.3:7000.
 fn served() -> PacketEnds {
     (Side::Inside, host(3, 7000), RESOLVER)
 }
 
-/// A hairpin to port 7000 of 203.0.113.0 and so many more.
+/// A hairpin to port 7000 of the address 203.0.113.0 + `many`.
 fn hairpin(many: u16) -> PacketEnds {
     (Side::Inside, CLIENT, external(many, 7000))
 }
 
-/// The settings, the slots of a ring, the packets, their legs at each external address, the gate, and what that counts.
+/// The settings, the slots of a ring, the packets, their legs at each external address, the gate, and its count.
 type HairpinRow<'a> = (&'a str, &'a str, &'a [PacketEnds], &'a [u64], GateMode, u64);
 
 #[test]
@@ -50,7 +50,7 @@ fn runs_have_their_legs(rt: HostRuntime) -> Result<(), Fail> {
         (two, "1", &[served, lost], &[1, 2], GateMode::Open, 0),
         (two, "1", &[QUERY, first], &[2, 0], GateMode::Open, 0),
         (PAIRED, "1", &[QUERY, second], &[0, 2], GateMode::Open, 0),
-        // A slow worker is waited for: its one leg is let in at the ask after the thousand.
+        // The run waits for a slow worker: its one leg is let in at the request after the thousand.
         (two, "64", &[lost, served], &[1, 2], GateMode::Slow, 1001),
     ];
     for (settings, ring, sent, legs, way, wanted) in rows {
@@ -61,7 +61,7 @@ fn runs_have_their_legs(rt: HostRuntime) -> Result<(), Fail> {
     Ok(())
 }
 
-/// While a hairpin waits for its first worker, what goes to others is offered to them.
+/// While a hairpin waits for its first worker, legs of other workers are offered to them.
 #[test]
 fn others_go_on(rt: HostRuntime) -> Result<(), Fail> {
     let fourth = (Side::Inside, host(4, 5000), RESOLVER);
@@ -78,7 +78,7 @@ fn others_go_on(rt: HostRuntime) -> Result<(), Fail> {
     Ok(())
 }
 
-/// Both workers see the other at their first leg, where the second has one leg after so many of the first.
+/// Checks that both workers see each other at their first legs, where the second has one leg after `legs` of the first.
 fn assert_meeting(rt: &impl TestRuntime, ring: &str, legs: u64) -> Result<(), Fail> {
     let mut sent = Vec::new(rt.alloc());
     for _ in 0..legs {
@@ -103,7 +103,7 @@ fn held_until_other(rt: HostRuntime) -> Result<(), Fail> {
     assert_meeting(&rt, "64", 1)
 }
 
-/// A worker that answers nothing yet holds up no other, whether its ring has room for all of its legs or for one.
+/// A worker that does not answer yet delays no other, whether its ring has room for all of its legs or for one.
 #[test]
 fn full_ring_holds_up_no_other(rt: HostRuntime) -> Result<(), Fail> {
     for (ring, legs) in [("4", 4), ("4", 5), ("1", 100)] {
@@ -112,16 +112,16 @@ fn full_ring_holds_up_no_other(rt: HostRuntime) -> Result<(), Fail> {
     Ok(())
 }
 
-/// A run over two workers ends since the second asks a million times for a turn that it does not get.
+/// A run over two workers ends because the gate refuses the second the same turn a million times.
 #[test]
 fn gate_stays_shut(rt: HostRuntime) -> Result<(), Fail> {
     let rows: [(GateMode, &[PacketEnds]); 3] = [
-        // The worker of 10.0.0.3 is the second: the fourth of its packets is asked for a million times.
+        // The worker of 10.0.0.3 is the second: the gate refuses the fourth of its packets a million times.
         (GateMode::Shut(1, 3), &[SECOND_QUERY; 5]),
         // A hairpin that finds no binding, and then a packet of the host to which it went.
         (GateMode::Shut(1, 0), &[hairpin(2), served()]),
-        // Worker 1 stops while worker 0 is still asking, and both have stopped when the pool is closed: the fault that ended
-        // dispatching is told, and not that of the least worker, which `close` tells.
+        // Worker 1 stops while worker 0 is still asking, and both have stopped when the pool is closed. The run returns
+        // the fault that ended dispatching, and not that of the first worker, which `close` returns.
         (GateMode::SecondFirst, &[QUERY, SECOND_QUERY]),
     ];
     for (way, sent) in rows {

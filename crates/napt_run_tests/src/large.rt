@@ -8,7 +8,7 @@ use std::process::Abort;
 use std::sync::Arc;
 use std::test::Fail;
 
-/// How many packets went to outside, went to inside and were dropped.
+/// Returns the numbers of packets to the outside, to the inside, and dropped.
 fn counts(outcomes: &[Outcome]) -> (u32, u32, u32) {
     let (mut outside, mut inside, mut dropped) = (0u32, 0u32, 0u32);
     for outcome in outcomes {
@@ -37,8 +37,8 @@ pub(crate) fn assert_same(rt: &impl Abort, outcomes: &[Outcome], all_wanted: &[O
     }
 }
 
-/// A run over workers under a gate is that on one thread, and has so many legs at each external address. Returns how much the gate
-/// counted.
+/// Checks that a run over workers under a gate is that on one thread, and has these numbers of legs at each external
+/// address. Returns the gate's count.
 pub(crate) fn compared(
     rt: &impl TestRuntime,
     settings: &str,
@@ -57,8 +57,8 @@ pub(crate) fn compared(
     Ok(gate.count())
 }
 
-/// The run on one thread sends so many packets to the outside and to the inside, drops none, and leaves so many bindings. The run over
-/// workers is that run, through rings of each size, with so many legs at each external address.
+/// Checks that the run on one thread has these numbers of packets to the outside and to the inside, no dropped packet
+/// and this number of bindings. The run over workers is the same, with rings of each size and these legs.
 fn assert_large(
     rt: &impl TestRuntime,
     settings: &str,
@@ -75,7 +75,7 @@ fn assert_large(
     Ok(())
 }
 
-/// A fifth are hairpins, and all find their bindings.
+/// A fifth of the packets are hairpins, and all find their bindings.
 #[test]
 fn thousand_inputs_through_all_rings(rt: HostRuntime) -> Result<(), Fail> {
     let (inputs, legs) = (thousand_inputs(rt.alloc())?, [401, 400, 399]);

@@ -1,6 +1,6 @@
-//! All `#[test]` functions: of the libraries, of runs, of workers on threads, of logs, and of the parts of the program, through what these
-//! make public. They are in one crate, above all others, so that the gate proves no other crate again for them. The inputs of large runs,
-//! `sample_inputs`, are public.
+//! All `#[test]` functions: of the libraries, of runs, of workers on threads, of logs, and of the parts of the program,
+//! through their public items. They are in one crate above all others, so that the gate proves no other crate again for
+//! them. The inputs of large runs, `sample_inputs`, are public.
 #![tactic(auto)]
 
 #[cfg(test)]

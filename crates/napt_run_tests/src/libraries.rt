@@ -1,4 +1,4 @@
-//! What no contract says of the libraries below a run, and no row of `tests/calls` or `tests/drawn_calls`.
+//! What neither a contract nor a row of `tests/calls` or `tests/drawn_calls` says of the libraries below a run.
 
 mod bits;
 mod captures;

@@ -1,10 +1,10 @@
-//! A stream gives its source back. What inputs come of two captures is told in `tests/calls`.
+//! A stream returns its source. The inputs from two captures are in `tests/calls`.
 use crate::samples::captures::ONE_PACKET;
 use napt_capture::{EmptySource, RecordReader, Source, Watched};
 use napt_records::{RecordStream, StreamMerger};
 use std::test::Fail;
 
-/// Only the header is read of it.
+/// Only the header has been read from the source.
 #[test]
 fn streams_give_their_sources_back(rt: HostRuntime) -> Result<(), Fail> {
     let alloc = rt.alloc();

@@ -1,4 +1,4 @@
-//! Packets with right checksums.
+//! Packets with correct checksums.
 
 use napt_wire::Endpoint;
 use std::alloc::{AllocError, Global};
@@ -10,7 +10,7 @@ pub(crate) const UDP_QUERY: [u8; 30] = [
     0x13, 0x88, 0, 53, 0, 10, 0x4f, 0x77, 0x68, 0x69, // ports, length, checksum, payload
 ];
 
-/// The bytes of some words, in network order.
+/// Returns the bytes of some words, in network order.
 fn bytes_of(alloc: Global, words: &[u16]) -> Result<Vec<u8>, AllocError> {
     let mut bytes = Vec::new(alloc);
     for word in words {

@@ -1,4 +1,4 @@
-//! What no contract says: that answers come, that workers step at the same time and unasked, and how often a gate is asked.
+//! What no contract says: answers come, workers step together and without a request, and how often a gate is asked.
 
 mod batches;
 mod checked;
@@ -8,5 +8,5 @@ mod waiting;
 mod watch;
 mod watched;
 
-/// The most often that a test looks for what another thread does.
+/// The greatest number of times that a test looks for a step of another thread.
 const MOST_LOOKS: u32 = 1_000_000;

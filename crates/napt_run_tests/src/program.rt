@@ -1,5 +1,5 @@
-//! What no contract says of the parts of the program, and no run of it shows: stops that none comes to, or seldom, words without a name,
-//! and the places of files. What runs show is in `tests/end_to_end`, `tests/logged`, `tests/terminal` and `tests/faulty_configurations`.
+//! What neither a contract nor a run shows of the parts of the program: rare stops, words without a name, and file
+//! locations. Runs are in `tests/end_to_end`, `tests/logged`, `tests/terminal` and `tests/faulty_configurations`.
 
 use napt_capture::CaptureFault;
 use napt_config::ConfigFault;
@@ -13,7 +13,7 @@ use napt_sequential::RunFault;
 use napt_wire::Side;
 use std::test::Fail;
 
-/// A fault of the capture of a side.
+/// Returns a fault of the capture of a side.
 fn of_capture(side: Side, fault: CaptureFault) -> Stop {
     Stop::Run(Fault::Capture(side, fault))
 }

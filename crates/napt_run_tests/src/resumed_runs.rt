@@ -1,4 +1,4 @@
-//! A run that goes on from the state that another left.
+//! A run that goes on from the state of an earlier one.
 
 ghost use Rattle.std.specs.Prelude.{◌≡◌, []};
 
@@ -9,12 +9,12 @@ use crate::sample_inputs::THREE_ADDRESSES;
 use napt_capture::Watched;
 use napt_config::Config;
 use napt_run::{Devices, NoLog, Start, State, run_captures, run_streams};
-use napt_state::take_up;
+use napt_state::first_misfit;
 use std::alloc::Global;
 use std::ops::Range;
 use std::test::Fail;
 
-/// What a run writes, and the state that it leaves.
+/// What a run writes, and the state after it.
 #[derive(Drop)]
 struct ResumedOutput {
     to_outside: Vec<u8>,
@@ -23,17 +23,17 @@ struct ResumedOutput {
     state: State,
 }
 
-/// The run from a state over the packets of these microseconds.
+/// Makes the run from a state over the packets in this range, in microseconds.
 fn run_on(
     rt: &impl TestRuntime,
-    mut state: State,
+    state: State,
     times: &Range<u32>,
     are_whole: bool,
 ) -> Result<ResumedOutput, Fail> {
     let alloc = rt.alloc();
     let config = Config::read(alloc, THREE_ADDRESSES.as_bytes())?;
     let (sent, replies) = (sent_in(alloc, times)?, replies_in(alloc, times)?);
-    if take_up(alloc, &config, &mut state)?.is_some() {
+    if first_misfit(alloc, &config, &state)?.is_some() {
         return Err(Fail::new("the state is not taken"));
     }
     let gate = Hold::new(alloc, GateMode::Open)?;
@@ -68,7 +68,7 @@ fn run_on(
     })
 }
 
-/// The state in which nothing was sent.
+/// Returns the state before the first packet.
 pub(crate) fn nothing(alloc: Global) -> State
     ensures { result ≡ record { clock = 0; list = [] } }
 {
@@ -78,7 +78,7 @@ pub(crate) fn nothing(alloc: Global) -> State
     }
 }
 
-/// Whether the second text goes on behind the first, but for its header of 24 bytes, as the whole does.
+/// Whether the second text, without its header of 24 bytes, continues the first, as the whole text does.
 fn goes_on(first: &[u8], second: &[u8], whole: &[u8]) -> bool {
     let (Some(rest), Some(header)) = (whole.strip_prefix(first), first.get(..24)) else {
         return false;

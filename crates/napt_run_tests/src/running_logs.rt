@@ -1,13 +1,12 @@
-//! A run with its log, over captures as they arrive: the log, written out by hand, also in two parts, and what a log that
-//! fails leaves.
+//! A run with its log, over captures as they arrive: the log, written out by hand, also in two parts, and what a log
+//! that fails leaves.
 
 ghost use Rattle.std.specs.Prelude.{◌≡◌};
-ghost use Rattle.napt_account.specs.ResumedLogRuns.{IsFew};
 
 use crate::calls::TestRuntime;
 use crate::captures::{Call, Device, HEADER, RunInput, RunOutput, captured, failing, push_packet};
 use crate::gates::{GateMode, Hold};
-use crate::kept_logs::{SETTINGS, kept, no_log};
+use crate::kept_logs::{SETTINGS, kept};
 use crate::packets::udp;
 use crate::resumed_runs::nothing;
 use crate::samples::hosts::{CLIENT, RESOLVER};
@@ -15,7 +14,7 @@ use napt_account::SavedLogState;
 use napt_capture::{Watched, WriteFault};
 use napt_config::Config;
 use napt_run::{Devices, Fault, LogStart, LogWriter, Start, State, Which, run_streams_with_log};
-use napt_state::take_up;
+use napt_state::first_misfit;
 use std::alloc::{AllocError, Global};
 use std::num::NonZeroU32;
 use std::test::Fail;
@@ -27,7 +26,7 @@ sourceTransportPort,postNATSourceIPv4Address,postNAPTSourceTransportPort,natQuot
 packets_out,packets_in,flowEndNanoseconds,last_use\n\
 0,1970-01-01T00:00:00.000000000Z,8,17,10.0.0.3,7000,203.0.113.1,7000,,1,1,0,0,,\n";
 
-/// The binding of the first packet is made; the second goes through it. Both live at the end, the redirect for ever.
+/// The first packet makes a binding; the second goes through it. Both are live at the end, the redirect for ever.
 const ROWS: &str =
     "10000,1970-01-01T00:00:00.000010000Z,8,17,10.0.0.2,5000,203.0.113.1,5000,,2,0,1,0,\
 10000,1970-01-01T00:00:00.000010000Z\n\
@@ -35,7 +34,7 @@ const ROWS: &str =
 20000,1970-01-01T00:00:00.000020000Z\n\
 ,,,17,10.0.0.3,7000,203.0.113.1,7000,,1,1,0,0,,\n";
 
-/// A packet of one host at each of these microseconds.
+/// Returns a capture with a packet of one host at each of these times, in microseconds.
 fn sent_at(alloc: Global, times: &[u32]) -> Result<Vec<u8>, AllocError> {
     let mut text = Vec::from_slice(alloc, &HEADER)?;
     for microseconds in times {
@@ -44,7 +43,7 @@ fn sent_at(alloc: Global, times: &[u32]) -> Result<Vec<u8>, AllocError> {
     Ok(text)
 }
 
-/// The run over two packets under these settings, with a log that fails at a call, counted from 1, or at none.
+/// Makes the run over two packets with these settings, with a log that fails at a call, from 1, or never if it is 0.
 fn run_with(rt: &impl TestRuntime, settings: &str, call: u64) -> Result<RunOutput, Fail> {
     let inside = sent_at(rt.alloc(), &[10, 20])?;
     let given = RunInput {
@@ -68,39 +67,40 @@ fn log_of_a_run_as_it_runs(rt: HostRuntime) -> Result<(), Fail> {
     Ok(())
 }
 
-/// What a part of a run leaves.
+/// The results of a part of a run.
 #[derive(Drop)]
 struct Part {
     text: Vec<u8>,
     state: State,
-    kept: SavedLogState,
+    saved: SavedLogState,
 }
 
-/// A new log of what was kept, in one piece, with which another run goes on.
-fn new_log(kept: &SavedLogState) -> LogStart<'_>
-    ensures { result.kept ≡ kept.entry }
+/// A new log of what was saved, in one piece, with which another run goes on.
+fn new_log(saved: &SavedLogState) -> LogStart<'_>
+    ensures { result.saved ≡ saved.entry }
 {
     LogStart {
-        kept,
+        saved,
         is_new: true,
         each: None,
         goes_on: true,
     }
 }
 
-/// The run over packets at these microseconds, from a state and with a log.
+/// Makes the run over packets at these times, in microseconds, from a state and with a log.
 fn run_on(
     rt: &impl TestRuntime,
-    mut state: State,
+    state: State,
     log_start: LogStart<'_>,
     times: &[u32],
-) -> Result<Part, Fail>
-    requires { IsFew log_start.kept.now }
-{
+) -> Result<Part, Fail> {
     let alloc = rt.alloc();
     let config = Config::read(alloc, SETTINGS.as_bytes())?;
-    if take_up(alloc, &config, &mut state)?.is_some() {
+    if first_misfit(alloc, &config, &state)?.is_some() {
         return Err(Fail::new("the state is not taken"));
+    }
+    if !log_start.saved.is_valid(alloc, &state)? {
+        return Err(Fail::new("no log has these accounts"));
     }
     let start = Start {
         config: &config,
@@ -121,29 +121,30 @@ fn run_on(
     let gate = Hold::new(alloc, GateMode::Open)?;
     let end = run_streams_with_log(rt, alloc, start, &mut devices, gate)?;
     let LogWriter { device, .. } = devices.log;
+    let state = end.passed.into_state_if(true, alloc)?.ok_or("a state")?;
     Ok(Part {
         text: device.into_inner(),
-        state: end.passed.into_state_if(true, alloc)?.ok_or("a state")?,
-        kept: end.log,
+        saved: end.log.saved(alloc, &state)?,
+        state,
     })
 }
 
-/// A log that is begun, and goes on behind its text: together it is that of one run.
+/// A log that is begun and then continued after its text is together that of one run.
 #[test]
 fn log_of_a_run_in_two_parts(rt: HostRuntime) -> Result<(), Fail> {
     let alloc = rt.alloc();
-    let none = no_log(alloc);
+    let none = SavedLogState::none(alloc);
     let first = run_on(&rt, nothing(alloc), new_log(&none), &[10])?;
-    let kept = kept(alloc, 2, 1, 300_000_010_000)?;
-    assert_eq!(rt; first.kept.made, kept.made);
-    assert!(rt; first.kept.living == kept.living);
-    let behind = LogStart {
+    let kept = kept(alloc, 2, 1)?;
+    assert_eq!(rt; first.saved.made, kept.made);
+    assert!(rt; first.saved.accounts == kept.accounts);
+    let after = LogStart {
         is_new: false,
         goes_on: false,
         ..new_log(&kept)
     };
-    let second = run_on(&rt, first.state, behind, &[20])?;
-    assert_eq!(rt; second.kept.made, 2);
+    let second = run_on(&rt, first.state, after, &[20])?;
+    assert_eq!(rt; second.saved.made, 2);
     assert!(rt; second.text.starts_with(b"300000020000,"));
     let mut text = first.text;
     text.extend_from_slice(&second.text)?;
@@ -152,12 +153,12 @@ fn log_of_a_run_in_two_parts(rt: HostRuntime) -> Result<(), Fail> {
     Ok(())
 }
 
-/// Where the clock passes a second a new piece begins, with the text of a run that goes on there with a new log.
+/// When the clock passes a second, a new piece begins, with the text of a run that goes on there with a new log.
 #[test]
 fn log_of_a_run_in_pieces(rt: HostRuntime) -> Result<(), Fail> {
     let alloc = rt.alloc();
-    let none = no_log(alloc);
-    let kept = kept(alloc, 2, 1, 300_000_010_000)?;
+    let none = SavedLogState::none(alloc);
+    let kept = kept(alloc, 2, 1)?;
     let pieces = LogStart {
         each: NonZeroU32::new(1),
         ..new_log(&none)
@@ -173,8 +174,8 @@ fn log_of_a_run_in_pieces(rt: HostRuntime) -> Result<(), Fail> {
     Ok(())
 }
 
-/// The header of the log is written and flushed before anything else. Where that fails, nothing is left; where the row of the first
-/// packet cannot be written, no packet has left. There is no report.
+/// The header of the log is written and flushed before anything else. If that fails, nothing is written. If the row of
+/// the first packet cannot be written, no packet has left. There is no report.
 #[test]
 fn a_log_that_fails(rt: HostRuntime) -> Result<(), Fail> {
     let opening = OPENING.len();

@@ -1,5 +1,5 @@
-//! The inputs of large runs: a thousand, and those of sixteen hosts that each send to all others. An `Err` of a function here
-//! says that memory was refused.
+//! The inputs of large runs: a thousand, and those of sixteen hosts that each send to all others. A function here fails
+//! only if memory is refused.
 
 use crate::packets::udp;
 use crate::samples::hosts::{RESOLVER, external, host};
@@ -54,7 +54,7 @@ pub fn all_to_all(alloc: Global) -> Result<Vec<Input>, AllocError> {
     Ok(inputs)
 }
 
-/// A packet that comes from a side at its own time, by its own clock: the run takes the greatest so far.
+/// Returns a packet that arrives from a side at this time, which is also its clock: the run takes the greatest so far.
 pub(crate) fn input(
     alloc: Global,
     side: Side,

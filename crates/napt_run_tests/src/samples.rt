@@ -1,4 +1,4 @@
-//! Values that tests share: hosts, captures and configurations. No library computes them: tests compare them with its results.
+//! Values that tests share: hosts, captures and configurations. Tests compare them with the results of calls.
 
 pub mod captures;
 pub mod hosts;

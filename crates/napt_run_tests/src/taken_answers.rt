@@ -1,4 +1,4 @@
-//! What no contract says: that the answers of workers are taken while inputs are read, all that are there.
+//! What no contract says: while inputs are read, all answers of workers that are there are taken.
 
 ghost use Rattle.std.specs.Prelude.{⊤, MatchResult};
 
@@ -23,7 +23,7 @@ const LOOKED_AFTER: u64 = 48;
 /// The number of legs in these two messages: the first input's, and those of the sixteen after it.
 const ANSWERED: u64 = 17;
 
-/// Packets of one host; and how many outcomes had left when the one after `LOOKED_AFTER` was asked for.
+/// Packets of one host, and the number of outcomes that had left when the input after `LOOKED_AFTER` was requested.
 #[derive(Drop)]
 struct Packets {
     alloc: Global,
@@ -53,7 +53,7 @@ impl InputSource for Packets {
     fn next(&mut self, _spare: Vec<u8>) -> Result<Option<Input>, AllocError> {
         let number = self.number;
         if number == LOOKED_AFTER {
-            // The worker asks for the first turn of a message once the answers to all before are in the ring.
+            // The worker asks for the first turn of a message after the answers to all earlier ones are in the ring.
             self.gate.wait_for(ANSWERED);
         }
         if number > LOOKED_AFTER {
@@ -105,9 +105,9 @@ impl OutcomeSink for Count {
     }
 }
 
-/// Through rings of 64 the dispatcher sends a worker sixteen legs in a message, looks at it whenever it does, and takes all the answers
-/// that are there: so they have left before the next input is asked for. One that takes a single answer, or looks at no worker, holds
-/// them back.
+/// With rings of 64 slots, the dispatcher sends a worker sixteen legs in a message, looks at the worker whenever it
+/// does, and takes all its answers: so they have left before the next input is requested. A dispatcher that takes one
+/// answer, or looks at no worker, delays them.
 #[test]
 fn answers_are_taken_while_inputs_are_read(rt: HostRuntime) -> Result<(), Fail> {
     let alloc = rt.alloc();

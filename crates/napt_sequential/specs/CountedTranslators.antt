@@ -1,6 +1,6 @@
 -- The translators of a sequential run, one for each external address in the order of the pool. Together they hold the
 -- run's one list of bindings, each those of its address.
-use Rattle.std.specs.{Prelude.{◌≡◌, ℕ, ◌+◌, ◌<◌, ◌≤◌, ◌^◌, max, length, List, [], ◌∷◌, ◌++◌, flat_map, Option, Some, None}, Option.option_map, List.slice_get}
+use Rattle.std.specs.{Prelude.{◌≡◌, ℕ, Bool, ◌+◌, ◌<◌, ◌≤◌, ◌^◌, max, length, List, [], ◌∷◌, ◌++◌, flat_map, Option, Some, None}, Option.option_map, List.slice_get}
 use Rattle.napt_wire.specs.{declared.{Protocol.Protocol, Way.{Way, TheVariants.{Outgoing, Incoming}}}, Fields.{source, destination, kind}}
 use Rattle.napt_config.specs.{declared.settings.Timers.Timers, Rules.Rules}
 use Rattle.napt_rules.specs.Prelude.{Binding, by_inside, by_number, LegEffect, act, Arrival, rows, live_and_held, LegAct, RunEffect, State, initial_state, effect_from, last_clock, legs_at, LocalState, local_act, answer_of, AreBindingsLeft}
@@ -98,23 +98,23 @@ abbrev pub seen_of : List ℕ → PacketTuple
 seen_of packet =
     record { protocol = packet_carried (kind packet); source = source packet; destination = destination packet }
 
-abbrev pub gone_by : Way → Option TimedRow → Passage
-gone_by way None = Nothing
-gone_by way (Some row) = gone_through way row
+abbrev pub gone_by : Way → Bool → Option TimedRow → Passage
+gone_by way made None = Nothing
+gone_by way made (Some row) = gone_through way made row
 
-abbrev pub found_by : Timers → ℕ → List Binding → ℕ → PacketTuple → Option Protocol → End → Passage
-found_by timers now list address seen None end = Nothing
-found_by timers now list address seen (Some protocol) (ends.ToInside packet) =
-    gone_by Incoming (option_map (timed_row timers)
-    (by_number timers address now protocol seen.destination.number list))
-found_by timers now list address seen (Some protocol) (ends.Dropped cause) =
+-- `made` says whether the leg made the binding that its packet used.
+abbrev pub found_by : Timers → ℕ → List Binding → ℕ → PacketTuple → Bool → Option Protocol → End → Passage
+found_by timers now list address seen made None end = Nothing
+found_by timers now list address seen made (Some protocol) (ends.ToInside packet) = gone_by Incoming made
+    (option_map (timed_row timers) (by_number timers address now protocol seen.destination.number list))
+found_by timers now list address seen made (Some protocol) (ends.Dropped cause) =
     Dropped (record { protocol = protocol; host = seen.source.address; cause = cause })
-found_by timers now list address seen (Some protocol) _ =
-    gone_by Outgoing (option_map (timed_row timers) (by_inside timers address now protocol seen.source list))
+found_by timers now list address seen made (Some protocol) _ =
+    gone_by Outgoing made (option_map (timed_row timers) (by_inside timers address now protocol seen.source list))
 
-abbrev pub passage_seen : ℕ → PacketTuple → End → TranslatorModel → Passage
-passage_seen now seen end state =
-    found_by state.rules.timers (max now state.table.at) state.table.list state.table.address seen seen.protocol end
+abbrev pub passage_seen : ℕ → PacketTuple → Bool → End → TranslatorModel → Passage
+passage_seen now seen made end state = found_by state.rules.timers (max now state.table.at) state.table.list
+    state.table.address seen made seen.protocol end
 
 -- TIMES AND STEPS
 

@@ -3,21 +3,23 @@
 --
 -- An outgoing packet uses the binding of its source, which is made if there is none; an incoming one that of its
 -- destination (RFC 3022, section 4). An ICMP error uses none (RFC 5508, REQ-3 to REQ-6).
-use Rattle.std.specs.Prelude.{ℕ, ◌+◌, max, List, [], ◌∷◌, Option, Some, None}
+use Rattle.std.specs.Prelude.{ℕ, ◌+◌, max, Bool, true, false, List, [], ◌∷◌, Option, Some, None}
 use Rattle.napt_wire.specs.{declared.{Protocol.Protocol, Way.{Way, TheVariants.{Outgoing, Incoming}}}, Fields.{source, kind}}
 use Rattle.napt_config.specs.{Rules.Rules, declared.settings.Timers.Timers}
 use Rattle.napt_rules.specs.{Prelude.{BindingUse, Binding, Arrival, LegAct, RunEffect, step, State, initial_state}, declared.End.End}
 use Rattle.napt_table.specs.{declared.TimedRow.TimedRow, TimedRows.timed_row}
 use Rattle.napt_translate.specs.CarriedPackets.{packet_carried}
 use Rattle.napt_rules.specs.declared.End.TheVariants as ends
-use Rattle.napt_sequential.specs.declared.passage.{Passage.{Passage, TheVariants.{Nothing, Out, In, Dropped}}, Trace.Trace}
+use Rattle.napt_sequential.specs.declared.passage.{Passage.{Passage, TheVariants.{Nothing, Made, Out, In, Dropped}}, Trace.Trace}
 
 -- ONE LEG
 
--- The passage in this direction through a binding, which was so after the leg.
-abbrev pub gone_through : Way → TimedRow → Passage
-gone_through Outgoing row = Out row
-gone_through Incoming row = In row
+-- The passage in this direction through a binding, which was so after the leg, and which the leg may have made on its
+-- way out.
+abbrev pub gone_through : Way → Bool → TimedRow → Passage
+gone_through Outgoing true row = Made row
+gone_through Outgoing false row = Out row
+gone_through Incoming made row = In row
 
 -- The passage of a leg that used no binding: a dropped packet other than an ICMP error, or nothing.
 abbrev pub loss_of : Option Protocol → ℕ → End → Passage
@@ -25,7 +27,7 @@ loss_of (Some protocol) host (ends.Dropped cause) = Dropped (record { protocol =
 loss_of _ host _ = Nothing
 
 abbrev pub passage_by : Timers → Way → Option Protocol → ℕ → End → Option BindingUse → Passage
-passage_by timers way protocol host end (Some went) = gone_through way (timed_row timers went.binding)
+passage_by timers way protocol host end (Some went) = gone_through way went.made (timed_row timers went.binding)
 passage_by timers way protocol host end None = loss_of protocol host end
 
 abbrev pub passage_of : Timers → LegAct → Passage

@@ -82,15 +82,16 @@ impl LegTrace for Passage {
         translator.keep_rules();
         let now = leg.now;
         let seen = PacketTuple::from_packet(&leg.packet);
-        let answer = translator.translate(alloc, leg)?;
-        let passage = passage(translator, now, seen, &answer.end);
+        let mut made = false;
+        let answer = translator.translate_noting(alloc, leg, &mut made)?;
+        let passage = passage(translator, now, seen, made, &answer.end);
         Ok(TracedAnswer { answer, passage })
     }
 }
 
-/// Returns what a leg did, from its packet before the leg, and its end. `now` is in ns.
-fn passage(translator: &Translator, now: u64, seen: PacketTuple, end: &End) -> Passage
-    ensures { result ≡ passage_seen now seen end.now translator.now }
+/// Returns what a leg did, from its packet before the leg, whether it made a binding, and its end. `now` is in ns.
+fn passage(translator: &Translator, now: u64, seen: PacketTuple, made: bool, end: &End) -> Passage
+    ensures { result ≡ passage_seen now seen made end.now translator.now }
 {
     let Some(protocol) = seen.protocol else {
         return Passage::Nothing;
@@ -99,11 +100,11 @@ fn passage(translator: &Translator, now: u64, seen: PacketTuple, end: &End) -> P
         End::ToOutside(packet) | End::Onward(_, packet) => {
             let number = packet.source().number;
             let row = translator.timed_by_inside(now, protocol, seen.source, number);
-            gone_by(Way::Outgoing, row)
+            gone_by(Way::Outgoing, made, row)
         }
         End::ToInside(_) => {
             let row = translator.timed_by_number(now, protocol, seen.destination.number);
-            gone_by(Way::Incoming, row)
+            gone_by(Way::Incoming, made, row)
         }
         End::Dropped(cause) => Passage::Dropped(DroppedPacket {
             protocol,

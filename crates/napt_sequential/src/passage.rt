@@ -12,7 +12,9 @@ use napt_wire::{Cause, Endpoint, Kind, Packet, Protocol, Way};
 pub enum Passage {
     /// There is no such leg, or its packet is an ICMP error, which uses no binding.
     Nothing,
-    /// The packet went out through the binding of its source.
+    /// The leg made a binding for the source of the packet, and the packet went out through it.
+    Made(PackedTimedRow),
+    /// The packet went out through the binding that its source had.
     Out(PackedTimedRow),
     /// The packet came in through the binding of its destination.
     In(PackedTimedRow),
@@ -68,13 +70,18 @@ impl PacketTuple {
     }
 }
 
-/// Returns the passage in direction `way` through the binding found, or `Nothing` without one.
-pub(crate) fn gone_by(way: Way, found: Option<TimedRow>) -> Passage
-    ensures { result ≡ lookups.gone_by way found }
+/// Returns the passage in direction `way` through the binding found, or `Nothing` without one. `made` says whether the
+/// leg made the binding of an outgoing packet.
+pub(crate) fn gone_by(way: Way, made: bool, found: Option<TimedRow>) -> Passage
+    ensures { result ≡ lookups.gone_by way made found }
 {
-    match (way, found) {
-        (_, None) => Passage::Nothing,
-        (Way::Outgoing, Some(row)) => Passage::Out(PackedTimedRow::from_row(row)),
-        (Way::Incoming, Some(row)) => Passage::In(PackedTimedRow::from_row(row)),
+    let Some(row) = found else {
+        return Passage::Nothing;
+    };
+    let through = PackedTimedRow::from_row(row);
+    match way {
+        Way::Outgoing if made => Passage::Made(through),
+        Way::Outgoing => Passage::Out(through),
+        Way::Incoming => Passage::In(through),
     }
 }

@@ -1,6 +1,9 @@
+pub mod Accounting
 pub mod Arms
 pub mod Lines
 pub mod Reading
 pub mod Replay
+pub mod Standing
 pub mod Taken
+pub mod TakenUp
 pub mod Written

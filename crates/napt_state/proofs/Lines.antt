@@ -8,12 +8,13 @@ use Rattle.std.proofs.lemmas.{Bool.{both_ways, eqb-false, false_from_ne_true, or
 use Rattle.std.proofs.lemmas.List.{Folds.{list_any-append, list_any_at}, Splits.{slice_split_at, slice_split_none}}
 use Rattle.napt_wire.specs.declared.Protocol.{Protocol, TheVariants.{Icmp, Tcp, Udp}}
 use Rattle.napt_config.specs.Text.{address_text}
+use Rattle.napt_account.specs.declared.account.Account.{Account}
 use Rattle.napt_state.specs.declared.line.StateLine.{StateLine}
 use Rattle.napt_state.specs.declared.line.StateLine.TheVariants as lines
 use Rattle.napt_state.specs.StateContents.{IsFirstLine}
-use Rattle.napt_state.specs.StateText.{StateTextBytes, is_space, words_in, words_text, state_flag, kind_text, state_protocol_name, end_text, count_words, split_words, line_text}
+use Rattle.napt_state.specs.StateText.{StateTextBytes, is_space, words_in, words_text, state_flag, kind_text, state_protocol_name, end_text, count_words, words_if, split_words, line_text}
 
--- what ends a word
+-- A byte that ends a word.
 abbrev is_mark : ℕ → Bool
 is_mark byte = is_space byte || (byte == 10)
 
@@ -79,26 +80,34 @@ in_end None = refl
 abbrev have_marks : List StateTextBytes → Bool
 have_marks texts = list_any has_mark texts
 
+in_account : (account : Option Account) → have_marks (words_if account) ≡ false
+in_account (Some account) = simp (in_decimal)
+in_account None = refl
+
 in_words : (entry : StateLine) → have_marks (split_words entry) ≡ false
 in_words (lines.Clock clock) = simp (in_decimal)
-in_words (lines.Binding row last) = simp (in_kind, in_protocol, in_address, in_decimal)
+in_words (lines.Log position) = simp (in_decimal)
+in_words (lines.Binding row last account) = simp (in_kind, in_protocol, in_address, in_decimal, in_account account)
 in_words (lines.Flow flow) = simp (in_address, in_decimal, in_flag)
-in_words (lines.Log made length) = simp (in_decimal)
-in_words (lines.Entry listed) = simp (in_kind, in_protocol, in_address, in_decimal, in_end)
+in_words (lines.Held row end) = simp (in_protocol, in_address, in_decimal)
+in_words (lines.EarlierLog made length) = simp (in_decimal)
+in_words (lines.EarlierEntry listed) = simp (in_kind, in_protocol, in_address, in_decimal, in_end)
 in_words (lines.End counts) = elim counts.entries as (λ n. have_marks (codes "end" ∷ decimal counts.bindings
     ∷ decimal counts.flows ∷ count_words n) ≡ false) [ Some n ↦ simp (in_decimal) | None ↦ simp (in_decimal) ]
 
 many : (entry : StateLine) → 0 < length (split_words entry)
 many (lines.Clock clock) = omega arith
-many (lines.Binding row last) = omega arith
+many (lines.Log position) = omega arith
+many (lines.Binding row last account) = omega arith
 many (lines.Flow flow) = omega arith
-many (lines.Log made length) = omega arith
-many (lines.Entry listed) = omega arith
+many (lines.Held row end) = omega arith
+many (lines.EarlierLog made length) = omega arith
+many (lines.EarlierEntry listed) = omega arith
 many (lines.End counts) = omega arith
 
 -- LINES
 
--- a line before the line feed at its end
+-- The words of a line, before the line feed at its end.
 abbrev joined : StateTextBytes → List StateTextBytes → StateTextBytes
 joined first [] = first
 joined first (word ∷ more) = first ++ 32 ∷ joined word more
@@ -150,17 +159,17 @@ line_text-ended entry = line_of (split_words entry) (many entry) (in_words entry
 
 module _ (left new : Option (List ℕ)) (old line : StateTextBytes) (text rest : StateTextBytes) (none : old ≡ [])
     (got : IfSome left (λ xs. line ≡ old ++ take_through 10 xs)) (left_is : left ≡ Some (text ++ rest)) where
-  -- a line that is read is the first of what is left, which loses it
+  -- The line that is read is the first of those left, and the rest is then left.
   pub line_read : IfSome left (λ xs. new ≡ Some (drop_through 10 xs)) → Line text → (line ≡ text) × (new ≡ Some rest)
   line_read h k = grind (arith, common_steps, nat_tests, append_assoc, take_through-append, drop_through-append)
 
-  -- and so something is left
+  -- A line is left, so that the text has not ended.
   pub line_left : IsAtEnd left → Line text → ⊥
   line_left end (row, is, whole) =
       let empty : text ++ rest ≡ [] = subst IsAtEnd left_is end in
       omega (arith, ap length empty, ap length is, length-append text rest, length-append row (codes "\n"))
 
--- what breaks off has no end of a line
+-- A text that ends inside a line has no line feed at its end.
 pub torn_read : (left : Option (List ℕ)) (old line torn front : StateTextBytes) → old ≡ [] →
     IfSome left (λ xs. line ≡ old ++ take_through 10 xs) → left ≡ Some torn → IsLine torn →
     line ≡ front ++ codes "\n" → ⊥
@@ -177,7 +186,7 @@ both_parts [] = refl
 both_parts (x ∷ xs) = elim (x == 10) as (λ b. (if b then x ∷ [] else x ∷ take_through 10 xs)
     ++ (if b then xs else drop_through 10 xs) ≡ x ∷ xs) [ true ↦ refl | false ↦ ap (λ l. x ∷ l) (both_parts xs) ]
 
--- what is read begins what was left
+-- The line that is read is the beginning of the text that was left.
 pub first_read : (left new : Option (List ℕ)) (old line : StateTextBytes) (all : StateTextBytes) (is : StateLine) →
     old ≡ [] →
     IfSome left (λ xs. line ≡ old ++ take_through 10 xs) → IfSome left (λ xs. new ≡ Some (drop_through 10 xs)) →

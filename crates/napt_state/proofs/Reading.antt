@@ -1,14 +1,14 @@
 -- A text whose lines are read one after another: what is left of it, and what was read.
+use Rattle.napt_state.specs.StateFiles.{StateFileModel}
 use Rattle.std.proofs.lemmas.{Grind.flat_map-append}
 use Rattle.std.proofs.Common.{ℕ, ◌≡◌, ◌≤◌, ◌^◌, List, [], ◌∷◌, ◌++◌, map, flat_map, Option, Some, None, IfSome, Result, Ok, Err, OnOk, IfOk, refl, sym, ◌∙◌, ap, subst, append_assoc, append-nil}
 use Rattle.std.specs.Io.KnownBytes.{IsAtEnd}
-use Rattle.napt_account.specs.{ResumedLogRuns.IsFew, declared.log.LogEntry.LogEntry}
 use Rattle.napt_rules.specs.Prelude.{Each}
-use Rattle.napt_state.specs.declared.{state_contents.{StateFileContents.StateFileContents, LogPosition.LogPosition}, line.{LineCounts.LineCounts, StateLine.StateLine}, fault.StateReason.{StateReason, TheVariants.{Unread, Memory, NotUtf8, Torn, Word, WordCount, NoBinding, Counts as OtherCounts, BehindEnd}}}
+use Rattle.napt_state.specs.declared.{line.{LineCounts.LineCounts, StateLine.StateLine}, fault.StateReason.{StateReason, TheVariants.{Accounts, Unread, Memory, NotUtf8, Torn, Word, WordCount, NoBinding, Counts as OtherCounts, BehindEnd}}}
 use Rattle.napt_state.specs.declared.line.StateLine.TheVariants as lines
-use Rattle.napt_state.specs.StateText.{StateTextBytes, IsStateLine, IsSaved, clock, entry, end, binding_lines, log_lines, lines_between, counts_of, saved_text, line_text}
-use Rattle.napt_state.specs.StateContents.{unless_for, StateUnlessUnread, IsFirstLine, IsFewLine, IsNoEnd, IsAdded, CanFollow, empty_contents}
-use Rattle.napt_state.proofs.Replay.{one_follows, is_last}
+use Rattle.napt_state.specs.StateText.{StateTextBytes, IsStateLine, clock, earlier_log, end, binding_lines, log_lines, lines_between, counts_of, saved_text, line_text}
+use Rattle.napt_state.specs.StateContents.{unless_for, StateUnlessUnread, IsEarlier, IsFirstLine, IsNoEnd, IsAdded, CanFollow, empty_contents}
+use Rattle.napt_state.proofs.Replay.{none_follows, one_follows, is_last}
 
 pub unless_weaker : {P Q : Type 0} (reason : StateReason) → (P → Q) → unless_for reason P → unless_for reason Q
 unless_weaker (Unread error) f h = h
@@ -19,6 +19,7 @@ unless_weaker (Word its word) f h = f h
 unless_weaker WordCount f h = f h
 unless_weaker NoBinding f h = f h
 unless_weaker OtherCounts f h = f h
+unless_weaker Accounts f h = f h
 unless_weaker BehindEnd f h = f h
 
 -- what a call returns that reads the next line
@@ -36,25 +37,25 @@ same_ok x y is = subst (λ r. IfOk r (λ z. x ≡ z)) is refl
 -- WHAT IS LEFT
 
 -- of the lines of a text those behind some are left
-pub record Ahead (whole so_far : StateFileContents) (more : List StateLine) (left : Option StateTextBytes) : Type 0
+pub record Ahead (whole so_far : StateFileModel) (more : List StateLine) (left : Option StateTextBytes) : Type 0
   where
-    pub clock : so_far.state.clock ≡ whole.state.clock
+    pub clock : so_far.clock ≡ whole.clock
     pub split : lines_between whole ++ end (counts_of whole) ∷ [] ≡ lines_between so_far ++ more
     pub fits : Each IsStateLine more
     pub text : left ≡ Some (flat_map line_text more)
 
-abbrev pub IsAhead : StateFileContents → StateFileContents → Option StateTextBytes → Type 0
+abbrev pub IsAhead : StateFileModel → StateFileModel → Option StateTextBytes → Type 0
 IsAhead whole so_far left = (more : List StateLine) × Ahead whole so_far more left
 
 -- behind a line that was read
-pub record AheadOf (whole so_far : StateFileContents) (line : StateLine) (more : List StateLine)
+pub record AheadOf (whole so_far : StateFileModel) (line : StateLine) (more : List StateLine)
     (left : Option StateTextBytes) : Type 0 where
-  pub clock : so_far.state.clock ≡ whole.state.clock
+  pub clock : so_far.clock ≡ whole.clock
   pub split : lines_between whole ++ end (counts_of whole) ∷ [] ≡ lines_between so_far ++ line ∷ more
   pub fits : Each IsStateLine more
   pub text : left ≡ Some (flat_map line_text more)
 
-module _ (whole so_far : StateFileContents) (old new : Option StateTextBytes) where
+module _ (whole so_far : StateFileModel) (old new : Option StateTextBytes) where
   -- the next line was read
   pub ahead_next : (line : StateLine) → Reads (Ok line) old new → IsAhead whole so_far old →
       (more : List StateLine) × AheadOf whole so_far line more new
@@ -79,12 +80,12 @@ module _ (whole so_far : StateFileContents) (old new : Option StateTextBytes) wh
       unless_weaker reason (λ got. absurd (no_ok reason told got.0))
       (reads told (flat_map line_text more) ahead.fits.0 ahead.text)
 
-module _ (whole so_far : StateFileContents) (line : StateLine) (more : List StateLine) (left : Option StateTextBytes)
+module _ (whole so_far : StateFileModel) (line : StateLine) (more : List StateLine) (left : Option StateTextBytes)
   where
     pub can_follow : AheadOf whole so_far line more left → IsNoEnd line → CanFollow line so_far
     can_follow a other = record { other = other; whole = whole; more = more; split = a.split }
 
-    pub ahead_added : (grown : StateFileContents) → AheadOf whole so_far line more left → IsAdded line so_far grown →
+    pub ahead_added : (grown : StateFileModel) → AheadOf whole so_far line more left → IsAdded line so_far grown →
         IsAhead whole grown left
     ahead_added grown a added = (
       more,
@@ -98,14 +99,14 @@ module _ (whole so_far : StateFileContents) (line : StateLine) (more : List Stat
     )
 
 -- the last line was read
-pub all_read : (whole so_far : StateFileContents) (counts : LineCounts) (more : List StateLine)
+pub all_read : (whole so_far : StateFileModel) (counts : LineCounts) (more : List StateLine)
     (left : Option StateTextBytes) →
     AheadOf whole so_far (end counts) more left →
     (so_far ≡ whole) × (counts ≡ counts_of so_far) × (left ≡ Some [])
 all_read whole so_far counts more left a =
     let last = is_last so_far whole counts more a.split in
     let same : so_far ≡ whole =
-    (λ i. record { state = record { clock = a.clock i; list = last.list i }; log = last.log i }) in (
+    (λ i. record { clock = a.clock i; log = last.log i; bindings = last.list i }) in (
       same,
       last.same ∙ ap counts_of (sym same),
       a.text ∙ ap (λ (l : List StateLine). Some (flat_map line_text l)) last.none,
@@ -113,30 +114,32 @@ all_read whole so_far counts more left a =
 
 pub no_end : (line : StateLine) → ((counts : LineCounts) → line ≡ end counts → ⊥) → IsNoEnd line
 no_end (lines.Clock at) h = tt
-no_end (lines.Binding row last) h = tt
+no_end (lines.Log position) h = tt
+no_end (lines.Binding row last account) h = tt
 no_end (lines.Flow one) h = tt
-no_end (lines.Log made length) h = tt
-no_end (lines.Entry one) h = tt
+no_end (lines.Held row end) h = tt
+no_end (lines.EarlierLog made length) h = tt
+no_end (lines.EarlierEntry one) h = tt
 no_end (lines.End counts) h = h counts refl
 
 -- WHAT WAS READ
 
 -- a text begins with the lines of what was read, and the rest is left
-pub record Taken (text : StateTextBytes) (so_far : StateFileContents) (left : Option StateTextBytes) : Type 0 where
+pub record Taken (text : StateTextBytes) (so_far : StateFileModel) (left : Option StateTextBytes) : Type 0 where
   pub rest : StateTextBytes
   pub remains : left ≡ Some rest
-  pub is : text ≡ line_text (clock so_far.state.clock) ++ (flat_map line_text (lines_between so_far) ++ rest)
+  pub is : text ≡ line_text (clock so_far.clock) ++ (flat_map line_text (lines_between so_far) ++ rest)
 
-module _ (text : StateTextBytes) (so_far : StateFileContents) (line : StateLine) (old new : Option StateTextBytes)
+module _ (text : StateTextBytes) (so_far : StateFileModel) (line : StateLine) (old new : Option StateTextBytes)
     (taken : Taken text so_far old)
     (read : (all : StateTextBytes) → old ≡ Some all → IsFirstLine line all new) where
-  read_behind : (rest : StateTextBytes) × (text ≡ line_text (clock so_far.state.clock)
+  read_behind : (rest : StateTextBytes) × (text ≡ line_text (clock so_far.clock)
       ++ (flat_map line_text (lines_between so_far ++ line ∷ []) ++ rest)) × (new ≡ Some rest)
   read_behind =
       let (rest, is, gone) = read taken.rest taken.remains in
       let before : StateTextBytes = flat_map line_text (lines_between so_far) in (
         rest,
-        taken.is ∙ ap (λ (l : StateTextBytes). line_text (clock so_far.state.clock) ++ l)
+        taken.is ∙ ap (λ (l : StateTextBytes). line_text (clock so_far.clock) ++ l)
             (ap (λ (l : StateTextBytes). before ++ l) is
             ∙ sym (append_assoc before (line_text line) rest)
             ∙ ap (λ (l : StateTextBytes). (before ++ l) ++ rest) (sym (append-nil (line_text line)))
@@ -145,7 +148,7 @@ module _ (text : StateTextBytes) (so_far : StateFileContents) (line : StateLine)
         gone,
       )
 
-  pub taken_added : (grown : StateFileContents) → IsAdded line so_far grown → Taken text grown new
+  pub taken_added : (grown : StateFileModel) → IsAdded line so_far grown → Taken text grown new
   taken_added grown added =
       let (rest, is, gone) = read_behind in record {
         rest = rest;
@@ -153,7 +156,7 @@ module _ (text : StateTextBytes) (so_far : StateFileContents) (line : StateLine)
         is = is
             ∙ ap (λ (n : ℕ). line_text (clock n) ++ (flat_map line_text (lines_between so_far ++ line ∷ []) ++ rest))
             (sym added.clock)
-            ∙ ap (λ (l : List StateLine). line_text (clock grown.state.clock) ++ (flat_map line_text l ++ rest))
+            ∙ ap (λ (l : List StateLine). line_text (clock grown.clock) ++ (flat_map line_text l ++ rest))
             (sym added.lines);
       }
 
@@ -162,26 +165,31 @@ module _ (text : StateTextBytes) (so_far : StateFileContents) (line : StateLine)
   taken_all counts last same over =
       let (rest, is, gone) = read_behind in
       let none : rest ≡ [] = subst IsAtEnd gone over in
-      is ∙ ap (λ (l : StateTextBytes). line_text (clock so_far.state.clock)
+      is ∙ ap (λ (l : StateTextBytes). line_text (clock so_far.clock)
       ++ (flat_map line_text (lines_between so_far ++ line ∷ []) ++ l)) none
-      ∙ ap (λ (l : StateTextBytes). line_text (clock so_far.state.clock) ++ l) (append-nil _)
-      ∙ ap (λ (l : StateLine). line_text (clock so_far.state.clock)
+      ∙ ap (λ (l : StateTextBytes). line_text (clock so_far.clock) ++ l) (append-nil _)
+      ∙ ap (λ (l : StateLine). line_text (clock so_far.clock)
       ++ flat_map line_text (lines_between so_far ++ l ∷ [])) (last ∙ ap end same)
 
--- FEW
+-- A TEXT OF AN EARLIER VERSION
 
-entries_few : (living : List LogEntry) → Each IsFewLine (map entry living) →
-    Each (λ l. (l.entry.sent ≤ 2 ^ 61) × (l.entry.received ≤ 2 ^ 61)) living
-entries_few [] h = tt
-entries_few (l ∷ living) h = (h.0, entries_few living h.1)
+-- no text that is written has its log in that form
+pub no_earlier : (whole so_far : StateFileModel) (made length : ℕ) (more : List StateLine)
+    (left : Option StateTextBytes) → AheadOf whole so_far (earlier_log made length) more left → ⊥
+no_earlier whole so_far made length more left a = none_follows (earlier_log made length) so_far refl
+    (can_follow whole so_far (earlier_log made length) more left a tt)
 
-log_few : (log : Option LogPosition) → Each IsFewLine (log_lines log) → IfSome log (λ l. IsFew l.log)
-log_few None h = tt
-log_few (Some saved) h = record { made = h.0; packets = entries_few saved.log.living h.1 }
-
-each_behind : (xs ys : List StateLine) → Each IsFewLine (xs ++ ys) → Each IsFewLine ys
-each_behind [] ys h = h
-each_behind (x ∷ xs) ys h = each_behind xs ys h.1
-
-pub few_of : (s : StateFileContents) → Each IsFewLine (lines_between s) → IfSome s.log (λ l. IsFew l.log)
-few_of s h = log_few s.log (each_behind (flat_map binding_lines s.state.list) (log_lines s.log) h)
+pub earlier_read : (text : StateTextBytes) (so_far : StateFileModel) (made length : ℕ)
+    (old new : Option StateTextBytes) → Taken text so_far old →
+    ((all : StateTextBytes) → old ≡ Some all → IsFirstLine (earlier_log made length) all new) → IsEarlier text
+earlier_read text so_far made length old new taken read =
+    let (rest, is, gone) = read taken.rest taken.remains in
+    let first = line_text (clock so_far.clock) in
+    let before : StateTextBytes = flat_map line_text (lines_between so_far) in (
+      first ++ before,
+      rest,
+      made,
+      length,
+      taken.is ∙ sym (append_assoc first before taken.rest)
+          ∙ ap (λ (l : StateTextBytes). (first ++ before) ++ l) is,
+    )

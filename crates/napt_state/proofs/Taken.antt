@@ -1,4 +1,4 @@
--- What is kept of a state that is taken up, and the endpoints of its bindings.
+-- The part of a state that a run takes up, and the endpoints of its bindings.
 use Rattle.std.proofs.lemmas.{Grind.common_steps, Bool.Decides.nat_tests}
 use Rattle.std.proofs.Common.{◌≡◌, ℕ, zero, suc, ◌==◌, ◌<◌, ◌≤◌, Bool, true, false, not, ◌&&◌, ◌||◌, cond, List, [], ◌∷◌, ◌++◌, ◌-◌, map, drop, get_or, length, refl, sym, ◌∙◌, ap, subst, arith, filter}
 use Rattle.std.proofs.Math.Seq.{drop-cons}
@@ -19,7 +19,7 @@ use Rattle.napt_binding.specs.Lists.{pair_eq}
 abbrev is_loose : Binding → Bool
 is_loose b = not b.row.fixed
 
--- what stays where each call answers and changes by a function, and the closure stays as it is
+-- `retain_mut` of a function, if each call returns and changes as the function says and leaves the closure as it is.
 pub retained : {S X : Type 0} (R : S → X → Bool → S → X → Type 0) (test : X → Bool) (change : X → X) (f : S) →
     ((x : X) (b : Bool) (t : S) (y : X) → R f x b t y → (t ≡ f) × (b ≡ test x) × (y ≡ change x)) → (s : S) → s ≡ f →
     (xs ys : List X) → RetainsInTurn R s xs ys → ys ≡ retain_mut test change xs
@@ -61,22 +61,6 @@ kept_loose rules old new is = subst (λ (s : State). (dynamic_bindings rules s �
     (with_redirects rules s ≡ with_redirects rules old))
     (sym is) (loose_twice rules old, under_same rules old)
 
--- FLOWS
-
-pub share_few : (flows : List Flow) → length flows < 2 → flows_share flows ≡ false
-share_few [] few = refl
-share_few (one ∷ []) few = refl
-share_few (one ∷ (other ∷ flows)) few = absurd (omega arith)
-
-or_true : (b : Bool) → (b || true) ≡ true
-or_true true = refl
-or_true false = refl
-
-pub share_dropped : (i : ℕ) (flows : List Flow) → flows_share (drop i flows) ≡ true → flows_share flows ≡ true
-share_dropped zero flows h = h
-share_dropped (suc i) [] h = h
-share_dropped (suc i) (one ∷ flows) h = rw (share_dropped i flows h) (or_true _)
-
 -- ENDPOINTS
 
 same_either : (a b : ℕ) → (a == b) ≡ (b == a)
@@ -93,7 +77,7 @@ protocol_either Udp Icmp = refl
 protocol_either Udp Tcp = refl
 protocol_either Udp Udp = refl
 
-cond_or : (a b : Bool) → cond a true b ≡ (a || b)
+pub cond_or : (a b : Bool) → cond a true b ≡ (a || b)
 cond_or true b = refl
 cond_or false b = refl
 
@@ -154,29 +138,3 @@ drop_before xs left d some within =
     let next : suc (left - 1) ≡ left = omega arith in
     drop-cons xs (left - 1) d (omega arith)
     ∙ ap (λ n. get_or xs (left - 1) d ∷ drop n xs) next
-
-module _ {S : Type 0} (flows : List Flow) (left : ℕ) (d : Flow) (all : HashSet (ℕ × ℕ) S) (some : 0 < left)
-    (within : left ≤ length flows) (are : AreRemotes (drop left flows) all) where
-  abbrev here : Flow
-  here = get_or flows (left - 1) d
-
-  -- a flow whose remote is there shares it
-  pub share_here : hash.contains pair_eq all (here.remote.address, here.remote.number) ≡ true →
-      flows_share flows ≡ true
-  share_here has = share_dropped (left - 1) flows (ap flows_share (drop_before flows left d some within)
-      ∙ ap (λ b. b || flows_share (drop left flows)) (sym (are here.remote) ∙ has))
-
-  pub share_not : flows_share (drop left flows) ≡ false →
-      hash.contains pair_eq all (here.remote.address, here.remote.number) ≡ false →
-      flows_share (drop (left - 1) flows) ≡ false
-  share_not none lacks = ap flows_share (drop_before flows left d some within)
-      ∙ ap (λ b. b || flows_share (drop left flows)) (sym (are here.remote) ∙ lacks) ∙ none
-
-  pub remotes_more : (new : HashSet (ℕ × ℕ) S) → ((k : ℕ × ℕ) → hash.contains pair_eq new k
-      ≡ cond (pair_eq (here.remote.address, here.remote.number) k) true (hash.contains pair_eq all k)) →
-      AreRemotes (drop (left - 1) flows) new
-  remotes_more new more = subst (λ (l : List Flow). AreRemotes l new) (sym (drop_before flows left d some within))
-      (λ remote. more (remote.address, remote.number)
-      ∙ cond_or (pair_eq (here.remote.address, here.remote.number) (remote.address, remote.number))
-      (hash.contains pair_eq all (remote.address, remote.number))
-      ∙ ap (λ b. is_flow_of remote here || b) (are remote))

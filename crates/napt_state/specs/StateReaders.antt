@@ -1,4 +1,4 @@
--- What is known of the bindings of a state while it is taken up.
+-- Relations between the bindings of a state and the sets that are used while it is taken up.
 use Rattle.std.specs.{Prelude.{◌≡◌, ◌==◌, ℕ, Bool, ◌&&◌, ◌||◌, List}, List.list_any, HashSet.HashSet}
 use Rattle.std.specs.HashSet as hash
 use denote.Enum.Bare.{sameb}
@@ -17,20 +17,20 @@ state_external_key row = record {
 abbrev pub state_inside_key : Row → EndpointKey
 state_inside_key row = record { address = row.inside.address; number = row.inside.number; protocol = row.protocol }
 
--- as the keys of a set are compared
+-- The comparison of the keys of a set.
 abbrev pub state_key_eq : EndpointKey → EndpointKey → Bool
 state_key_eq a b = (a.address == b.address) && ((a.number == b.number) && sameb the_type a.protocol b.protocol)
 
--- whether an endpoint of a row is among these
+-- Whether an endpoint of a row is among these.
 abbrev pub clash : Endpoints → Row → Bool
 clash all row = hash.contains state_key_eq all.external (state_external_key row)
     || hash.contains state_key_eq all.inside (state_inside_key row)
 
--- the endpoints are those of the bindings
+-- The endpoints are those of the bindings.
 abbrev pub AreOf : List Binding → Endpoints → Type 0
 AreOf list all = (row : Row) → clash all row ≡ clashes_with_any row list
 
--- the remotes of a set are those of the flows
+-- The remotes in a set are those of the flows.
 abbrev pub AreRemotes : {S : Type 0} → List Flow → HashSet (ℕ × ℕ) S → Type 0
 AreRemotes flows all = (remote : Endpoint) →
     hash.contains pair_eq all (remote.address, remote.number) ≡ list_any (is_flow_of remote) flows

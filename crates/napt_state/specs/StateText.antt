@@ -1,14 +1,16 @@
--- The text of a state: a line for its clock, one for each binding and behind it one for each of its flows, then one for
--- the log beside it and one for each of its entries, if it has a log, and one that says how many there are. A line has
--- words, with a space between them.
-use Rattle.std.specs.{Prelude.{ℕ, ◌^◌, ◌<◌, ◌≤◌, ◌==◌, Bool, true, false, List, [], ◌∷◌, ◌++◌, map, length, flat_map, codes, decimal, Option, Some, None, IfSome}, List.{slice_split, sum_by}, Option.option_map}
+-- The text of a state: a line for its clock, one for the log of the run if it had one, one for each binding, with the account
+-- of its entry in the log, and after it one for each of its flows, and one that says how many there are. A line has words,
+-- with a space between them.
+use Rattle.napt_state.specs.StateFiles.{StateFileModel}
+use Rattle.std.specs.{Prelude.{◌≡◌, ℕ, ◌^◌, ◌<◌, ◌≤◌, ◌==◌, Bool, true, false, List, [], ◌∷◌, ◌++◌, map, length, flat_map, codes, decimal, Option, Some, None, IfSome}, List.{slice_split, sum_by}}
 use Rattle.napt_wire.specs.declared.{Endpoint.Endpoint, Protocol.{Protocol, TheVariants.{Icmp, Tcp, Udp}}}
 use Rattle.napt_config.specs.Text.{address_text}
 use Rattle.napt_rules.specs.declared.{Flow.Flow, SessionMarks.SessionMarks, Row.Row}
 use Rattle.napt_rules.specs.Prelude.{Binding, Each}
-use Rattle.napt_account.specs.declared.log.{Entry.Entry, LogEntry.LogEntry}
-use Rattle.napt_state.specs.declared.state_contents.{StateFileContents.StateFileContents, LogPosition.LogPosition}
-use Rattle.napt_state.specs.declared.line.{LineCounts.LineCounts, StateLine.StateLine}
+use Rattle.napt_account.specs.declared.{account.Account.Account, log.{Entry.Entry, LogEntry.LogEntry}}
+use Rattle.napt_state.specs.declared.{saved_bindings.SavedBinding.SavedBinding}
+use Rattle.napt_state.specs.declared.line.{LineCounts.LineCounts, LogPosition.LogPosition, StateLine.StateLine}
+use Rattle.napt_state.specs.declared.saved_bindings.SavedBinding.TheVariants as bindings
 use Rattle.napt_state.specs.declared.line.StateLine.TheVariants as lines
 
 -- LINES
@@ -27,7 +29,7 @@ words_text [] = codes "\n"
 words_text (last ∷ []) = last ++ codes "\n"
 words_text (word ∷ (next ∷ more)) = word ++ codes " " ++ words_text (next ∷ more)
 
--- with a space behind each
+-- The words with a space after each.
 abbrev pub spaced : List StateTextBytes → StateTextBytes
 spaced all = flat_map (λ word. word ++ codes " ") all
 
@@ -41,7 +43,7 @@ abbrev pub kind_text : Bool → StateTextBytes
 kind_text true = codes "redirect"
 kind_text false = codes "binding"
 
--- an entry of a redirect has no end
+-- An entry of a redirect has no end.
 abbrev pub end_text : Option ℕ → StateTextBytes
 end_text (Some end) = decimal end
 end_text None = codes "never"
@@ -54,9 +56,20 @@ state_protocol_name Udp = codes "udp"
 abbrev pub endpoint_words : Endpoint → List StateTextBytes → List StateTextBytes
 endpoint_words endpoint more = address_text endpoint.address ∷ decimal endpoint.number ∷ more
 
+abbrev pub ends_words : Row → List StateTextBytes → List StateTextBytes
+ends_words row more =
+    state_protocol_name row.protocol ∷ endpoint_words row.inside (endpoint_words row.external more)
+
 abbrev pub row_words : Row → List StateTextBytes → List StateTextBytes
-row_words row more = kind_text row.fixed ∷ state_protocol_name row.protocol
-    ∷ endpoint_words row.inside (endpoint_words row.external more)
+row_words row more = kind_text row.fixed ∷ ends_words row more
+
+abbrev pub account_words : Account → List StateTextBytes
+account_words account = decimal account.number ∷ decimal account.made ∷ decimal account.sent ∷ decimal account.received
+    ∷ decimal account.last ∷ decimal account.last_sent ∷ []
+
+abbrev pub words_if : Option Account → List StateTextBytes
+words_if (Some account) = account_words account
+words_if None = []
 
 abbrev pub marks_words : SessionMarks → List StateTextBytes
 marks_words marks =
@@ -66,14 +79,21 @@ marks_words marks =
 abbrev pub clock_words : ℕ → List StateTextBytes
 clock_words clock = codes "clock" ∷ decimal clock ∷ []
 
-abbrev pub binding_words : Row → ℕ → List StateTextBytes
-binding_words row last = row_words row (decimal last ∷ [])
+abbrev pub binding_words : Row → ℕ → Option Account → List StateTextBytes
+binding_words row last account = row_words row (decimal last ∷ words_if account)
+
+abbrev pub held_words : Row → ℕ → List StateTextBytes
+held_words row end = codes "held" ∷ ends_words row (decimal end ∷ [])
 
 abbrev pub flow_words : Flow → List StateTextBytes
 flow_words flow = codes "flow" ∷ endpoint_words flow.remote (decimal flow.last ∷ marks_words flow.marks)
 
-abbrev pub log_words : ℕ → ℕ → List StateTextBytes
-log_words made length = codes "log" ∷ decimal made ∷ decimal length ∷ []
+abbrev pub log_words : LogPosition → List StateTextBytes
+log_words log = codes "log" ∷ decimal log.made ∷ decimal log.end.piece ∷ decimal log.end.length ∷ decimal log.end.row ∷ []
+
+-- in the form of earlier versions
+abbrev pub earlier_log_words : ℕ → ℕ → List StateTextBytes
+earlier_log_words made length = codes "log" ∷ decimal made ∷ decimal length ∷ []
 
 abbrev pub use_words : Entry → List StateTextBytes
 use_words entry = decimal entry.made ∷ end_text entry.end ∷ decimal entry.sent ∷ decimal entry.received
@@ -96,33 +116,41 @@ end_line_words counts =
 abbrev pub clock : ℕ → StateLine
 clock at = lines.Clock at
 
-abbrev pub binding : Row → ℕ → StateLine
-binding row last = lines.Binding row last
+abbrev pub log : LogPosition → StateLine
+log position = lines.Log position
+
+abbrev pub binding : Row → ℕ → Option Account → StateLine
+binding row last account = lines.Binding row last account
+
+abbrev pub held_line : Row → ℕ → StateLine
+held_line row end = lines.Held row end
 
 abbrev pub flow : Flow → StateLine
 flow one = lines.Flow one
 
-abbrev pub log : ℕ → ℕ → StateLine
-log made length = lines.Log made length
-
-abbrev pub entry : LogEntry → StateLine
-entry one = lines.Entry one
-
 abbrev pub end : LineCounts → StateLine
 end counts = lines.End counts
 
+abbrev pub earlier_log : ℕ → ℕ → StateLine
+earlier_log made length = lines.EarlierLog made length
+
+abbrev pub entry : LogEntry → StateLine
+entry one = lines.EarlierEntry one
+
 abbrev pub split_words : StateLine → List StateTextBytes
 split_words (lines.Clock clock) = clock_words clock
-split_words (lines.Binding row last) = binding_words row last
+split_words (lines.Log position) = log_words position
+split_words (lines.Binding row last account) = binding_words row last account
 split_words (lines.Flow flow) = flow_words flow
-split_words (lines.Log made length) = log_words made length
-split_words (lines.Entry listed) = entry_words listed
+split_words (lines.Held row end) = held_words row end
 split_words (lines.End counts) = end_line_words counts
+split_words (lines.EarlierLog made length) = earlier_log_words made length
+split_words (lines.EarlierEntry listed) = entry_words listed
 
 unfoldable pub line_text : StateLine → StateTextBytes
 line_text line = words_text (split_words line)
 
--- numbers that the types of the fields have room for, and so few entries and packets that a run can count on
+-- The numbers fit the types of the fields, and those of entries and packets are small enough for a run to go on.
 abbrev pub IsEndpointWord : Endpoint → Type 0
 IsEndpointWord endpoint = (endpoint.address < 2 ^ 32) × (endpoint.number < 2 ^ 16)
 
@@ -137,45 +165,57 @@ IsEntry listed = (listed.number < 2 ^ 64) × IsRowLine listed.entry.binding × (
     × IsEndLine listed.entry.end × (listed.entry.sent ≤ 2 ^ 61) × (listed.entry.received ≤ 2 ^ 61)
     × (listed.entry.last < 2 ^ 64) × (listed.entry.last_sent < 2 ^ 64)
 
+abbrev pub HasFewPackets : Account → Type 0
+HasFewPackets account = (account.sent ≤ 2 ^ 61) × (account.received ≤ 2 ^ 61)
+
+abbrev pub IsAccount : Account → Type 0
+IsAccount account = (account.number < 2 ^ 64) × (account.made < 2 ^ 64) × HasFewPackets account
+    × (account.last < 2 ^ 64) × (account.last_sent < 2 ^ 64)
+
 abbrev pub IsCounts : LineCounts → Type 0
 IsCounts counts = (counts.bindings < 2 ^ 64) × (counts.flows < 2 ^ 64) × IfSome counts.entries (λ many. many < 2 ^ 64)
 
 abbrev pub IsStateLine : StateLine → Type 0
 IsStateLine (lines.Clock clock) = clock < 2 ^ 64
-IsStateLine (lines.Binding row last) = IsRowLine row × (last < 2 ^ 64)
+IsStateLine (lines.Log log) =
+    (log.made ≤ 2 ^ 61) × (log.end.piece < 2 ^ 64) × (log.end.length < 2 ^ 64) × (log.end.row < 2 ^ 64)
+IsStateLine (lines.Binding row last account) = IsRowLine row × (last < 2 ^ 64) × IfSome account IsAccount
 IsStateLine (lines.Flow flow) = IsEndpointWord flow.remote × (flow.last < 2 ^ 64)
-IsStateLine (lines.Log made length) = (made ≤ 2 ^ 61) × (length < 2 ^ 64)
-IsStateLine (lines.Entry listed) = IsEntry listed
+IsStateLine (lines.Held row end) = (row.fixed ≡ false) × IsRowLine row × (end < 2 ^ 64)
 IsStateLine (lines.End counts) = IsCounts counts
+IsStateLine (lines.EarlierLog made length) = (made ≤ 2 ^ 61) × (length < 2 ^ 64)
+IsStateLine (lines.EarlierEntry listed) = IsEntry listed
 
 -- A STATE
 
-abbrev pub binding_lines : Binding → List StateLine
-binding_lines b = binding b.row b.last ∷ map flow b.flows
+abbrev pub live_lines : Binding → Option Account → List StateLine
+live_lines b account = binding b.row b.last account ∷ map flow b.flows
+
+abbrev pub binding_lines : SavedBinding → List StateLine
+binding_lines (bindings.Live b account) = live_lines b account
+binding_lines (bindings.Ended row end) = held_line row end ∷ []
 
 abbrev pub log_lines : Option LogPosition → List StateLine
-log_lines (Some saved) = log saved.log.made saved.length ∷ map entry saved.log.living
+log_lines (Some position) = log position ∷ []
 log_lines None = []
 
-abbrev pub flow_count : List Binding → ℕ
-flow_count list = sum_by (λ b. length b.flows) list
+abbrev pub saved_flows : SavedBinding → List Flow
+saved_flows (bindings.Live b account) = b.flows
+saved_flows (bindings.Ended row end) = []
 
-abbrev pub counts_of : StateFileContents → LineCounts
-counts_of saved = record {
-  bindings = length saved.state.list;
-  flows = flow_count saved.state.list;
-  entries = option_map (λ log. length log.log.living) saved.log;
-}
+abbrev pub flow_count : List SavedBinding → ℕ
+flow_count list = sum_by (λ b. length (saved_flows b)) list
 
--- all but the first and the last
-abbrev pub lines_between : StateFileContents → List StateLine
-lines_between saved = flat_map binding_lines saved.state.list ++ log_lines saved.log
+abbrev pub counts_of : StateFileModel → LineCounts
+counts_of saved =
+    record { bindings = length saved.bindings; flows = flow_count saved.bindings; entries = None }
 
-abbrev pub saved_lines : StateFileContents → List StateLine
-saved_lines saved = clock saved.state.clock ∷ (lines_between saved ++ end (counts_of saved) ∷ [])
+-- All lines but the first and the last.
+abbrev pub lines_between : StateFileModel → List StateLine
+lines_between saved = log_lines saved.log ++ flat_map binding_lines saved.bindings
 
-abbrev pub saved_text : StateFileContents → StateTextBytes
+abbrev pub saved_lines : StateFileModel → List StateLine
+saved_lines saved = clock saved.clock ∷ (lines_between saved ++ end (counts_of saved) ∷ [])
+
+abbrev pub saved_text : StateFileModel → StateTextBytes
 saved_text saved = flat_map line_text (saved_lines saved)
-
-abbrev pub IsSaved : StateFileContents → Type 0
-IsSaved saved = Each IsStateLine (saved_lines saved)

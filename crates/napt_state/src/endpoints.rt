@@ -24,7 +24,7 @@ pub(crate) struct Endpoints {
     inside: HashSet<EndpointKey>,
 }
 
-fn external_key(row: &Row) -> EndpointKey
+pub(crate) fn external_key(row: &Row) -> EndpointKey
     ensures { result ≡ state_external_key row.now }
 {
     EndpointKey {
@@ -45,7 +45,7 @@ fn inside_key(row: &Row) -> EndpointKey
 }
 
 impl Endpoints {
-    /// Those of no binding.
+    /// Returns the endpoints of no binding.
     pub(crate) fn new(alloc: Global) -> Endpoints
         ensures { (row : Bound) → clash result row ≡ false }
     {
@@ -62,7 +62,7 @@ impl Endpoints {
         self.external.contains(&external_key(row)) || self.inside.contains(&inside_key(row))
     }
 
-    /// Adds those of one binding more. Fails only if memory runs out.
+    /// Adds the endpoints of one more binding. Fails only if memory is refused.
     pub(crate) fn insert(&mut self, row: &Row) -> Result<(), AllocError>
         ensures { OnOk result ((other : Bound) →
             clash self.new other ≡ (clashes other row.now || clash self.old other)) }

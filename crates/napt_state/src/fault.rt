@@ -1,10 +1,10 @@
-//! Why the text of a state is refused.
+//! The reasons why the text of a state is refused.
 
 use std::alloc::{AllocError, AllocFailed};
 use std::error::Error;
 use std::{fmt, io};
 
-/// Why the text of a state is refused, and at which line.
+/// The reason why the text of a state is refused, and the line at which it is.
 #[derive(Debug, Drop)]
 pub struct StateFault {
     /// The number of the line, from 1.
@@ -17,28 +17,31 @@ pub struct StateFault {
 pub enum StateReason {
     /// A read failed.
     Unread(io::Error),
-    /// Memory ran out.
+    /// Memory was refused.
     Memory,
     /// The bytes are not UTF-8.
     NotUtf8,
     /// The text ends before its last line does.
     Torn,
-    /// A word is none that may stand there; with it, of its first 40 characters those that can be shown.
+    /// A word is not one that may be there; with it, those of its first 40 characters that can be printed.
     Word(StateField, String),
-    /// A line has more or fewer words than its first one tells.
+    /// A line has more or fewer words than its first word requires.
     WordCount,
-    /// A flow comes before each binding.
+    /// A flow comes before the first binding.
     NoBinding,
-    /// The last line counts other bindings, other flows or other entries.
+    /// The counts in the last line are not those of the bindings, flows or entries.
     Counts,
-    /// Something comes behind the last line.
+    /// Two accounts have one number, one has a number above that of the entries or was made after the clock, or a binding is
+    /// held that ends after it.
+    Accounts,
+    /// Something follows the last line.
     BehindEnd,
 }
 
 /// What a word of a line has to be.
 #[derive(Clone, Copy, Debug, PartialEq, Eq)]
 pub enum StateField {
-    /// The first word of a line: what the line is.
+    /// The first word of a line, which says what the line is.
     Kind,
     Protocol,
     /// An IPv4 address, such as `10.0.0.2`.
@@ -47,7 +50,7 @@ pub enum StateField {
     Number,
     /// A time in ns or a count, below 2^64.
     Count,
-    /// How many entries or packets a log has, at most 2^61.
+    /// The number of entries of a log or of packets, at most 2^61.
     Few,
     /// The end of an entry, in ns and below 2^128, or `never`.
     End,
@@ -106,6 +109,7 @@ impl fmt::Display for StateFault {
             StateReason::WordCount => f.write_str("too many words, or too few"),
             StateReason::NoBinding => f.write_str("a flow before each binding"),
             StateReason::Counts => f.write_str("counts of other lines"),
+            StateReason::Accounts => f.write_str("numbers that no log has"),
             StateReason::BehindEnd => f.write_str("behind the end"),
         }
     }

@@ -1,20 +1,22 @@
 //! The words of a line, as they are written and read.
-ghost use Rattle.std.specs.Prelude.{◌≡◌, ◌+◌, ◌++◌, ◌<◌, ◌≤◌, ◌^◌, ℕ, [], ◌∷◌, Bool, Option, Some, None, IfSome, OnOk, codes, decimal, slice_index_or, string_bytes};
+ghost use Rattle.std.specs.Prelude.{◌≡◌, ◌+◌, ◌++◌, ◌<◌, ◌≤◌, ◌^◌, ℕ, [], ◌∷◌, Bool, false, Option, Some, None, IfSome, OnOk, codes, decimal, slice_index_or, string_bytes};
+ghost use Rattle.napt_account.specs.declared.account.Account.{Account as Held};
 ghost use Rattle.napt_config.specs.Text.{address_text};
 ghost use Rattle.napt_wire.specs.declared.{Endpoint.Endpoint as End, Protocol.Protocol as Carried};
 ghost use Rattle.napt_rules.specs.declared.{SessionMarks.SessionMarks as Noted, Row.Row as Bound};
 ghost use Rattle.napt_state.specs.StateText as texts;
 
 use itoa::Buffer;
+use napt_account::Account;
 use napt_config::Address;
 use napt_rules::{Row, SessionMarks};
 use napt_wire::{Endpoint, Protocol};
 use std::alloc::AllocError;
 
-/// The most entries of a log, and the most packets of one, that a run can count on.
+/// The greatest number of entries of a log, and of packets of one, with which a run can go on.
 pub(crate) const MOST: u64 = 1 << 61;
 
-/// Appends a number in decimal. Fails only if memory runs out.
+/// Appends a number in decimal. Fails only if memory is refused.
 pub(crate) fn add_number(text: &mut String, number: u64) -> Result<(), AllocError>
     ensures { OnOk result (string_bytes text.new ≡ string_bytes text.old ++ decimal number) }
 {
@@ -22,7 +24,7 @@ pub(crate) fn add_number(text: &mut String, number: u64) -> Result<(), AllocErro
     text.push_str(digits.format(number))
 }
 
-/// Appends a number in decimal, with a space behind it. Fails only if memory runs out.
+/// Appends a number in decimal and a space. Fails only if memory is refused.
 pub(crate) fn add_spaced(text: &mut String, number: u64) -> Result<(), AllocError>
     ensures { OnOk result (string_bytes text.new
         ≡ string_bytes text.old ++ texts.spaced (decimal number ∷ [])) }
@@ -31,7 +33,7 @@ pub(crate) fn add_spaced(text: &mut String, number: u64) -> Result<(), AllocErro
     text.push_str(" ")
 }
 
-/// Appends an address, such as `10.0.0.2`. Fails only if memory runs out.
+/// Appends an address, such as `10.0.0.2`. Fails only if memory is refused.
 fn add_address(text: &mut String, address: u32) -> Result<(), AllocError>
     ensures { OnOk result (string_bytes text.new ≡ string_bytes text.old ++ address_text address) }
 {
@@ -46,7 +48,7 @@ fn add_address(text: &mut String, address: u32) -> Result<(), AllocError>
     Ok(())
 }
 
-/// Appends the two words of an endpoint, with a space behind each. Fails only if memory runs out.
+/// Appends the two words of an endpoint, with a space after each. Fails only if memory is refused.
 pub(crate) fn add_endpoint(text: &mut String, endpoint: Endpoint) -> Result<(), AllocError>
     ensures { OnOk result (string_bytes text.new ≡ string_bytes text.old
         ++ texts.spaced (texts.endpoint_words endpoint [])) }
@@ -56,19 +58,28 @@ pub(crate) fn add_endpoint(text: &mut String, endpoint: Endpoint) -> Result<(), 
     add_spaced(text, u64::from(endpoint.number))
 }
 
-/// Appends the words of a row, with a space behind each. Fails only if memory runs out.
+/// Appends the words of a row, with a space after each. Fails only if memory is refused.
 pub(crate) fn add_row(text: &mut String, row: &Row) -> Result<(), AllocError>
     ensures { OnOk result (string_bytes text.new ≡ string_bytes text.old
         ++ texts.spaced (texts.row_words row.now [])) }
 {
     text.push_str(if row.fixed { "redirect " } else { "binding " })?;
+    add_endpoints(text, row)
+}
+
+/// Appends the words of the protocol and of both endpoints of a row, with a space after each. Fails only if memory runs
+/// out.
+pub(crate) fn add_endpoints(text: &mut String, row: &Row) -> Result<(), AllocError>
+    ensures { OnOk result (string_bytes text.new ≡ string_bytes text.old
+        ++ texts.spaced (texts.ends_words row.now [])) }
+{
     text.push_str(protocol_name(row.protocol))?;
     text.push_str(" ")?;
     add_endpoint(text, row.inside)?;
     add_endpoint(text, row.external)
 }
 
-/// Appends when an entry ends, with a space behind it. Fails only if memory runs out.
+/// Appends the end of an entry and a space. Fails only if memory is refused.
 pub(crate) fn add_end(text: &mut String, end: Option<u128>) -> Result<(), AllocError>
     ensures { OnOk result (string_bytes text.new
         ≡ string_bytes text.old ++ texts.spaced (texts.end_text end ∷ [])) }
@@ -81,7 +92,7 @@ pub(crate) fn add_end(text: &mut String, end: Option<u128>) -> Result<(), AllocE
     text.push_str(" ")
 }
 
-/// Appends the words of marks, with a space before each. Fails only if memory runs out.
+/// Appends the words of marks, with a space before each. Fails only if memory is refused.
 pub(crate) fn add_marks(text: &mut String, marks: SessionMarks) -> Result<(), AllocError>
     ensures { OnOk result (string_bytes text.new ≡ string_bytes text.old
         ++ (codes " " ++ texts.state_flag marks.syn_out ++ codes " "
@@ -112,14 +123,14 @@ pub(crate) fn protocol_name(protocol: Protocol) -> &'static str
     }
 }
 
-/// A word of a line by its place, from 0; empty where there are not so many.
+/// Returns the word at an index of a line, from 0, or an empty one if there are fewer words.
 pub(crate) fn word(line: &str, place: usize) -> &str
     ensures { result.now ≡ slice_index_or (texts.words_in line.now) place [] }
 {
     line.split(' ').nth(place).unwrap_or("")
 }
 
-/// The number that the word at a place is.
+/// Returns the number in the word at an index.
 pub(crate) fn number(line: &str, place: usize) -> Option<u64>
     ensures read { (number : ℕ) → number < 2 ^ 64 →
         slice_index_or (texts.words_in line.now) place [] ≡ decimal number → result ≡ Some number }
@@ -128,7 +139,7 @@ pub(crate) fn number(line: &str, place: usize) -> Option<u64>
     word(line, place).parse::<u64>().ok()
 }
 
-/// The number that the word at a place is, if it is at most `MOST`.
+/// Returns the number in the word at an index, if it is at most `MOST`.
 pub(crate) fn count(line: &str, place: usize) -> Option<u64>
     ensures read { (number : ℕ) → number ≤ 2 ^ 61 →
         slice_index_or (texts.words_in line.now) place [] ≡ decimal number → result ≡ Some number }
@@ -137,7 +148,7 @@ pub(crate) fn count(line: &str, place: usize) -> Option<u64>
     number(line, place).filter(|number| *number <= MOST)
 }
 
-/// The end of an entry that the word at a place is.
+/// Returns the end of an entry in the word at an index.
 pub(crate) fn end(line: &str, place: usize) -> Option<Option<u128>>
     ensures { (end : Option ℕ) → texts.IsEndLine end →
         slice_index_or (texts.words_in line.now) place [] ≡ texts.end_text end → result ≡ Some end }
@@ -148,7 +159,7 @@ pub(crate) fn end(line: &str, place: usize) -> Option<Option<u128>>
     }
 }
 
-/// The endpoint that the words from a place on are.
+/// Returns the endpoint in the two words from an index on.
 pub(crate) fn endpoint(line: &str, place: usize) -> Option<Endpoint>
     requires { place < 100 }
     ensures { (endpoint : End) → texts.IsEndpointWord endpoint →
@@ -164,7 +175,7 @@ pub(crate) fn endpoint(line: &str, place: usize) -> Option<Endpoint>
     })
 }
 
-/// The protocol that the word at a place is.
+/// Returns the protocol in the word at an index.
 pub(crate) fn protocol(line: &str, place: usize) -> Option<Protocol>
     ensures { (protocol : Carried) →
         slice_index_or (texts.words_in line.now) place [] ≡ texts.state_protocol_name protocol →
@@ -191,7 +202,7 @@ pub(crate) fn is_fixed(line: &str, place: usize) -> Option<bool>
     }
 }
 
-/// The row that the six words from a place on are.
+/// Returns the row in the six words from an index on.
 pub(crate) fn row(line: &str, place: usize) -> Option<Row>
     requires { place < 90 }
     ensures { (row : Bound) → texts.IsRowLine row →
@@ -213,6 +224,50 @@ pub(crate) fn row(line: &str, place: usize) -> Option<Row>
     })
 }
 
+/// The row, of no redirect, whose protocol and endpoints are the five words from a place on.
+pub(crate) fn endpoints(line: &str, place: usize) -> Option<Row>
+    requires { place < 91 }
+    ensures { (row : Bound) → row.fixed ≡ false → texts.IsRowLine row →
+        slice_index_or (texts.words_in line.now) place []
+        ≡ texts.state_protocol_name row.protocol →
+        slice_index_or (texts.words_in line.now) (place + 1) [] ≡ address_text row.inside.address →
+        slice_index_or (texts.words_in line.now) (place + 2) [] ≡ decimal row.inside.number →
+        slice_index_or (texts.words_in line.now) (place + 3) []
+        ≡ address_text row.external.address →
+        slice_index_or (texts.words_in line.now) (place + 4) [] ≡ decimal row.external.number →
+        result ≡ Some row }
+{
+    Some(Row {
+        fixed: false,
+        protocol: protocol(line, place)?,
+        inside: endpoint(line, place + 1)?,
+        external: endpoint(line, place + 3)?,
+    })
+}
+
+/// The account that the six words from a place on are.
+pub(crate) fn account(line: &str, place: usize) -> Option<Account>
+    requires { place < 90 }
+    ensures read { (account : Held) → texts.IsAccount account →
+        slice_index_or (texts.words_in line.now) place [] ≡ decimal account.number →
+        slice_index_or (texts.words_in line.now) (place + 1) [] ≡ decimal account.made →
+        slice_index_or (texts.words_in line.now) (place + 2) [] ≡ decimal account.sent →
+        slice_index_or (texts.words_in line.now) (place + 3) [] ≡ decimal account.received →
+        slice_index_or (texts.words_in line.now) (place + 4) [] ≡ decimal account.last →
+        slice_index_or (texts.words_in line.now) (place + 5) [] ≡ decimal account.last_sent →
+        result ≡ Some account }
+    ensures none { slice_index_or (texts.words_in line.now) place [] ≡ [] → result ≡ None }
+{
+    Some(Account {
+        number: number(line, place)?,
+        made: number(line, place + 1)?,
+        sent: count(line, place + 2)?,
+        received: count(line, place + 3)?,
+        last: number(line, place + 4)?,
+        last_sent: number(line, place + 5)?,
+    })
+}
+
 fn flag(line: &str, place: usize) -> Option<bool>
     ensures { (is_set : Bool) →
         slice_index_or (texts.words_in line.now) place [] ≡ texts.state_flag is_set →
@@ -225,7 +280,7 @@ fn flag(line: &str, place: usize) -> Option<bool>
     }
 }
 
-/// The marks that the five words from a place on are.
+/// Returns the marks in the five words from an index on.
 pub(crate) fn marks(line: &str, place: usize) -> Option<SessionMarks>
     requires { place < 100 }
     ensures { (marks : Noted) →

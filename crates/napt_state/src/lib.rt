@@ -1,20 +1,23 @@
-//! The text of a state, from which a run goes on: entries, each a line, which are written and read one by one.
+//! The text of a state, from which a run goes on. It is written and read line by line.
 //!
-//! `specs/StateText` defines the text to its last character and what entries say together, `napt_rules` what a state is.
+//! `specs/StateText` defines the text to its last character and the meaning of its lines; `napt_rules` defines a state.
 #![tactic(auto)]
 
 mod endpoints;
 mod fault;
 mod fields;
 mod line;
+mod liveness;
+mod saved_bindings;
 mod state_checks;
 mod state_contents;
-mod state_reader;
 mod state_writer;
 mod text;
 mod wrong_words;
 
 pub use fault::{StateFault, StateField, StateReason};
-pub use state_contents::{LogPosition, StateFileContents};
-pub use state_reader::take_up;
+pub use line::{LogEnd, LogPosition};
+pub use saved_bindings::SavedBinding;
+pub use state_checks::first_misfit;
+pub use state_contents::{StateFileContents, TakenState, ended_bindings_stay_ended};
 pub use text::{read_state, write_state};

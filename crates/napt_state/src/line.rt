@@ -1,14 +1,13 @@
-//! Entries of a state, as lines of its text.
-ghost use Rattle.std.specs.Prelude.{◌≡◌, ◌++◌, ℕ, Some, IfSome, OnOk, codes, string_bytes};
-ghost use Rattle.napt_account.specs.declared.log.LogEntry.{LogEntry as Logged};
+//! The lines of a state's text.
+ghost use Rattle.std.specs.Prelude.{◌≡◌, ◌++◌, [], ◌∷◌, ℕ, Option, Some, OnOk, codes, decimal, string_bytes};
+ghost use Rattle.napt_account.specs.declared.{account.Account.{Account as Held}, log.LogEntry.{LogEntry as Logged}};
 ghost use Rattle.napt_rules.specs.declared.{Flow.Flow as Used, Row.Row as Bound};
-ghost use Rattle.napt_state.specs.declared.line.LineCounts.{LineCounts as Counted};
-ghost use Rattle.napt_state.specs.StateContents.{IsFewLine};
+ghost use Rattle.napt_state.specs.declared.line.{LineCounts.{LineCounts as Counted}, LogPosition.{LogPosition as Placed}};
 ghost use Rattle.napt_state.specs.StateText as texts;
 ghost use Rattle.napt_state.specs.declared.line.StateLine.{StateLine as Told};
 
 use crate::fields;
-use napt_account::{Entry, LogEntry};
+use napt_account::{Account, Entry, LogEntry};
 use napt_rules::{Flow, Row};
 use std::alloc::AllocError;
 
@@ -17,29 +16,51 @@ use std::alloc::AllocError;
 pub(crate) enum StateLine {
     /// The clock of the state, in ns: the first line.
     Clock(u64),
-    /// A binding, and when it was last used, in ns. Its flows come behind it.
-    Binding(Row, u64),
+    /// The log of the run, if it had one: the second line.
+    Log(LogPosition),
+    /// A binding, when it was last used, in ns, and the account of its entry in the log, if it has one. Its flows follow it.
+    Binding(Row, u64, Option<Account>),
     /// A flow of the binding before it.
     Flow(Flow),
-    /// How many entries the log has so far, and how many bytes its file had. Its entries come behind it.
-    Log(u64, u64),
-    /// An entry of the log that has not ended.
-    Entry(LogEntry),
+    /// A binding that has ended, and when, in ns. Its external number is held.
+    Held(Row, u64),
     /// The last line.
     End(LineCounts),
+    /// How many entries a log has, and how many bytes its file has, in the form of earlier versions. Its entries follow it.
+    EarlierLog(u64, u64),
+    /// An entry of a log in that form.
+    EarlierEntry(LogEntry),
 }
 
-/// How many lines of each kind a state has.
+/// How many entries the log of a state has so far, and where its text ends.
+#[derive(Clone, Copy, Debug, PartialEq, Eq)]
+pub struct LogPosition {
+    pub made: u64,
+    pub end: LogEnd,
+}
+
+/// Where the text of a log ends. All is 0 if it went to no file.
+#[derive(Clone, Copy, Debug, Default, PartialEq, Eq)]
+pub struct LogEnd {
+    /// The number of its last piece; 0 if it is one file.
+    pub piece: u64,
+    /// The length in bytes of the file, or of that piece.
+    pub length: u64,
+    /// The hash of its last row (`napt_log_text::row_hash`).
+    pub row: u64,
+}
+
+/// How many bindings, held ones too, and how many flows a state has.
 #[derive(Clone, Copy, Debug, PartialEq, Eq)]
 pub(crate) struct LineCounts {
     pub bindings: u64,
     pub flows: u64,
-    /// `None` if it has no log.
+    /// How many lines of entries there are, in the form of earlier versions, if the state has a log.
     pub entries: Option<u64>,
 }
 
 impl StateLine {
-    /// Appends the line. Fails only if memory runs out.
+    /// Appends the line. Fails only if memory is refused.
     #[tactic(auto, unfolding(crate::specs::StateText::line_text))]
     pub(crate) fn add_to(&self, text: &mut String) -> Result<(), AllocError>
         ensures { OnOk result (string_bytes text.new
@@ -47,28 +68,30 @@ impl StateLine {
     {
         match self {
             StateLine::Clock(clock) => add_clock(*clock, text),
-            StateLine::Binding(row, last) => add_binding(row, *last, text),
+            StateLine::Log(position) => add_log(*position, text),
+            StateLine::Binding(row, last, account) => add_binding(row, *last, *account, text),
             StateLine::Flow(flow) => add_flow(flow, text),
-            StateLine::Log(made, length) => add_log(*made, *length, text),
-            StateLine::Entry(listed) => add_entry(listed, text),
+            StateLine::Held(row, end) => add_held(row, *end, text),
             StateLine::End(counts) => add_end(*counts, text),
+            StateLine::EarlierLog(made, length) => add_earlier_log(*made, *length, text),
+            StateLine::EarlierEntry(numbered) => add_entry(numbered, text),
         }
     }
 
-    /// Reads a line without the line feed at its end; `None` if it is none of a state.
+    /// Reads a line without the line feed at its end, or returns `None` if it is not one of a state.
     pub(crate) fn read(line: &str) -> Option<StateLine>
         ensures read { (told : Told) → texts.IsStateLine told →
             texts.line_text told ≡ line.now ++ codes "\n" → result ≡ Some told }
-        ensures few { IfSome result IsFewLine }
     {
         match fields::word(line, 0) {
             "clock" => read_clock(line),
+            "log" => read_log(line),
             "binding" => read_binding(line),
             "redirect" => read_binding(line),
             "flow" => read_flow(line),
-            "log" => read_log(line),
-            "entry" => read_entry(line),
+            "held" => read_held(line),
             "end" => read_end(line),
+            "entry" => read_entry(line),
             _ => None,
         }
     }
@@ -84,12 +107,68 @@ fn add_clock(clock: u64, text: &mut String) -> Result<(), AllocError>
     Ok(())
 }
 
-fn add_binding(row: &Row, last: u64, text: &mut String) -> Result<(), AllocError>
+fn add_binding(
+    row: &Row,
+    last: u64,
+    account: Option<Account>,
+    text: &mut String,
+) -> Result<(), AllocError>
     ensures { OnOk result (string_bytes text.new
-        ≡ string_bytes text.old ++ texts.words_text (texts.binding_words row.now last)) }
+        ≡ string_bytes text.old ++ texts.words_text (texts.binding_words row.now last account)) }
+{
+    match account {
+        Some(account) => add_accounted(row, last, account, text),
+        None => add_unaccounted(row, last, text),
+    }
+}
+
+fn add_unaccounted(row: &Row, last: u64, text: &mut String) -> Result<(), AllocError>
+    ensures { OnOk result (string_bytes text.new ≡ string_bytes text.old
+        ++ texts.words_text (texts.row_words row.now (decimal last ∷ []))) }
 {
     fields::add_row(text, row)?;
     fields::add_number(text, last)?;
+    text.push_str("\n")?;
+    Ok(())
+}
+
+fn add_accounted(
+    row: &Row,
+    last: u64,
+    account: Account,
+    text: &mut String,
+) -> Result<(), AllocError>
+    ensures { OnOk result (string_bytes text.new ≡ string_bytes text.old
+        ++ texts.words_text (texts.row_words row.now (decimal last ∷ texts.account_words account))) }
+{
+    fields::add_row(text, row)?;
+    fields::add_spaced(text, last)?;
+    add_account(account, text)?;
+    Ok(())
+}
+
+/// Appends the account of a binding: the end of a line.
+fn add_account(account: Account, text: &mut String) -> Result<(), AllocError>
+    ensures { OnOk result (string_bytes text.new
+        ≡ string_bytes text.old ++ texts.words_text (texts.account_words account)) }
+{
+    fields::add_spaced(text, account.number)?;
+    fields::add_spaced(text, account.made)?;
+    fields::add_spaced(text, account.sent)?;
+    fields::add_spaced(text, account.received)?;
+    fields::add_spaced(text, account.last)?;
+    fields::add_number(text, account.last_sent)?;
+    text.push_str("\n")?;
+    Ok(())
+}
+
+fn add_held(row: &Row, end: u64, text: &mut String) -> Result<(), AllocError>
+    ensures { OnOk result (string_bytes text.new
+        ≡ string_bytes text.old ++ texts.words_text (texts.held_words row.now end)) }
+{
+    text.push_str("held ")?;
+    fields::add_endpoints(text, row)?;
+    fields::add_number(text, end)?;
     text.push_str("\n")?;
     Ok(())
 }
@@ -106,9 +185,22 @@ fn add_flow(flow: &Flow, text: &mut String) -> Result<(), AllocError>
     Ok(())
 }
 
-fn add_log(made: u64, length: u64, text: &mut String) -> Result<(), AllocError>
+fn add_log(position: LogPosition, text: &mut String) -> Result<(), AllocError>
     ensures { OnOk result (string_bytes text.new
-        ≡ string_bytes text.old ++ texts.words_text (texts.log_words made length)) }
+        ≡ string_bytes text.old ++ texts.words_text (texts.log_words position)) }
+{
+    text.push_str("log ")?;
+    fields::add_spaced(text, position.made)?;
+    fields::add_spaced(text, position.end.piece)?;
+    fields::add_spaced(text, position.end.length)?;
+    fields::add_number(text, position.end.row)?;
+    text.push_str("\n")?;
+    Ok(())
+}
+
+fn add_earlier_log(made: u64, length: u64, text: &mut String) -> Result<(), AllocError>
+    ensures { OnOk result (string_bytes text.new
+        ≡ string_bytes text.old ++ texts.words_text (texts.earlier_log_words made length)) }
 {
     text.push_str("log ")?;
     fields::add_spaced(text, made)?;
@@ -117,18 +209,18 @@ fn add_log(made: u64, length: u64, text: &mut String) -> Result<(), AllocError>
     Ok(())
 }
 
-fn add_entry(listed: &LogEntry, text: &mut String) -> Result<(), AllocError>
+fn add_entry(numbered: &LogEntry, text: &mut String) -> Result<(), AllocError>
     ensures { OnOk result (string_bytes text.new
-        ≡ string_bytes text.old ++ texts.words_text (texts.entry_words listed.now)) }
+        ≡ string_bytes text.old ++ texts.words_text (texts.entry_words numbered.now)) }
 {
     text.push_str("entry ")?;
-    fields::add_spaced(text, listed.number)?;
-    fields::add_row(text, &listed.entry.binding)?;
-    add_use(&listed.entry, text)?;
+    fields::add_spaced(text, numbered.number)?;
+    fields::add_row(text, &numbered.entry.binding)?;
+    add_use(&numbered.entry, text)?;
     Ok(())
 }
 
-/// Appends how long the binding of an entry lives and what went through it: the end of a line.
+/// Appends the times and the counts of an entry: the end of a line.
 fn add_use(entry: &Entry, text: &mut String) -> Result<(), AllocError>
     ensures { OnOk result (string_bytes text.new
         ≡ string_bytes text.old ++ texts.words_text (texts.use_words entry.now)) }
@@ -158,28 +250,39 @@ fn add_end(counts: LineCounts, text: &mut String) -> Result<(), AllocError>
     Ok(())
 }
 
-/// Reads the clock of a line that begins with its word.
+/// Reads the clock in a line that begins with its word.
 fn read_clock(line: &str) -> Option<StateLine>
-    ensures few { IfSome result IsFewLine }
     ensures read { (clock : ℕ) → texts.IsStateLine (texts.clock clock) →
         texts.words_in line.now ≡ texts.clock_words clock → result ≡ Some (texts.clock clock) }
 {
     Some(StateLine::Clock(fields::number(line, 1)?))
 }
 
-/// Reads a binding of a line that begins with its word or that of a redirect.
+/// Reads the binding in a line that begins with its word or that of a redirect.
 fn read_binding(line: &str) -> Option<StateLine>
-    ensures few { IfSome result IsFewLine }
-    ensures read { (row : Bound) (last : ℕ) → texts.IsStateLine (texts.binding row last) →
-        texts.words_in line.now ≡ texts.binding_words row last →
-        result ≡ Some (texts.binding row last) }
+    ensures read { (row : Bound) (last : ℕ) (account : Option Held) →
+        texts.IsStateLine (texts.binding row last account) →
+        texts.words_in line.now ≡ texts.binding_words row last account →
+        result ≡ Some (texts.binding row last account) }
 {
-    Some(StateLine::Binding(fields::row(line, 0)?, fields::number(line, 6)?))
+    Some(StateLine::Binding(
+        fields::row(line, 0)?,
+        fields::number(line, 6)?,
+        fields::account(line, 7),
+    ))
 }
 
-/// Reads a flow of a line that begins with its word.
+/// Reads a binding that has ended of a line that begins with the word for it.
+fn read_held(line: &str) -> Option<StateLine>
+    ensures read { (row : Bound) (end : ℕ) → texts.IsStateLine (texts.held_line row end) →
+        texts.words_in line.now ≡ texts.held_words row end →
+        result ≡ Some (texts.held_line row end) }
+{
+    Some(StateLine::Held(fields::endpoints(line, 1)?, fields::number(line, 6)?))
+}
+
+/// Reads the flow in a line that begins with its word.
 fn read_flow(line: &str) -> Option<StateLine>
-    ensures few { IfSome result IsFewLine }
     ensures read { (flow : Used) → texts.IsStateLine (texts.flow flow) →
         texts.words_in line.now ≡ texts.flow_words flow → result ≡ Some (texts.flow flow) }
 {
@@ -190,23 +293,36 @@ fn read_flow(line: &str) -> Option<StateLine>
     }))
 }
 
-/// Reads the numbers of a log of a line that begins with its word.
+/// Reads the numbers of a log of a line that begins with its word: four, or the two of earlier versions.
 fn read_log(line: &str) -> Option<StateLine>
-    ensures few { IfSome result IsFewLine }
-    ensures read { (made length : ℕ) → texts.IsStateLine (texts.log made length) →
-        texts.words_in line.now ≡ texts.log_words made length →
-        result ≡ Some (texts.log made length) }
+    ensures read { (position : Placed) → texts.IsStateLine (texts.log position) →
+        texts.words_in line.now ≡ texts.log_words position →
+        result ≡ Some (texts.log position) }
+    ensures earlier { (made length : ℕ) → texts.IsStateLine (texts.earlier_log made length) →
+        texts.words_in line.now ≡ texts.earlier_log_words made length →
+        result ≡ Some (texts.earlier_log made length) }
 {
-    Some(StateLine::Log(fields::count(line, 1)?, fields::number(line, 2)?))
+    let made = fields::count(line, 1)?;
+    let second = fields::number(line, 2)?;
+    let Some(length) = fields::number(line, 3) else {
+        return Some(StateLine::EarlierLog(made, second));
+    };
+    let row = fields::number(line, 4)?;
+    let end = LogEnd {
+        piece: second,
+        length,
+        row,
+    };
+    Some(StateLine::Log(LogPosition { made, end }))
 }
 
-/// Reads an entry of a line that begins with its word.
+/// Reads the entry in a line that begins with its word.
 fn read_entry(line: &str) -> Option<StateLine>
-    ensures few { IfSome result IsFewLine }
-    ensures read { (listed : Logged) → texts.IsStateLine (texts.entry listed) →
-        texts.words_in line.now ≡ texts.entry_words listed → result ≡ Some (texts.entry listed) }
+    ensures read { (numbered : Logged) → texts.IsStateLine (texts.entry numbered) →
+        texts.words_in line.now ≡ texts.entry_words numbered →
+        result ≡ Some (texts.entry numbered) }
 {
-    Some(StateLine::Entry(LogEntry {
+    Some(StateLine::EarlierEntry(LogEntry {
         number: fields::number(line, 1)?,
         entry: Entry {
             binding: fields::row(line, 2)?,
@@ -220,9 +336,8 @@ fn read_entry(line: &str) -> Option<StateLine>
     }))
 }
 
-/// Reads the counts of a line that begins with their word.
+/// Reads the counts in a line that begins with their word.
 fn read_end(line: &str) -> Option<StateLine>
-    ensures few { IfSome result IsFewLine }
     ensures read { (counts : Counted) → texts.IsStateLine (texts.end counts) →
         texts.words_in line.now ≡ texts.end_line_words counts → result ≡ Some (texts.end counts) }
 {

@@ -1,18 +1,21 @@
 //! Whether the bindings of a state fit a configuration.
-ghost use Rattle.std.specs.{Prelude.{◌≡◌, ℕ, List, nat_lt, IfOk}, List.list_any};
+ghost use Rattle.std.specs.{Prelude.{◌≡◌, ◌&&◌, not, List, nat_lt, IfOk}, List.list_any};
 ghost use Rattle.napt_rules.specs.{Bindings.Binding as Bound, Opening.opening};
+ghost use Rattle.napt_rules.specs.Life as life;
 ghost use Rattle.napt_rules.specs.Misfits as taking;
 ghost use Rattle.napt_state.specs.StateReaders.{AreOf};
 
 use crate::endpoints::Endpoints;
+use crate::liveness::{is_live, stands};
 use napt_account::redirected;
+use napt_binding::IdleTimers;
 use napt_config::Config;
 use napt_rules::{Flow, Misfit, Row, State, StateBinding};
 use napt_wire::{Endpoint, Protocol};
 use std::alloc::{AllocError, Global};
 use std::collections::HashSet;
 
-/// The endpoints of the configuration's redirects.
+/// Returns the endpoints of the configuration's redirects.
 fn redirect_endpoints(alloc: Global, config: &Config) -> Result<Endpoints, AllocError>
     ensures { IfOk result (AreOf (opening config.now)) }
 {
@@ -26,7 +29,7 @@ fn redirect_endpoints(alloc: Global, config: &Config) -> Result<Endpoints, Alloc
     Ok(endpoints)
 }
 
-/// Whether a number of the protocol can be: one of UDP or TCP is not 0.
+/// Whether a number is possible for the protocol: 0 is none of UDP or TCP.
 fn is_number(protocol: Protocol, number: u16) -> bool
     ensures { result ≡ taking.is_number protocol number }
 {
@@ -36,7 +39,7 @@ fn is_number(protocol: Protocol, number: u16) -> bool
     }
 }
 
-/// Whether the numbers of a row can be, and the external one is of the host's block, where the host has one.
+/// Whether the numbers of a row are possible, and the external one is in the host's block, if the host has one.
 fn is_numbered(config: &Config, row: &Row) -> bool
     ensures { result ≡ taking.is_numbered config.now row.now }
 {
@@ -55,16 +58,25 @@ fn has_later(clock: u64, flows: &[Flow]) -> bool
     flows.iter().any(|flow| clock < flow.last)
 }
 
-/// Whether the binding, or one of its flows, was used after the clock.
-fn is_used_after(clock: u64, binding: &StateBinding) -> bool
-    ensures { result ≡ taking.is_used_after clock binding.now }
+/// Whether the binding, or one of its flows, was used after the clock. Such a flow is live.
+fn is_used_after(config: &Config, clock: u64, binding: &StateBinding) -> bool
+    ensures { result ≡ taking.is_used_after clock (life.with_live_flows config.now.timers
+        (life.hold_ago config.now.timers clock) binding.now) }
 {
+    IdleTimers::from_config(config).are_within_limits();
     clock < binding.last || has_later(clock, &binding.flows)
 }
 
-/// Whether two of the flows are of one remote. Fails only if memory runs out.
-fn flows_share(alloc: Global, flows: &[Flow]) -> Result<bool, AllocError>
-    ensures { IfOk result (λ share. share ≡ taking.flows_share flows.now) }
+/// Whether two of the flows of a binding that stand at a time, in ns, are of one remote. Fails only if memory runs out.
+fn flows_share(
+    alloc: Global,
+    config: &Config,
+    flows: &[Flow],
+    protocol: Protocol,
+    now: u64,
+) -> Result<bool, AllocError>
+    ensures { IfOk result (λ share.
+        share ≡ taking.flows_share (life.live_flows config.now.timers now protocol flows.now)) }
 {
     if flows.len() < 2 {
         return Ok(false);
@@ -73,15 +85,25 @@ fn flows_share(alloc: Global, flows: &[Flow]) -> Result<bool, AllocError>
     let mut left = flows.len();
     while left > 0 {
         left -= 1;
-        let remote = flows[left].remote;
-        if !remotes.insert((remote.address, remote.number))? {
-            return Ok(true);
+        let flow = flows[left];
+        if stands(&flow, protocol, config, now) {
+            let remote = flow.remote;
+            if !remotes.insert((remote.address, remote.number))? {
+                return Ok(true);
+            }
         }
     }
     Ok(false)
 }
 
-/// The first reason against a binding of a state, with the endpoints of the redirects and of the bindings behind it.
+/// The time, in ns, at which a binding of a state was live that is live or held at its clock.
+fn held_at(config: &Config, clock: u64) -> u64
+    ensures { result ≡ life.hold_ago config.now.timers clock }
+{
+    IdleTimers::from_config(config).hold_ago(clock)
+}
+
+/// Returns the first reason against a binding of a state, by the endpoints of the redirects and of later bindings.
 fn misfit_of(
     alloc: Global,
     config: &Config,
@@ -92,7 +114,9 @@ fn misfit_of(
 ) -> Result<Option<Misfit>, AllocError>
     ensures { (rest : List Bound) → AreOf (opening config.now) redirects.now →
         AreOf rest behind.now →
-        IfOk result (λ misfit. misfit ≡ taking.misfit_of config.now clock binding.now rest) }
+        IfOk result (λ misfit. misfit ≡ taking.misfit_of config.now clock
+        (life.with_live_flows config.now.timers (life.hold_ago config.now.timers clock) binding.now)
+        rest) }
 {
     let row = &binding.row;
     let host = row.inside.address;
@@ -102,9 +126,15 @@ fn misfit_of(
         Some(Misfit::NotPaired)
     } else if !is_numbered(config, row) {
         Some(Misfit::NotItsNumber)
-    } else if is_used_after(clock, binding) {
+    } else if is_used_after(config, clock, binding) {
         Some(Misfit::UsedLater)
-    } else if flows_share(alloc, &binding.flows)? {
+    } else if flows_share(
+        alloc,
+        config,
+        &binding.flows,
+        row.protocol,
+        held_at(config, clock),
+    )? {
         Some(Misfit::FlowsShare)
     } else if redirects.clash(row) {
         Some(Misfit::Redirected)
@@ -115,7 +145,7 @@ fn misfit_of(
     })
 }
 
-/// The reason against a binding, else what was found behind it.
+/// Returns the reason against a binding, or else what was found for the later ones.
 fn misfit_or(
     binding: &StateBinding,
     misfit: Option<Misfit>,
@@ -129,27 +159,28 @@ fn misfit_or(
     }
 }
 
-/// The first of the bindings of a state that does not fit, and why. Fails only if memory runs out.
-pub(crate) fn first_misfit(
+/// The first of the bindings of a state that go on and do not fit, and why. Fails only if memory runs out.
+pub fn first_misfit(
     alloc: Global,
     config: &Config,
     state: &State,
 ) -> Result<Option<(Row, Misfit)>, AllocError>
-    ensures { IfOk result (λ found.
-        found ≡ taking.misfit_in config.now state.now.clock state.now.list) }
+    ensures { IfOk result (λ found. found ≡ taking.misfit config.now state.now) }
 {
     first_misfit_in(alloc, config, state.clock, &state.list)
 }
 
-/// The same of bindings under the clock of a state.
+/// Returns the first of these bindings that go on at a clock and do not fit, and why.
 fn first_misfit_in(
     alloc: Global,
     config: &Config,
     clock: u64,
     list: &[StateBinding],
 ) -> Result<Option<(Row, Misfit)>, AllocError>
-    ensures { IfOk result (λ found. found ≡ taking.misfit_in config.now clock list.now) }
+    ensures { IfOk result (λ found. found ≡ taking.misfit config.now
+        (record { clock = clock; list = list.now })) }
 {
+    let held = held_at(config, clock);
     let redirects = redirect_endpoints(alloc, config)?;
     let mut behind = Endpoints::new(alloc);
     let mut found = None;
@@ -157,9 +188,19 @@ fn first_misfit_in(
     while left > 0 {
         left -= 1;
         let binding = &list[left];
-        let misfit = misfit_of(alloc, config, clock, binding, &redirects, &behind)?;
-        found = misfit_or(binding, misfit, found);
-        behind.insert(&binding.row)?;
+        if goes_on(binding, config, held) {
+            let misfit = misfit_of(alloc, config, clock, binding, &redirects, &behind)?;
+            found = misfit_or(binding, misfit, found);
+            behind.insert(&binding.row)?;
+        }
     }
     Ok(found)
+}
+
+/// Whether a binding is no redirect and is live at a time, in ns.
+fn goes_on(binding: &StateBinding, config: &Config, now: u64) -> bool
+    ensures { result ≡ (not binding.now.row.fixed
+        && life.is_live config.now.timers now binding.now) }
+{
+    !binding.row.fixed && is_live(binding, config, now)
 }

@@ -1,96 +1,169 @@
-//! What the text of a state says.
+//! The contents of the text of a state.
 
-ghost use Rattle.std.specs.{Prelude.{◌≡◌, ◌++◌, ◌∷◌, [], true, false, Ok, IfOk, IsOkAnd}, Option.option_copied};
+ghost use Rattle.std.specs.Prelude.{◌≡◌, true, false, Ok, IfOk};
+ghost use Rattle.napt_state.specs.Saved as saved;
 ghost use Rattle.napt_state.specs.StateContents as said;
 ghost use Rattle.napt_state.specs.StateText as texts;
 
-use crate::line::{LineCounts, StateLine};
+use crate::line::{LineCounts, LogPosition, StateLine};
+use crate::saved_bindings::{SavedBinding, ended_binding, made_so_far};
+use crate::state_checks::first_misfit;
 use napt_account::SavedLogState;
-use napt_rules::{Flow, State, StateBinding};
+use napt_config::Config;
+use napt_rules::{Flow, Misfit, Row, State, StateBinding};
 use std::alloc::{AllocError, Global};
+use std::marker::Model;
 
-/// The log of a run, as it was left beside a state.
-#[derive(Drop)]
-pub struct LogPosition {
-    pub log: SavedLogState,
-    /// How many bytes its file had; 0 if it went to none.
-    pub length: u64,
-}
-
-/// What a run left: the state, and its log if it had one.
+/// What a run leaves in the file of its state, from which another run goes on.
 #[derive(Drop)]
 pub struct StateFileContents {
-    pub state: State,
+    /// In ns.
+    pub clock: u64,
+    /// The log of the run, if it had one.
     pub log: Option<LogPosition>,
+    pub bindings: Vec<SavedBinding>,
+}
+
+impl Model for StateFileContents {
+    ghost use Rattle.napt_state.specs.StateFiles.{StateFileModel};
+
+    ghost Value = { StateFileModel };
+
+    ghost view = { λ it. record { clock = it.clock; log = it.log; bindings = it.bindings.items } };
+}
+
+/// A state as a configuration takes it, with what it keeps of a log.
+#[derive(Drop)]
+pub struct TakenState {
+    pub state: State,
+    pub log: SavedLogState,
 }
 
 impl StateFileContents {
-    /// A state without bindings, and without a log.
-    pub(crate) fn new(alloc: Global, clock: u64) -> StateFileContents
+    /// Those of a state without bindings, and without a log.
+    pub fn new(alloc: Global, clock: u64) -> StateFileContents
         ensures { result ≡ said.empty_contents clock }
     {
-        let list = Vec::new(alloc);
         StateFileContents {
-            state: State { clock, list },
+            clock,
             log: None,
+            bindings: Vec::new(alloc),
         }
     }
 
-    /// Adds what a line says, and tells whether it may stand behind those so far. Fails only if memory runs out.
+    /// Adds what a line says, and returns whether it may follow those so far. Fails only if memory runs out.
     pub(crate) fn add(&mut self, alloc: Global, line: StateLine) -> Result<bool, AllocError>
         ensures added { result ≡ Ok true → said.IsAdded line self.old self.new }
         ensures refused { result ≡ Ok false → ¬ said.CanFollow line self.old }
     {
-        match (line, &mut self.log) {
-            (StateLine::Binding(row, last), None) => {
+        match line {
+            StateLine::Log(position) => {
+                if self.log.is_some() || !self.bindings.is_empty() {
+                    return Ok(false);
+                }
+                self.log = Some(position);
+            }
+            StateLine::Binding(row, last, account) => {
                 let flows = Vec::new(alloc);
-                self.state.list.push(StateBinding { row, last, flows })?;
+                let binding = StateBinding { row, last, flows };
+                self.bindings.push(SavedBinding::Live(binding, account))?;
             }
-            (StateLine::Flow(flow), None) => return add_flow(&mut self.state.list, flow),
-            (StateLine::Log(made, length), None) => {
-                let living = Vec::new(alloc);
-                self.log = Some(LogPosition {
-                    log: SavedLogState { made, living },
-                    length,
-                });
-            }
-            (StateLine::Entry(listed), Some(log)) => log.log.living.push(listed)?,
+            StateLine::Flow(flow) => return add_flow(&mut self.bindings, flow),
+            StateLine::Held(row, end) => self.bindings.push(SavedBinding::Ended(row, end))?,
             _ => return Ok(false),
         }
         Ok(true)
     }
+
+    /// Takes the state up under a configuration, or returns the first binding that does not fit it, and why. What does not go on
+    /// need not fit: redirects, and what has gone at the clock. In linear time. Fails only if memory runs out.
+    pub fn take_up(
+        self,
+        alloc: Global,
+        config: &Config,
+    ) -> Result<Result<TakenState, (Row, Misfit)>, AllocError>
+        ensures { IfOk result (saved.IsTaken config.now self) }
+    {
+        let taken = self.into_state(alloc, config)?;
+        Ok(match first_misfit(alloc, config, &taken.state)? {
+            None => Ok(taken),
+            Some(misfit) => Err(misfit),
+        })
+    }
+
+    /// Returns the state, in which a binding that has ended ends as before under other timers, and what it keeps of a log.
+    fn into_state(self, alloc: Global, config: &Config) -> Result<TakenState, AllocError>
+        ensures { IfOk result (λ taken. taken ≡ saved.taken_of config.now.timers self) }
+    {
+        let StateFileContents {
+            clock,
+            log,
+            bindings,
+        } = self;
+        let mut list = Vec::new(alloc);
+        let mut accounts = Vec::new(alloc);
+        for binding in bindings {
+            match binding {
+                SavedBinding::Live(binding, account) => {
+                    list.push(binding)?;
+                    accounts.push(account)?;
+                }
+                SavedBinding::Ended(row, end) => {
+                    if let Some(binding) = ended_binding(alloc, row, end, config, clock)? {
+                        list.push(binding)?;
+                        accounts.push(None)?;
+                    }
+                }
+            }
+        }
+        Ok(TakenState {
+            state: State { clock, list },
+            log: SavedLogState {
+                made: made_so_far(log),
+                accounts,
+            },
+        })
+    }
 }
 
-/// Adds a flow to the last binding, if there is one, and tells so. Fails only if memory runs out.
-fn add_flow(list: &mut Vec<StateBinding>, flow: Flow) -> Result<bool, AllocError>
+/// A binding that had ended when it was saved is not live in the run that goes on, whatever its timers, and its number is held
+/// as long as under the timers of before.
+pub fn ended_bindings_stay_ended()
+    ensures { saved.EndedBindingsStayEnded }
+{}
+
+/// Adds a flow to the last binding, if that is one that has not ended, and returns whether it is. Fails only if memory runs
+/// out.
+fn add_flow(list: &mut Vec<SavedBinding>, flow: Flow) -> Result<bool, AllocError>
     ensures added { result ≡ Ok true → said.IsAddedFlow flow list.old.items list.new.items }
-    ensures none { result ≡ Ok false → list.old.items ≡ [] }
+    ensures none { result ≡ Ok false → said.HasNoLast list.old.items }
 {
-    let Some(mut binding) = list.pop() else {
-        return Ok(false);
-    };
-    binding.flows.push(flow)?;
-    list.push(binding)?;
-    Ok(true)
+    match list.pop() {
+        Some(SavedBinding::Live(mut binding, account)) => {
+            binding.flows.push(flow)?;
+            list.push(SavedBinding::Live(binding, account))?;
+            Ok(true)
+        }
+        _ => Ok(false),
+    }
 }
 
 impl LineCounts {
-    /// How many lines of each kind a state has, and a log beside it. Fails only if there are more than 2^64.
-    pub(crate) fn of(state: &State, log: Option<&LogPosition>) -> Result<LineCounts, AllocError>
-        ensures { IfOk result (λ counts. counts ≡ texts.counts_of
-            (record { state = state.now; log = option_copied log.entry })) }
+    /// How many bindings and flows there are. Fails only if there are more than 2^64.
+    pub(crate) fn of(saved: &StateFileContents) -> Result<LineCounts, AllocError>
+        ensures { IfOk result (λ counts. counts ≡ texts.counts_of saved.now) }
     {
         let mut flows = 0_u64;
-        for binding in &state.list {
-            let Some(count) = flows.checked_add(binding.flows.len() as u64) else {
+        for binding in &saved.bindings {
+            let Some(count) = flows.checked_add(binding.flow_count()) else {
                 return Err(AllocError);
             };
             flows = count;
         }
         Ok(LineCounts {
-            bindings: state.list.len() as u64,
+            bindings: saved.bindings.len() as u64,
             flows,
-            entries: log.map(|log| log.log.living.len() as u64),
+            entries: None,
         })
     }
 }

@@ -1,15 +1,17 @@
 //! The text of a state, read line by line.
 ghost use Rattle.std.specs.{Prelude.{◌≡◌, ◌≢◌, ◌+◌, ◌-◌, ◌^◌, ◌++◌, ◌<◌, min, ℕ, List, [], Ok, Err, Some, None, IfOk, OnOk, IsOk, IfSome, length}, List.All, Io.KnownBytes.IsAtEnd};
-ghost use Rattle.napt_account.specs.ResumedLogRuns.{IsFew};
+ghost use Rattle.napt_state.specs.Saved.{HasAccounts, IsSaved};
 ghost use Rattle.napt_state.specs.StateText as texts;
 ghost use Rattle.napt_state.specs.StateContents as said;
-ghost use Rattle.napt_state.specs.declared.{line.StateLine.{StateLine as Told}, state_contents.StateFileContents.{StateFileContents as Left}};
+ghost use Rattle.napt_state.specs.{StateFiles.{StateFileModel as Left}, declared.line.StateLine.{StateLine as Told}};
 
 use crate::fault::{StateField, StateReason};
 use crate::fields;
 use crate::line::{LineCounts, StateLine};
+use crate::saved_bindings::has_accounts;
 use crate::state_contents::StateFileContents;
 use crate::wrong_words::{reason_of, wrong_word};
+use napt_account::OpenLog;
 use std::alloc::Global;
 use std::io::{BufRead, ErrorKind};
 
@@ -19,14 +21,14 @@ pub(crate) struct SavedState<R> {
     alloc: Global,
     reader: R,
     line: String,
-    /// The line as its entry is written.
+    /// The line as it is written.
     again: String,
-    /// How many lines were read.
+    /// The number of lines that have been read.
     lines: u64,
 }
 
 impl<R: BufRead + Drop> SavedState<R> {
-    /// A text of which nothing is read yet.
+    /// Returns a reader of a text of which nothing has been read yet.
     pub(crate) fn new(alloc: Global, reader: R) -> SavedState<R>
         ensures reader { R.remaining result.reader ≡ R.remaining reader }
         ensures lines { result.lines ≡ 0 }
@@ -40,14 +42,14 @@ impl<R: BufRead + Drop> SavedState<R> {
         }
     }
 
-    /// The number of the line that was read last, from 1.
+    /// Returns the number of the line that was read last, from 1.
     pub(crate) fn line(&self) -> u64
         ensures { result ≡ self.now.lines }
     {
         self.lines
     }
 
-    /// Reads the entry of the next line; `None` at the end.
+    /// Reads the next line, or returns `None` at the end.
     pub(crate) fn next(&mut self) -> Result<Option<StateLine>, StateReason>
         ensures lines { self.new.lines ≡ min (self.old.lines + 1) (2 ^ 64 - 1) }
         ensures entry { (entry : Told) (rest : List ℕ) → texts.IsStateLine entry →
@@ -62,7 +64,6 @@ impl<R: BufRead + Drop> SavedState<R> {
         ensures torn { (torn : List ℕ) → 0 < length torn → All (λ byte. byte ≢ 10) torn →
             R.remaining self.old.reader ≡ Some torn →
             said.StateUnlessUnread result (result ≡ Err StateReason.Torn) }
-        ensures few { (line : Told) → result ≡ Ok (Some line) → said.IsFewLine line }
     {
         self.line.clear();
         self.lines = self.lines.saturating_add(1);
@@ -93,7 +94,7 @@ impl<R: BufRead + Drop> SavedState<R> {
         }
     }
 
-    /// Reads the entry of the next line, which is there.
+    /// Reads the next line, which must exist.
     fn entry(&mut self) -> Result<StateLine, StateReason>
         ensures entry { (entry : Told) (rest : List ℕ) → texts.IsStateLine entry →
             R.remaining self.old.reader ≡ Some (texts.line_text entry ++ rest) →
@@ -101,7 +102,6 @@ impl<R: BufRead + Drop> SavedState<R> {
             × (R.remaining self.new.reader ≡ Some rest)) }
         ensures exact { (all : List ℕ) → R.remaining self.old.reader ≡ Some all →
             IfOk result (λ entry. said.IsFirstLine entry all (R.remaining self.new.reader)) }
-        ensures few { IfOk result said.IsFewLine }
     {
         match self.next()? {
             Some(entry) => Ok(entry),
@@ -125,13 +125,13 @@ impl<R: BufRead + Drop> SavedState<R> {
         }
     }
 
-    /// The reason of a line that may not stand where it is.
+    /// Returns the reason of a line that may not be where it is.
     fn misplaced(&self) -> StateReason {
         let kind = fields::word(self.line.as_str(), 0);
         wrong_word(self.alloc, StateField::Kind, kind)
     }
 
-    /// Adds what a line says to what the lines before it say.
+    /// Adds a line to the contents of the lines before it.
     fn add(&self, saved: &mut StateFileContents, line: StateLine) -> Result<(), StateReason>
         ensures added { OnOk result (said.IsAdded line saved.old saved.new) }
         ensures read { said.CanFollow line saved.old → said.StateUnlessUnread result (IsOk result) }
@@ -139,21 +139,25 @@ impl<R: BufRead + Drop> SavedState<R> {
         if saved.add(self.alloc, line)? {
             return Ok(());
         }
-        match (line, &saved.log) {
-            (StateLine::Flow(_), None) => Err(StateReason::NoBinding),
+        match line {
+            StateLine::Flow(_) => Err(StateReason::NoBinding),
             _ => Err(self.misplaced()),
         }
     }
 
-    /// Reads the end of a text behind a line with these counts.
+    /// Reads the end of a text after a line with these counts.
     fn end(&mut self, saved: &StateFileContents, counts: LineCounts) -> Result<(), StateReason>
         ensures same { OnOk result (counts ≡ texts.counts_of saved.now) }
         ensures exact { OnOk result (IsAtEnd (R.remaining self.old.reader)) }
-        ensures read { counts ≡ texts.counts_of saved.now → R.remaining self.old.reader ≡ Some [] →
-            said.StateUnlessUnread result (IsOk result) }
+        ensures accounts { OnOk result (HasAccounts saved.now) }
+        ensures read { counts ≡ texts.counts_of saved.now → HasAccounts saved.now →
+            R.remaining self.old.reader ≡ Some [] → said.StateUnlessUnread result (IsOk result) }
     {
-        if counts != LineCounts::of(&saved.state, saved.log.as_ref())? {
+        if counts != LineCounts::of(saved)? {
             return Err(StateReason::Counts);
+        }
+        if !has_accounts(self.alloc, saved)? {
+            return Err(StateReason::Accounts);
         }
         match self.next()? {
             None => Ok(()),
@@ -163,12 +167,12 @@ impl<R: BufRead + Drop> SavedState<R> {
 
     /// Reads the whole text.
     pub(crate) fn saved(&mut self) -> Result<StateFileContents, StateReason>
-        ensures read { (whole : Left) → texts.IsSaved whole →
+        ensures read { (whole : Left) → IsSaved whole →
             R.remaining self.old.reader ≡ Some (texts.saved_text whole) →
             said.StateUnlessUnread result (result ≡ Ok whole) }
         ensures exact { (text : List ℕ) → R.remaining self.old.reader ≡ Some text →
-            IfOk result (λ read. text ≡ texts.saved_text read) }
-        ensures few { IfOk result (λ read. IfSome read.log (λ log. IsFew log.log)) }
+            IfOk result (said.IsReadAs text) }
+        ensures accounts { IfOk result HasAccounts }
     {
         let clock = self.clock()?;
         let mut saved = StateFileContents::new(self.alloc, clock);
@@ -178,7 +182,44 @@ impl<R: BufRead + Drop> SavedState<R> {
                     self.end(&saved, counts)?;
                     return Ok(saved);
                 }
+                StateLine::EarlierLog(made, _) => return self.earlier(saved, made),
                 line => self.add(&mut saved, line)?,
+            }
+        }
+        Err(StateReason::Memory)
+    }
+
+    /// Reads the rest of a text that has its log in the form of earlier versions, after the line with the number of its
+    /// entries: each entry becomes the account of its binding. Nothing is known of the file of the log.
+    fn earlier(
+        &mut self,
+        mut saved: StateFileContents,
+        made: u64,
+    ) -> Result<StateFileContents, StateReason>
+        ensures { IfOk result HasAccounts }
+    {
+        if saved.log.is_some() {
+            return Err(self.misplaced());
+        }
+        let mut entries = Vec::new(self.alloc);
+        for _ in 0..u64::MAX {
+            match self.entry()? {
+                StateLine::EarlierEntry(numbered) => entries.push(numbered)?,
+                StateLine::End(counts) => {
+                    if counts.entries != Some(entries.len() as u64) {
+                        return Err(StateReason::Counts);
+                    }
+                    if !saved.join(self.alloc, &OpenLog { made, entries })? {
+                        return Err(StateReason::Accounts);
+                    }
+                    let counts = LineCounts {
+                        entries: None,
+                        ..counts
+                    };
+                    self.end(&saved, counts)?;
+                    return Ok(saved);
+                }
+                _ => return Err(self.misplaced()),
             }
         }
         Err(StateReason::Memory)

@@ -1,20 +1,21 @@
-//! The text of a state, written and read whole.
-ghost use Rattle.std.specs.{Prelude.{◌≡◌, ℕ, List, Option, Some, Ok, OnOk, IfOk, IfSome, flat_map}, Io.KnownBytes.Appends, Option.option_copied};
-ghost use Rattle.napt_account.specs.ResumedLogRuns.{IsFew};
-ghost use Rattle.napt_state.specs.declared.state_contents.StateFileContents.{StateFileContents as Left};
-ghost use Rattle.napt_state.specs.StateContents.{UnlessFailed};
+//! Writing and reading the whole text of a state.
+ghost use Rattle.std.specs.{Prelude.{◌≡◌, ℕ, List, Option, Some, Ok, OnOk, IfOk, flat_map}, Io.KnownBytes.Appends};
+ghost use Rattle.napt_state.specs.StateFiles.{StateFileModel as Left};
+ghost use Rattle.napt_state.specs.{Saved.{HasAccounts, IsSaved}, StateContents.{IsReadAs, UnlessFailed}};
 ghost use Rattle.napt_state.specs.StateText as texts;
 
 use crate::fault::StateFault;
-use crate::line::{LineCounts, StateLine};
-use crate::state_contents::{LogPosition, StateFileContents};
+use crate::line::{LineCounts, LogPosition, StateLine};
+use crate::saved_bindings::SavedBinding;
+use crate::state_contents::StateFileContents;
 use crate::state_writer::SavedState;
-use napt_rules::{State, StateBinding};
+use napt_account::Account;
+use napt_rules::StateBinding;
 use std::alloc::Global;
 use std::io;
 use std::io::{BufRead, Write};
 
-/// Writes a line, in the memory of one that was written before.
+/// Writes a line, in the memory of the one before.
 fn put_line<W: Write>(writer: &mut W, line: &mut String, entry: &StateLine) -> io::Result<()>
     ensures { OnOk result (Appends (W.contents writer.old) (W.contents writer.new)
         (texts.line_text entry.now)) }
@@ -25,84 +26,80 @@ fn put_line<W: Write>(writer: &mut W, line: &mut String, entry: &StateLine) -> i
 }
 
 /// Writes a binding and its flows.
-fn push_binding<W: Write>(
+fn push_binding<W: Write>(writer: &mut W, line: &mut String, saved: &SavedBinding) -> io::Result<()>
+    ensures { OnOk result (Appends (W.contents writer.old) (W.contents writer.new)
+        (flat_map texts.line_text (texts.binding_lines saved.now))) }
+{
+    match saved {
+        SavedBinding::Live(binding, account) => push_live(writer, line, binding, *account),
+        SavedBinding::Ended(row, end) => put_line(writer, line, &StateLine::Held(*row, *end)),
+    }
+}
+
+/// Writes a binding that lives, with its account, and its flows.
+fn push_live<W: Write>(
     writer: &mut W,
     line: &mut String,
     binding: &StateBinding,
+    account: Option<Account>,
 ) -> io::Result<()>
     ensures { OnOk result (Appends (W.contents writer.old) (W.contents writer.new)
-        (flat_map texts.line_text (texts.binding_lines binding.now))) }
+        (flat_map texts.line_text (texts.live_lines binding.now account))) }
 {
-    put_line(writer, line, &StateLine::Binding(binding.row, binding.last))?;
+    let first = StateLine::Binding(binding.row, binding.last, account);
+    put_line(writer, line, &first)?;
     for flow in &binding.flows {
         put_line(writer, line, &StateLine::Flow(*flow))?;
     }
     Ok(())
 }
 
-/// Writes a log and its entries.
-fn push_log<W: Write>(writer: &mut W, line: &mut String, saved: &LogPosition) -> io::Result<()>
+/// Writes the line of a log, if there is one.
+fn push_log<W: Write>(writer: &mut W, line: &mut String, log: Option<LogPosition>) -> io::Result<()>
     ensures { OnOk result (Appends (W.contents writer.old) (W.contents writer.new)
-        (flat_map texts.line_text (texts.log_lines (Some saved.now)))) }
-{
-    put_line(writer, line, &StateLine::Log(saved.log.made, saved.length))?;
-    for listed in &saved.log.living {
-        put_line(writer, line, &StateLine::Entry(*listed))?;
-    }
-    Ok(())
-}
-
-/// Writes a log and its entries, if there is one.
-fn push_any_log<W: Write>(
-    writer: &mut W,
-    line: &mut String,
-    log: Option<&LogPosition>,
-) -> io::Result<()>
-    ensures { OnOk result (Appends (W.contents writer.old) (W.contents writer.new)
-        (flat_map texts.line_text (texts.log_lines (option_copied log.entry)))) }
+        (flat_map texts.line_text (texts.log_lines log))) }
 {
     match log {
-        Some(saved) => push_log(writer, line, saved),
+        Some(position) => put_line(writer, line, &StateLine::Log(position)),
         None => Ok(()),
     }
 }
 
-/// Writes the text of a state, and of a log left beside it, line by line, and flushes it, in the memory of one line. Fails if
-/// a write or the flush fails, or memory runs out: then the writer may have taken any first bytes of the text.
+/// Writes the text of a state line by line, and flushes it, in the memory of one line. Fails if a write or the flush fails,
+/// or memory runs out: then the writer may have taken any first bytes of the text.
 pub fn write_state<W: Write>(
     alloc: Global,
     writer: &mut W,
-    state: &State,
-    log: Option<&LogPosition>,
+    saved: &StateFileContents,
 ) -> io::Result<()>
     ensures { OnOk result (Appends (W.contents writer.old) (W.contents writer.new)
-        (texts.saved_text (record { state = state.now; log = option_copied log.entry }))) }
+        (texts.saved_text saved.now)) }
 {
     let mut line = String::new(alloc);
-    put_line(writer, &mut line, &StateLine::Clock(state.clock))?;
-    for binding in &state.list {
+    put_line(writer, &mut line, &StateLine::Clock(saved.clock))?;
+    push_log(writer, &mut line, saved.log)?;
+    for binding in &saved.bindings {
         push_binding(writer, &mut line, binding)?;
     }
-    push_any_log(writer, &mut line, log)?;
-    let counts = LineCounts::of(state, log)?;
+    let counts = LineCounts::of(saved)?;
     put_line(writer, &mut line, &StateLine::End(counts))?;
     writer.flush()
 }
 
-/// Reads the text of a state, and of a log beside it, to its end, in the memory of both and of one line. Nothing else is
-/// taken: no part of a text, and nothing with anything behind it. The fault is the first one; of the reader, which is
-/// dropped, some first bytes were taken then. `read` says nothing where a read fails, memory runs out or the reader says
-/// that the bytes are not UTF-8, which those of a state's text are.
+/// Reads the text of a state to its end, in the memory of the state and of one line. Nothing else is taken: no part of a text,
+/// and nothing with anything after it. A text in which an earlier version wrote its log is read too. The fault is the first
+/// one; of the reader, which is dropped, some first bytes were taken then. `read` says nothing where a read fails, memory
+/// runs out or the reader says that the bytes are not UTF-8, which those of a state's text are.
 pub fn read_state<R: BufRead + Drop>(
     alloc: Global,
     reader: R,
 ) -> Result<StateFileContents, StateFault>
-    ensures read { (saved : Left) → texts.IsSaved saved →
+    ensures read { (saved : Left) → IsSaved saved →
         R.remaining reader ≡ Some (texts.saved_text saved) →
         UnlessFailed result (result ≡ Ok saved) }
     ensures exact { (text : List ℕ) → R.remaining reader ≡ Some text →
-        IfOk result (λ saved. text ≡ texts.saved_text saved) }
-    ensures few { IfOk result (λ saved. IfSome saved.log (λ log. IsFew log.log)) }
+        IfOk result (IsReadAs text) }
+    ensures accounts { IfOk result HasAccounts }
 {
     let mut text = SavedState::new(alloc, reader);
     match text.saved() {

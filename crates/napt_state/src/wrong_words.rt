@@ -1,21 +1,24 @@
-//! What is wrong with a line that is none of a state.
+//! What is wrong with a line that is not one of a state.
 
 use crate::fault::{StateField, StateReason};
 use crate::fields;
 use napt_config::Address;
 use std::alloc::Global;
 
-/// How many characters of a wrong word are told.
+/// The number of characters of a wrong word that are printed.
 const SHOWN: usize = 40;
 
-/// The words behind the first one of a line.
+/// Returns the words after the first one of a line.
 fn words_behind(kind: &str) -> &'static [StateField] {
     use StateField::{Address, Count, End, Few, Mark, Number, Protocol, Row};
     match kind {
         "clock" => &[Count],
-        "binding" | "redirect" => &[Protocol, Address, Number, Address, Number, Count],
+        "log" => &[Few, Count, Count, Count],
+        "binding" | "redirect" => &[
+            Protocol, Address, Number, Address, Number, Count, Count, Count, Few, Few, Count, Count,
+        ],
+        "held" => &[Protocol, Address, Number, Address, Number, Count],
         "flow" => &[Address, Number, Count, Mark, Mark, Mark, Mark, Mark],
-        "log" => &[Few, Count],
         "entry" => &[
             Count, Row, Protocol, Address, Number, Address, Number, Count, End, Few, Few, Count,
             Count,
@@ -25,12 +28,22 @@ fn words_behind(kind: &str) -> &'static [StateField] {
     }
 }
 
-/// Whether a number has neither a sign nor a zero in front.
+/// Whether a line of this kind may have only so many words after the first: a binding without an account, the counts without
+/// that of entries, a log in the form of earlier versions.
+fn is_shorter(kind: &str, words: usize) -> bool {
+    match kind {
+        "binding" | "redirect" => words == 6,
+        "end" | "log" => words == 2,
+        _ => false,
+    }
+}
+
+/// Whether a number has neither a sign nor a leading zero.
 fn is_plain(number: &str) -> bool {
     number == "0" || !number.starts_with('0') && !number.starts_with('+')
 }
 
-/// Whether the word at a place is what it has to be.
+/// Whether the word at an index is what it has to be.
 fn is_right(kind: StateField, line: &str, place: usize) -> bool {
     let word = fields::word(line, place);
     match kind {
@@ -46,7 +59,7 @@ fn is_right(kind: StateField, line: &str, place: usize) -> bool {
     }
 }
 
-/// The reason of a word that is none that may stand there.
+/// Returns the reason of a word that may not be there.
 pub(crate) fn wrong_word(alloc: Global, kind: StateField, word: &str) -> StateReason {
     let mut shown = String::new(alloc);
     for character in word.chars().take(SHOWN) {
@@ -57,7 +70,7 @@ pub(crate) fn wrong_word(alloc: Global, kind: StateField, word: &str) -> StateRe
     StateReason::Word(kind, shown)
 }
 
-/// What is wrong with a line, without the line feed at its end, that is none of a state.
+/// Returns what is wrong with a line, without the line feed at its end, that is not one of a state.
 pub(crate) fn reason_of(alloc: Global, line: &str) -> StateReason {
     let first = fields::word(line, 0);
     let behind = words_behind(first);
@@ -65,7 +78,7 @@ pub(crate) fn reason_of(alloc: Global, line: &str) -> StateReason {
         return wrong_word(alloc, StateField::Kind, first);
     }
     let words = line.split(' ').count() - 1;
-    if words == behind.len() || first == "end" && words == 2 {
+    if words == behind.len() || is_shorter(first, words) {
         for (before, kind) in behind.iter().take(words).enumerate() {
             if !is_right(*kind, line, before + 1) {
                 return wrong_word(alloc, *kind, fields::word(line, before + 1));

@@ -6,7 +6,7 @@ use Rattle.napt_config.specs.{Rules.AreTimers, declared.settings.{Timers.Timers,
 use Rattle.napt_rules.specs.declared.{AssignmentRules.AssignmentRules, OutboundPacket.OutboundPacket, Row.Row}
 use Rattle.napt_rules.specs.Prelude.{Binding, change_first, is_live, with_live_flows, purge, hold_ago, live_and_held, choice, count_for, reaches_quota, has_number, is_of_source, binding_after_out, new_binding, OutboundEffect, out_made, granted_again, out_found, out_taken, row, AreBindingsApart}
 use Rattle.napt_table.specs.{declared.bindings.keys.ExternalNumberKey.ExternalNumberKey, Keys.{key_eq, external_key}, HeldLists.{seen_binding, ShowsHeld}}
-use Rattle.napt_table.specs.BindingIndexes.{BindingIndexModel, held_binding, held_at, count_all, HasInside, IsNumberOf, IsNamed, HasNoInside, HoldsSame, KeepsSeen, WentThrough}
+use Rattle.napt_table.specs.BindingIndexes.{BindingIndexModel, held_binding, held_at, count_all, HasInside, IsNumberOf, IsNamed, HasNoInside, HoldsSame, KeepsSeen, WentThrough, HasNone}
 use Rattle.napt_table.specs.Bindings.{BindingsModel, AllShow, AllKeep, KeepsUnseen, BindingsUnchanged, IsPurged, shown_made, NewBindingOk, RenewedBindingOk}
 use Rattle.napt_table.proofs.{Hosts.count_is_held, SeenBindings.{seen_is, seen_seen, found_seen}, Keys.{by_key, at_key, key_number, past_key}}
 use Rattle.napt_table.proofs.{Steps.{by_protocol, sent_others}, OutboundSteps.{found, parts, known_shows, not_found, made_shows}, HeldThroughTime.{live_apart, keeps_on, out_stays}}
@@ -80,7 +80,7 @@ module _ (timers : Timers) (t : AreTimers timers) (granting : AssignmentRules) (
       b.row.external ≡ record { address = old.address; number = n }
   externals n b h = named.external_is (external_key packet.protocol n) b h
 
-  found_is : find (is_of_source old.address packet) live ≡ Some went.binding
+  pub found_is : find (is_of_source old.address packet) live ≡ Some went.binding
   found_is = found timers old.address packet (held_at old packet.protocol) live alive_apart (keeps.live packet.protocol)
       protocols externals number went.binding went.found went.inside_is
 
@@ -129,6 +129,17 @@ module _ (timers : Timers) (t : AreTimers timers) (granting : AssignmentRules) (
       keeps_on timers packet.now old.address old new list (out_taken timers granting old.address packet list).list left
       keeps.held (subst (AllShow timers packet.now old.address new) (sym left_is) went_shows) went_unseen
       (λ q n. out_stays timers t old.address list q n granting packet apart left)
+
+-- A PACKET WHOSE INSIDE ENDPOINT HAS NO LIVE BINDING
+
+pub none_live : (timers : Timers) (packet : OutboundPacket) (old new : BindingIndexModel) → IsNamed old → HasNone timers packet old new →
+    (list : List Binding) → AreBindingsApart (map row list) → AllKeep timers packet.now old.address old list →
+    find (is_of_source old.address packet) (purge timers packet.now list) ≡ None
+none_live timers packet old new named none list apart keeps =
+    not_found timers old.address packet (held_at old packet.protocol) (purge timers packet.now list)
+    (live_apart timers packet.now list apart) (keeps.live packet.protocol)
+    (λ n b h. named.protocol_is (external_key packet.protocol n) b h)
+    (λ n b h. named.external_is (external_key packet.protocol n) b h) none.none
 
 -- A NEW BINDING
 

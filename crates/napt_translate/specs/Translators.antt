@@ -1,7 +1,7 @@
 -- What contracts see of a translator: its place in the pool, its configuration, and the table of its external address.
-use Rattle.std.specs.Prelude.{◌≡◌, ℕ, ◌<◌, List, length, slice_index, Result}
+use Rattle.std.specs.Prelude.{◌≡◌, ℕ, ◌<◌, Bool, false, List, length, slice_index, Option, Some, None, Result}
 use Rattle.napt_wire.specs.declared.{Protocol.Protocol, Flags.Flags, Cause.Cause}
-use Rattle.napt_rules.specs.{Prelude.{assignment_rules, inbound_rules, OutboundEffect, step_out, InboundEffect, step_in, outbound_packet, inbound_packet, LocalState, local_after, State}, declared.Leg.Leg}
+use Rattle.napt_rules.specs.{Prelude.{BindingUse, assignment_rules, inbound_rules, OutboundEffect, step_out, InboundEffect, step_in, outbound_packet, inbound_packet, LocalState, local_after, State}, declared.Leg.Leg}
 use Rattle.napt_rules.specs.declared.OutboundPacket.{OutboundPacket}
 use Rattle.napt_config.specs.Rules.{Rules, RulesInvariant, block_of}
 use Rattle.napt_table.specs.Tables.{TableModel, initial_table, resumed_table}
@@ -47,6 +47,11 @@ with_local_state state kept = record state { table = record state.table { list =
 abbrev pub translator_after : Leg → TranslatorModel → TranslatorModel
 translator_after leg state = with_local_state state
     (local_after state.rules state.table.address leg (local_state state.table))
+
+-- Whether a leg made the binding that its packet used.
+abbrev pub is_made : Option BindingUse → Bool
+is_made None = false
+is_made (Some went) = went.made
 
 -- What the step of an outgoing packet gives at the translator's address, at a time; then the same of an incoming one.
 abbrev pub outbound_at : TranslatorModel → ℕ → Protocol → Flags → List ℕ → OutboundEffect

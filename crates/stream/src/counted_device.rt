@@ -1,4 +1,4 @@
-//! A device whose packets are counted.
+//! A device whose packets are counted, and compared with the clock of the state.
 ghost use Rattle.std.specs.Prelude.{◌≡◌};
 
 use crate::progress::ProgressReport;
@@ -11,6 +11,8 @@ use std::time::Clock;
 pub struct CountedDevice<'p, S, R> {
     device: CountedSource<S>,
     progress: &'p ProgressReport<'p, R>,
+    /// Whether the first packet has been read.
+    has_begun: bool,
 }
 
 impl<'p, S, R> CountedDevice<'p, S, R> {
@@ -19,8 +21,9 @@ impl<'p, S, R> CountedDevice<'p, S, R> {
         ensures { result.device.device ≡ device }
     {
         CountedDevice {
-            device: CountedSource::over(device, progress.is_told()),
+            device: CountedSource::over(device, progress.is_heard()),
             progress,
+            has_begun: false,
         }
     }
 
@@ -30,7 +33,7 @@ impl<'p, S, R> CountedDevice<'p, S, R> {
     }
 }
 
-impl<'p, S: Source, R: Eprint + Clock> Source for CountedDevice<'p, S, R> {
+impl<'p, S: Source, R: Eprint + Clock + AllocGlobal> Source for CountedDevice<'p, S, R> {
     ghost remaining = { λ counted. S.remaining counted.device.device };
 
     ghost failed = { λ counted. S.failed counted.device.device };
@@ -41,6 +44,12 @@ impl<'p, S: Source, R: Eprint + Clock> Source for CountedDevice<'p, S, R> {
         let count = self.device.read(buffer)?;
         self.progress
             .count(self.device.records().saturating_sub(before));
+        if !self.has_begun
+            && let Some(time) = self.device.first_time()
+        {
+            self.has_begun = true;
+            self.progress.begin_at(time);
+        }
         Ok(count)
     }
 }

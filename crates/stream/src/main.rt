@@ -8,14 +8,18 @@ mod program;
 mod progress;
 mod stream_run;
 
-use napt_program::{ProgramCall, StandardStreams};
+use napt_program::{ProgramCall, StandardStreams, StopReason};
 use std::process::ExitCode;
 
 fn main(rt: HostRuntime) -> ExitCode {
     let streams = StandardStreams::open_now(&rt);
     let call = ProgramCall::of(&rt, streams, manual::OWN.name);
+    let mut reason = StopReason::new(call.at_terminal);
     match call.as_called(&rt, manual::INSTALLED.name) {
-        Ok(call) => call.ended(&rt, &program::serve(&rt, streams, call)),
-        Err(stop) => call.ended(&rt, &Err(stop)),
+        Ok(call) => {
+            let answer = program::serve(&rt, streams, call, &mut reason);
+            call.ended(&rt, &answer, &reason)
+        }
+        Err(stop) => call.ended(&rt, &Err(stop), &reason),
     }
 }

@@ -35,12 +35,17 @@ After success each output contains the bytes that napt writes. The differences a
   of packets.
   If standard error is a terminal, a run of more than two seconds prints there
   the number of packets read, the packets per second, and the live bindings.
+  Lines that warn are printed wherever it goes, without another status.
+
+--verbose adds a second line on standard error, which a terminal gets anyway: the
+option, its file, and what is wrong with it (in a configuration, with the place).
 
 Exit status, and the line on standard error that says why: as for napt, with
 ", $name, ": in place of napt: at its beginning. too-large never occurs, and too-many
 only with a log, at packet 4611686018427387904.
-  0  done, without a line, or with one that says that the log begins a new
-     entry for each binding of the state
+  0  done; a line warns if the log lists all bindings of the state anew, if
+     a packet is earlier than the state, if the captures seem to be swapped,
+     and if one is cut
   2  ", $name, ": usage
   3  ", $name, ": config WORD
   4  ", $name, ": capture SIDE WORD

@@ -11,14 +11,15 @@ use crate::progress::ProgressReport;
 use crate::stream_run::{CaptureDevices, StreamRemainder, StreamResult, StreamRun};
 use napt_program::{
     MEMORY, OptionsWithLog, ProgramCall, ProgramHost, RunDevices, RunResources, StandardStreams,
-    Stop, answer_line, open, parse_words_with_log, words,
+    Stop, StopReason, answer_line, open, parse_words_with_log, take_verbose, words,
 };
 use std::alloc::Global;
 use std::sync::Arc;
 use std::time::Clock;
 
 /// Does what the command line requests: runs over the files that it names, with a worker thread for
-/// each external address, or prints help or the version. A terminal gets progress and cut captures.
+/// each external address, or prints help or the version. It warns of cut and swapped
+/// captures, and of packets that are earlier than the state. A terminal gets progress too.
 ///
 /// Before any capture is opened, fails if the arguments are not understood or memory for them is
 /// refused, if a needed standard stream is closed, or if the configuration is refused; after that,
@@ -27,10 +28,15 @@ pub fn serve<R: ProgramHost + Clock>(
     rt: &R,
     streams: StandardStreams,
     call: ProgramCall,
+    reason: &mut StopReason,
 ) -> Result<(), Stop>
     ensures { IfErr result IsStopUnderOpenGate }
 {
-    serve_words(rt, streams, call, words(rt)?)
+    let mut words = words(rt)?;
+    if take_verbose(&mut words) {
+        reason.is_requested = true;
+    }
+    serve_words(rt, streams, call, words, reason)
 }
 
 /// Does what these arguments request; the first is the program's name. If it succeeds, they were
@@ -40,13 +46,18 @@ pub fn serve_words<R: ProgramHost + Clock>(
     streams: StandardStreams,
     call: ProgramCall,
     words: Vec<String>,
+    reason: &mut StopReason,
 ) -> Result<(), Stop>
     ensures taken { OnOk result (LineIsTaken (line_with_log (map string_bytes words.items))) }
     ensures stop { IfErr result
         (IsLineStop streams (line_with_log (map string_bytes words.items))) }
 {
     match parse_words_with_log(rt.alloc(), call.manual(OWN, INSTALLED), words) {
-        Ok(options) => run(rt, streams, call, &options),
+        Ok(options) => {
+            let answer = run(rt, streams, call, &options, reason);
+            reason.find(rt, streams, &options, &answer);
+            answer
+        }
         Err(fault) => answer_line(rt, fault),
     }
 }
@@ -57,24 +68,25 @@ fn run<R: ProgramHost + Clock>(
     streams: StandardStreams,
     call: ProgramCall,
     options: &OptionsWithLog,
+    reason: &mut StopReason,
 ) -> Result<(), Stop>
     ensures { IfErr result (IsRunStop streams (files_with_log options.now)) }
 {
     let RunResources {
         config,
         state,
-        kept,
+        saved,
         devices,
         log,
         save,
-    } = open(rt, streams, options)?;
+    } = open(rt, streams, options, &mut reason.place)?;
     let RunDevices {
         inside,
         outside,
         outputs,
     } = devices;
     let gate = gate(rt.alloc(), config.pool().len())?;
-    let progress = ProgressReport::of(rt, again(&gate)?, call);
+    let progress = ProgressReport::of(rt, again(&gate)?, call, state.clock);
     let captures = CaptureDevices {
         inside: CountedDevice::over(inside, &progress),
         outside: CountedDevice::over(outside, &progress),
@@ -83,16 +95,22 @@ fn run<R: ProgramHost + Clock>(
         options,
         config: &config,
         state: &state,
-        kept: &kept,
+        saved: &saved,
         gate,
     };
     run.print_new_entries(rt, call)?;
-    let StreamResult { captures, answer } = run.over(rt, captures, outputs, log);
+    let StreamResult {
+        captures,
+        outputs,
+        answer,
+    } = run.over(rt, captures, outputs, log);
     progress.print_end();
-    let StreamRemainder { state, log } = answer?;
-    call.print_cuts(rt, captures.inside.tallied(), captures.outside.tallied());
+    let StreamRemainder { state } = answer?;
+    let (inside, outside) = (captures.inside.tallied(), captures.outside.tallied());
+    call.print_flaws(rt, &config, inside, outside);
     if let (Some(save), Some(state)) = (save, state) {
-        save.finish(rt, rt.alloc(), &state, log.as_ref())?;
+        outputs.sync()?;
+        save.finish(rt, rt.alloc(), &state)?;
     }
     Ok(())
 }

@@ -38,8 +38,10 @@ impl ProgressMark {
 #[derive(Drop)]
 pub struct ProgressReport<'r, R> {
     rt: &'r R,
-    name: &'static str,
+    call: ProgramCall,
     gate: Arc<CountingGate>,
+    /// The clock of the state with which the run starts, in ns, until a packet is earlier.
+    clock: Cell<u64>,
     /// The start of the run, or `None` if progress is not printed.
     began: Option<Instant>,
     packets: Cell<u64>,
@@ -48,15 +50,21 @@ pub struct ProgressReport<'r, R> {
 }
 
 impl<'r, R> ProgressReport<'r, R> {
-    /// Returns whether progress is printed.
-    pub fn is_told(&self) -> bool {
-        self.began.is_some()
+    /// Returns whether standard error is open.
+    pub fn is_heard(&self) -> bool {
+        self.call.is_heard
     }
 }
 
-impl<'r, R: Eprint + Clock> ProgressReport<'r, R> {
-    /// Returns the progress of a run that starts now. Without a terminal, nothing is printed.
-    pub fn of(rt: &'r R, gate: Arc<CountingGate>, call: ProgramCall) -> ProgressReport<'r, R> {
+impl<'r, R: Eprint + Clock + AllocGlobal> ProgressReport<'r, R> {
+    /// Returns the progress of a run that starts now, with a state of this clock, in ns. Without a
+    /// terminal, no progress is printed.
+    pub fn of(
+        rt: &'r R,
+        gate: Arc<CountingGate>,
+        call: ProgramCall,
+        clock: u64,
+    ) -> ProgressReport<'r, R> {
         let began = if call.at_terminal {
             Instant::now(rt).ok()
         } else {
@@ -64,11 +72,23 @@ impl<'r, R: Eprint + Clock> ProgressReport<'r, R> {
         };
         ProgressReport {
             rt,
-            name: call.name,
+            call,
             gate,
+            clock: Cell::new(clock),
             began,
             packets: Cell::new(0),
             told: Cell::new(ProgressMark::BEGIN),
+        }
+    }
+
+    /// Prints, once, that the first packet of a capture, of this time in ns, is earlier than the
+    /// state. Without memory for that the run goes on, and nothing is printed.
+    pub fn begin_at(&self, time: u64) {
+        let clock = self.clock.get();
+        if time < clock {
+            let (rt, call) = (self.rt, self.call);
+            let _ = call.print_earlier(rt, rt.alloc(), time, clock);
+            self.clock.set(0);
         }
     }
 
@@ -89,7 +109,7 @@ impl<'r, R: Eprint + Clock> ProgressReport<'r, R> {
         }
         let ProgressMark { packets, .. } = now;
         let rate = now.rate_since(told);
-        let (name, bindings) = (self.name, self.gate.bindings());
+        let (name, bindings) = (self.call.name, self.gate.bindings());
         let _ = eprint!(self.rt;
             "\r{name}: {packets} packets, {rate} a second, {bindings} bindings    "
         );
@@ -106,7 +126,7 @@ impl<'r, R: Eprint + Clock> ProgressReport<'r, R> {
         };
         let ProgressMark { packets, millis } = now;
         let (seconds, rate) = (millis / 1_000, now.rate_since(ProgressMark::BEGIN));
-        let (name, bindings) = (self.name, self.gate.bindings());
+        let (name, bindings) = (self.call.name, self.gate.bindings());
         let _ = eprintln!(self.rt;
             "\r{name}: {packets} packets in {seconds} s, {rate} a second, {bindings} bindings    "
         );

@@ -1,27 +1,26 @@
 //! A run over open files, with its log if one is named.
 
 ghost use Rattle.std.specs.Prelude.{◌≡◌, ◌&&◌, IfErr, IfOk, None, Some, false, if◌then◌else◌, is_some, option_map, true};
-ghost use Rattle.napt_account.specs.ResumedLogRuns.{IsFew};
+ghost use Rattle.napt_account.specs.LogStarts.{is_saved_log_state};
 ghost use Rattle.napt_program.specs.{CommandLine.files_with_log, Command.{IsOfLog, IsRunStop}, declared.streams.StandardStreams.StandardStreams};
 ghost use Rattle.napt_account.specs.Prelude.{TakesState};
 ghost use Rattle.napt_records.specs.Faults.{is_shut_gate_fault};
 
 use crate::counting_gate::CountingGate;
 use either::Either;
-use napt_account::SavedLogState;
+use napt_account::{OpenLog, SavedLogState};
 use napt_capture::{NullSink, Source, Watched};
 use napt_config::Config;
 use napt_program::{
     LogDevice, LogOutput, LogPieces, MEMORY, OptionsWithLog, OutputDevices, ProgramCall,
-    ProgramHost, Stop, stop_of_run,
+    ProgramHost, SeekableFile, Stop, stop_of_run,
 };
 use napt_run::{
     Devices, Fault, LogStart, LogWriter, NoLog, RunEnd, Start, State, run_streams,
     run_streams_with_log,
 };
-use napt_state::LogPosition;
+use napt_state::{LogEnd, StateFileContents};
 use std::alloc::Global;
-use std::fs::OpenFile;
 use std::io::{BufWriter, Write};
 use std::rt::Files;
 use std::sync::Arc;
@@ -32,8 +31,8 @@ pub struct StreamRun<'a> {
     pub options: &'a OptionsWithLog,
     pub config: &'a Config,
     pub state: &'a State,
-    /// The saved entries of its log.
-    pub kept: &'a SavedLogState,
+    /// What the state keeps of its log.
+    pub saved: &'a SavedLogState,
     pub gate: Arc<CountingGate>,
 }
 
@@ -44,39 +43,33 @@ pub struct CaptureDevices<A, B> {
     pub outside: B,
 }
 
-/// The captures after a run, and the result of the run.
+/// The captures and outputs after a run, and the result of the run.
 #[derive(Drop)]
-pub struct StreamResult<A, B> {
+pub struct StreamResult<A, B, T: Write + Drop, F: Write + Drop> {
     pub captures: CaptureDevices<A, B>,
+    pub outputs: OutputDevices<T, F>,
     pub answer: Result<StreamRemainder, Stop>,
 }
 
 /// The result of a run that succeeded.
 #[derive(Drop)]
 pub struct StreamRemainder {
-    /// The state after the run, if it is to be saved.
-    pub state: Option<State>,
-    /// The position of its log, if it has one and the state is to be saved.
-    pub log: Option<LogPosition>,
+    /// The state after the run, if it is to be saved, with that of its log, if it has one.
+    pub state: Option<StateFileContents>,
 }
 
 impl<'a> StreamRun<'a> {
-    /// Warns on standard error if the saved entries do not match the state's bindings, so that the
-    /// log, if there is one, begins new entries for them. Fails with `MEMORY` if memory is refused.
+    /// Warns on standard error if the state has no accounts of its bindings, so that the log, if there
+    /// is one, begins new entries for them. Fails with `MEMORY` if memory is refused.
     pub fn print_new_entries<R: Eprint + AllocGlobal>(
         &self,
         rt: &R,
         call: ProgramCall,
     ) -> Result<(), Stop>
-        requires { TakesState self.now.config.now self.now.state.now }
         ensures { IfErr result (λ stop. stop ≡ MEMORY) }
     {
-        let (state, kept) = (self.state, self.kept);
-        if self.options.log.is_none() || state.list.is_empty() {
-            return Ok(());
-        }
-        let fits = kept.is_of(rt.alloc(), self.config, state)?;
-        if !fits {
+        let state = self.state;
+        if self.options.log.is_some() && self.saved.lacks_all(self.config, state) {
             call.print_new_entries(rt, rt.alloc(), state.clock)?;
         }
         Ok(())
@@ -84,20 +77,18 @@ impl<'a> StreamRun<'a> {
 
     /// Runs over the captures and writes the outputs, and the log if there is one. Fails as the run
     /// does, and with `Stop::Log` if the log could not be written.
-    pub fn over<R: ProgramHost, A: Source, B: Source, T: Write + Drop, F: Write + OpenFile + Drop>(
+    pub fn over<R: ProgramHost, A: Source, B: Source, T: Write + Drop, F: SeekableFile + Drop>(
         self,
         rt: &R,
         captures: CaptureDevices<A, B>,
         outputs: OutputDevices<T, F>,
         log: Option<LogOutput<LogDevice<Either<T, F>, LogPieces<'_, R>>>>,
-    ) -> StreamResult<A, B>
+    ) -> StreamResult<A, B, T, F>
         requires taken { TakesState self.config.now self.state.now }
-        requires few { IsFew self.kept.now }
+        requires saved { is_saved_log_state self.state.now self.saved.now ≡ true }
         requires named { is_some log ≡ is_some self.options.now.log }
         ensures saved { IfOk result.answer (λ left.
             is_some left.state ≡ is_some self.entry.options.now.files.save) }
-        ensures kept { IfOk result.answer (λ left. is_some left.log
-            ≡ (is_some log.entry && is_some self.entry.options.now.files.save)) }
         ensures stop { (streams : StandardStreams) → IfErr result.answer
             (IsRunStop streams (files_with_log self.entry.options.now)) }
     {
@@ -107,58 +98,46 @@ impl<'a> StreamRun<'a> {
         }
     }
 
-    fn without_log<
-        R: ProgramHost,
-        A: Source,
-        B: Source,
-        T: Write + Drop,
-        F: Write + OpenFile + Drop,
-    >(
+    fn without_log<R: ProgramHost, A: Source, B: Source, T: Write + Drop, F: SeekableFile + Drop>(
         self,
         rt: &R,
         captures: CaptureDevices<A, B>,
         outputs: OutputDevices<T, F>,
-    ) -> StreamResult<A, B>
+    ) -> StreamResult<A, B, T, F>
         requires { TakesState self.config.now self.state.now }
         ensures saved { IfOk result.answer (λ left.
             is_some left.state ≡ is_some self.entry.options.now.files.save) }
-        ensures kept { IfOk result.answer (λ left. is_some left.log ≡ false) }
         ensures stop { (streams : StandardStreams) → IfErr result.answer
             (IsRunStop streams (files_with_log self.entry.options.now)) }
     {
-        let options = self.options;
+        let (options, config) = (self.options, self.config);
         let start = self.start();
         let mut devices = run_devices(captures, outputs, NoLog);
         let answer = run_streams(rt, rt.alloc(), start, &mut devices, self.gate);
-        let Devices {
-            inside,
-            outside,
-            ..
-        } = devices;
+        let (captures, outputs, _) = parts_of(devices);
         StreamResult {
-            captures: CaptureDevices { inside, outside },
-            answer: ended(rt.alloc(), options, answer),
+            captures,
+            outputs,
+            answer: ended(rt.alloc(), options, config, answer),
         }
     }
 
-    fn with_log<R: ProgramHost, A: Source, B: Source, T: Write + Drop, F: Write + OpenFile + Drop>(
+    fn with_log<R: ProgramHost, A: Source, B: Source, T: Write + Drop, F: SeekableFile + Drop>(
         self,
         rt: &R,
         captures: CaptureDevices<A, B>,
         outputs: OutputDevices<T, F>,
         log: LogOutput<LogDevice<Either<T, F>, LogPieces<'_, R>>>,
-    ) -> StreamResult<A, B>
+    ) -> StreamResult<A, B, T, F>
         requires taken { TakesState self.config.now self.state.now }
-        requires few { IsFew self.kept.now }
+        requires saved { is_saved_log_state self.state.now self.saved.now ≡ true }
         requires named { is_some self.options.now.log ≡ true }
         ensures saved { IfOk result.answer (λ left.
             is_some left.state ≡ is_some self.entry.options.now.files.save) }
-        ensures kept { IfOk result.answer (λ left. is_some left.log
-            ≡ is_some self.entry.options.now.files.save) }
         ensures stop { (streams : StandardStreams) → IfErr result.answer
             (IsRunStop streams (files_with_log self.entry.options.now)) }
     {
-        let options = self.options;
+        let (options, config) = (self.options, self.config);
         let start = self.start();
         let LogOutput { device, is_new } = log;
         let writer = LogWriter {
@@ -167,15 +146,17 @@ impl<'a> StreamRun<'a> {
         };
         let mut devices = run_devices(captures, outputs, writer);
         let answer = run_streams_with_log(rt, rt.alloc(), start, &mut devices, self.gate);
-        let Devices {
-            inside,
-            outside,
-            log: LogWriter { device, .. },
-            ..
-        } = devices;
+        let (captures, outputs, LogWriter { device, .. }) = parts_of(devices);
         StreamResult {
-            captures: CaptureDevices { inside, outside },
-            answer: ended_with_log(rt.alloc(), options, answer, LogOutput { device, is_new }),
+            captures,
+            outputs,
+            answer: ended_with_log(
+                rt.alloc(),
+                options,
+                config,
+                answer,
+                LogOutput { device, is_new },
+            ),
         }
     }
 
@@ -192,13 +173,13 @@ impl<'a> StreamRun<'a> {
 
     /// Returns the start of the run's log, which is new or already has text.
     fn log_start(&self, is_new: bool) -> LogStart<'a>
-        ensures kept { result.kept ≡ self.now.kept }
+        ensures saved { result.saved ≡ self.now.saved }
         ensures is_new { result.is_new ≡ is_new }
         ensures goes_on { result.goes_on ≡ is_some self.now.options.now.files.save }
         ensures each { result.each ≡ self.now.options.now.log_each }
     {
         LogStart {
-            kept: self.kept,
+            saved: self.saved,
             is_new,
             goes_on: self.options.files.save.is_some(),
             each: self.options.log_each,
@@ -206,19 +187,44 @@ impl<'a> StreamRun<'a> {
     }
 }
 
-/// Returns the devices of a run.
-fn run_devices<A: Source, B: Source, T: Write + Drop, F: Write + Drop, L: Drop>(
-    captures: CaptureDevices<A, B>,
-    outputs: OutputDevices<T, F>,
-    log: L,
-) -> Devices<
+/// The devices of a run: `T` is standard output, `F` a file, `L` the log.
+type StreamDevices<A, B, T, F, L> = Devices<
     A,
     B,
     Watched<BufWriter<Either<T, F>>>,
     Either<Watched<BufWriter<Either<T, F>>>, NullSink>,
     Either<Watched<BufWriter<Either<T, F>>>, NullSink>,
     L,
->
+>;
+
+/// Returns the captures, the outputs and the log of a run's devices.
+fn parts_of<A: Source, B: Source, T: Write + Drop, F: Write + Drop, L: Drop>(
+    devices: StreamDevices<A, B, T, F, L>,
+) -> (CaptureDevices<A, B>, OutputDevices<T, F>, L)
+    ensures { result.2 ≡ devices.log }
+{
+    let Devices {
+        inside,
+        outside,
+        to_outside,
+        to_inside,
+        report,
+        log,
+    } = devices;
+    let outputs = OutputDevices {
+        to_outside,
+        to_inside,
+        report,
+    };
+    (CaptureDevices { inside, outside }, outputs, log)
+}
+
+/// Returns the devices of a run.
+fn run_devices<A: Source, B: Source, T: Write + Drop, F: Write + Drop, L: Drop>(
+    captures: CaptureDevices<A, B>,
+    outputs: OutputDevices<T, F>,
+    log: L,
+) -> StreamDevices<A, B, T, F, L>
     ensures { result.log ≡ log }
 {
     let CaptureDevices { inside, outside } = captures;
@@ -241,12 +247,12 @@ fn run_devices<A: Source, B: Source, T: Write + Drop, F: Write + Drop, L: Drop>(
 fn ended(
     alloc: Global,
     options: &OptionsWithLog,
+    config: &Config,
     answer: Result<RunEnd, Fault>,
 ) -> Result<StreamRemainder, Stop>
     requires gate { IfErr answer (λ fault. is_shut_gate_fault fault ≡ false) }
     requires log { IfErr answer (IsOfLog (files_with_log options.now)) }
     ensures saved { IfOk result (λ left. is_some left.state ≡ is_some options.now.files.save) }
-    ensures kept { IfOk result (λ left. is_some left.log ≡ false) }
     ensures stop { (streams : StandardStreams) → IfErr result
         (IsRunStop streams (files_with_log options.now)) }
 {
@@ -257,21 +263,23 @@ fn ended(
     let state = end
         .passed
         .into_state_if(options.files.save.is_some(), alloc)?;
-    Ok(StreamRemainder { state, log: None })
+    Ok(StreamRemainder {
+        state: contents(alloc, config, state, None)?,
+    })
 }
 
-/// Returns the result of the program for that of a run with a log, whose position it keeps if the
-/// state is to be saved. Fails as the run does, and with `Stop::Log` on a failed sync.
-fn ended_with_log<T: Write + Drop, F: Write + OpenFile + Drop, R: Files + AllocGlobal>(
+/// Returns the result of the program for that of a run with a log, whose accounts and end it keeps if
+/// the state is to be saved. Fails as the run does, and with `Stop::Log` on a failed sync.
+fn ended_with_log<T: Write + Drop, F: SeekableFile + Drop, R: Files + AllocGlobal>(
     alloc: Global,
     options: &OptionsWithLog,
+    config: &Config,
     answer: Result<RunEnd, Fault>,
     log: LogOutput<LogDevice<Either<T, F>, LogPieces<'_, R>>>,
 ) -> Result<StreamRemainder, Stop>
     requires gate { IfErr answer (λ fault. is_shut_gate_fault fault ≡ false) }
     requires log { is_some options.now.log ≡ true }
     ensures saved { IfOk result (λ left. is_some left.state ≡ is_some options.now.files.save) }
-    ensures kept { IfOk result (λ left. is_some left.log ≡ is_some options.now.files.save) }
     ensures stop { (streams : StandardStreams) → IfErr result
         (IsRunStop streams (files_with_log options.now)) }
 {
@@ -279,26 +287,33 @@ fn ended_with_log<T: Write + Drop, F: Write + OpenFile + Drop, R: Files + AllocG
         Ok(end) => end,
         Err(fault) => return Err(stop_of_run(options, fault)),
     };
-    let is_saved = options.files.save.is_some();
+    if options.files.save.is_none() {
+        return Ok(StreamRemainder { state: None });
+    }
     // A fault of the log is reported before that of the state.
-    let state = end.passed.into_state_if(is_saved, alloc);
-    let log = kept_if_saved(is_saved, end.log, log)?;
-    Ok(StreamRemainder { state: state?, log })
+    let state = end.passed.into_state_if(true, alloc);
+    let log_end = log.synced_end()?;
+    Ok(StreamRemainder {
+        state: contents(alloc, config, state?, Some((&end.log, log_end)))?,
+    })
 }
 
-/// Returns a log's position if the state is to be saved. Fails with `Stop::Log` on a failed sync.
-fn kept_if_saved<T: Write + Drop, F: Write + OpenFile + Drop, R: Files + AllocGlobal>(
-    is_saved: bool,
-    left: SavedLogState,
-    log: LogOutput<LogDevice<Either<T, F>, LogPieces<'_, R>>>,
-) -> Result<Option<LogPosition>, Stop>
-    ensures kept { IfOk result (λ kept. option_map (λ k. k.log) kept
-        ≡ if is_saved then Some left else None) }
-    ensures stop { IfErr result (λ stop. stop ≡ Stop.Log) }
+/// Returns what a run saves, if its state is to be saved. Fails with `MEMORY` if memory is refused.
+fn contents(
+    alloc: Global,
+    config: &Config,
+    state: Option<State>,
+    log: Option<(&OpenLog, LogEnd)>,
+) -> Result<Option<StateFileContents>, Stop>
+    ensures saved { IfOk result (λ made. is_some made ≡ is_some state) }
+    ensures stop { IfErr result (λ stop. stop ≡ MEMORY) }
 {
-    if !is_saved {
+    let Some(state) = state else {
         return Ok(None);
-    }
-    let length = log.synced_length()?;
-    Ok(Some(LogPosition { log: left, length }))
+    };
+    let Some((log, end)) = log else {
+        return Ok(Some(StateFileContents::of(alloc, config, state, None)?));
+    };
+    let saved = log.saved(alloc, &state)?;
+    Ok(Some(StateFileContents::of(alloc, config, state, Some((saved, end)))?))
 }

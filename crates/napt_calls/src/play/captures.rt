@@ -1,10 +1,10 @@
-//! Captures that are read and written.
+//! Reading and writing captures.
 
 use crate::CallFault;
 use crate::play::line::{Line, tell};
 use napt_capture::{LARGEST_RECORD, Record, Watched, read_capture, write_capture};
 
-/// A time in ns that a capture has no room for: 2 ^ 32 seconds.
+/// The first time in ns that a capture cannot contain: 2 ^ 32 seconds.
 const TIMES_END: u64 = 4_294_967_296_000_000_000;
 
 /// `read_capture BYTES`
@@ -16,7 +16,7 @@ pub(crate) fn tell_read<R: Print>(line: &mut Line<'_, R>) -> Result<(), CallFaul
     )
 }
 
-/// `write_capture TIME BYTES`: the text of a capture of that record.
+/// `write_capture TIME BYTES`: prints the text of a capture with that record.
 pub(crate) fn tell_written<R: Print>(line: &mut Line<'_, R>) -> Result<(), CallFault> {
     let time = line.number()?;
     let bytes = line.bytes()?;

@@ -1,4 +1,4 @@
-//! A line of standard input: its words, and the line that answers it.
+//! A line of standard input: its words, and the answer to it.
 
 use crate::CallFault;
 use napt_config::PortBlock;
@@ -7,7 +7,7 @@ use std::alloc::Global;
 use std::fmt::Debug;
 use std::str::SplitWhitespace;
 
-/// The words of a line that are not yet read, and what its call needs beside them: memory, and standard output for its answer.
+/// The words of a line that have not been read yet, and what its call needs in addition: memory, and standard output.
 #[derive(Drop)]
 pub(crate) struct Line<'a, R> {
     pub(crate) rt: &'a R,
@@ -15,7 +15,7 @@ pub(crate) struct Line<'a, R> {
     rest: SplitWhitespace<'a>,
 }
 
-/// Answers with what `{:?}` shows.
+/// Prints an answer as `{:?}` does.
 pub(crate) fn tell<R: Print, T: Debug>(rt: &R, answer: &T) -> Result<(), CallFault> {
     println!(rt; "{answer:?}").map_err(|_| CallFault::File)
 }
@@ -45,7 +45,7 @@ impl<'a, R> Line<'a, R> {
         self.word()?.parse::<u16>().map_err(|_| CallFault::Usage)
     }
 
-    /// An address and a number.
+    /// Reads an address and a number.
     pub(crate) fn endpoint(&mut self) -> Result<Endpoint, CallFault> {
         Ok(Endpoint {
             address: self.long()?,
@@ -53,7 +53,7 @@ impl<'a, R> Line<'a, R> {
         })
     }
 
-    /// Those of the letters F, S, R and A that are in a word; `-` has none.
+    /// Reads the flags with the letters F, S, R and A in a word; `-` has none.
     pub(crate) fn flags(&mut self) -> Result<Flags, CallFault> {
         let word = self.word()?;
         Ok(Flags {
@@ -64,7 +64,7 @@ impl<'a, R> Line<'a, R> {
         })
     }
 
-    /// The first number and the size of a block, if there are more words.
+    /// Reads the first number and the size of a block, if there are more words.
     pub(crate) fn block(&mut self) -> Result<Option<PortBlock>, CallFault> {
         let Ok(first) = self.short() else {
             return Ok(None);
@@ -98,7 +98,7 @@ impl<'a, R> Line<'a, R> {
         }
     }
 
-    /// All words that are left, a byte each.
+    /// Reads all remaining words, each of which is a byte.
     pub(crate) fn bytes(&mut self) -> Result<Vec<u8>, CallFault> {
         let mut bytes = Vec::new(self.alloc);
         for word in self.rest.by_ref() {

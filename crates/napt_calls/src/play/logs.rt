@@ -2,11 +2,11 @@
 
 use crate::CallFault;
 use crate::play::line::{Line, tell};
-use napt_account::{TrackedRun, in_order_of_making};
+use napt_account::{LoggedRun, in_order_of_making};
 use napt_config::Config;
 use napt_sequential::Input;
 
-/// `input SIDE NOW BYTES`: one more input.
+/// `input SIDE NOW BYTES`: adds an input.
 pub(crate) fn take_input<R: Print>(
     line: &mut Line<'_, R>,
     inputs: &mut Vec<Input>,
@@ -22,8 +22,8 @@ pub(crate) fn take_input<R: Print>(
     inputs.push(input).map_err(|_| CallFault::Call)
 }
 
-/// `logged`: which entries the log has ended, made and refused with each input, and what that did to the bindings; the entries that
-/// are left; and all entries, in order of making.
+/// `logged`: prints the entries that the log ends, makes and refuses with each input, and what the input did to the
+/// bindings; then the entries that remain, and all entries in the order of making.
 pub(crate) fn tell_log<R: Print>(
     line: &Line<'_, R>,
     config: Option<&Config>,
@@ -31,16 +31,18 @@ pub(crate) fn tell_log<R: Print>(
 ) -> Result<(), CallFault> {
     let (rt, alloc) = (line.rt, line.alloc);
     let config = config.ok_or(CallFault::Usage)?;
-    let mut run = TrackedRun::begin(alloc, config).map_err(|_| CallFault::Call)?;
+    let mut run = LoggedRun::from_config(alloc, config).map_err(|_| CallFault::Call)?;
     let mut listed = Vec::new(alloc);
     for input in inputs {
         let mut step = run.step(alloc, input).map_err(|_| CallFault::Call)?;
         print!(rt;
             "{:?} {:?} {:?} {:?}; ",
-            step.ended, step.made, step.refused, step.used
+            step.part.ended, step.part.made, step.part.refused, step.part.used
         )
         .map_err(|_| CallFault::File)?;
-        listed.append(&mut step.ended).map_err(|_| CallFault::Call)?;
+        listed
+            .append(&mut step.part.ended)
+            .map_err(|_| CallFault::Call)?;
     }
     let mut living = run.living(alloc).map_err(|_| CallFault::Call)?;
     print!(rt; "{living:?}; ").map_err(|_| CallFault::File)?;

@@ -1,4 +1,4 @@
-//! Two captures that are merged: whole, and as they are read.
+//! Two captures that are merged: in memory, and as they are read.
 
 ghost use Rattle.std.specs.Prelude.{◌≡◌, ◌<◌, ◌^◌, ◌-◌, IfOk};
 
@@ -12,10 +12,10 @@ use napt_records::{RecordStream, StreamMerger, merge};
 use napt_sequential::InputSource;
 use std::alloc::Global;
 
-/// How often a call asks for an input, so that each end of a text is told more than once.
+/// The number of times that a call asks for an input, so that each end of a text is reached more than once.
 const ASKS: u32 = 10;
 
-/// Both captures, of which the first has so many bytes.
+/// Reads both captures; the next word is the number of bytes in the first.
 fn captures<R>(line: &mut Line<'_, R>) -> Result<(Vec<u8>, Vec<u8>), CallFault> {
     let many = line.short()?;
     let mut inside = line.bytes()?;
@@ -28,7 +28,7 @@ fn captures<R>(line: &mut Line<'_, R>) -> Result<(Vec<u8>, Vec<u8>), CallFault> 
     Ok((inside, outside))
 }
 
-/// `merge LENGTH INSIDE OUTSIDE`: the inputs of two captures.
+/// `merge LENGTH INSIDE OUTSIDE`: prints the inputs of two captures.
 pub(crate) fn tell_merged<R: Print>(line: &mut Line<'_, R>) -> Result<(), CallFault> {
     let (inside, outside) = captures(line)?;
     let inside = records(line.alloc, &inside)?;
@@ -50,7 +50,7 @@ fn opened<'a, R: Source>(alloc: Global, source: &'a mut R) -> Result<RecordStrea
     Ok(RecordStream::new(source, records))
 }
 
-/// Tells before each input whether a device is asked, and then the input, whether the captures are cut, or their fault.
+/// Prints before each input whether a device is asked, and then the input, whether the captures are cut, or a fault.
 fn tell_inputs<P: Print, R: Source, Q: Source>(
     line: &Line<'_, P>,
     streams: &mut StreamMerger<'_, '_, R, Q>,
@@ -71,7 +71,7 @@ fn tell_inputs<P: Print, R: Source, Q: Source>(
     println!(line.rt; "").map_err(|_| CallFault::File)
 }
 
-/// The same, of streams that are let go.
+/// Prints the same of two streams, and closes them.
 fn tell_streams<P: Print, R: Source, Q: Source>(
     line: &Line<'_, P>,
     mut streams: StreamMerger<'_, '_, R, Q>,
@@ -81,8 +81,8 @@ fn tell_streams<P: Print, R: Source, Q: Source>(
     told
 }
 
-/// `streams MOST CALL LENGTH INSIDE OUTSIDE`: the same inputs as the captures are read, the outside at most so many bytes at a time,
-/// which fails at a call, counted from 1, or at none.
+/// `streams MOST CALL LENGTH INSIDE OUTSIDE`: prints the inputs of captures that are read in steps. The outside one
+/// returns at most MOST bytes from a read, and fails at the call number CALL, counted from 1, or never if it is 0.
 pub(crate) fn tell_read<R: Print>(line: &mut Line<'_, R>) -> Result<(), CallFault> {
     let plan = FaultPlan {
         most: usize::from(line.short()?),
@@ -100,7 +100,7 @@ pub(crate) fn tell_read<R: Print>(line: &mut Line<'_, R>) -> Result<(), CallFaul
     tell_streams(line, StreamMerger::new(line.alloc, first, second))
 }
 
-/// `stream INSIDE`: those of one capture alone.
+/// `stream INSIDE`: prints the inputs of one capture alone.
 pub(crate) fn tell_alone<R: Print>(line: &mut Line<'_, R>) -> Result<(), CallFault> {
     let inside = line.bytes()?;
     let mut first = Watched::new(inside.as_slice());

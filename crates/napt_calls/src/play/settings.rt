@@ -1,10 +1,10 @@
-//! Configurations, and what they say of hosts and of external numbers.
+//! Configurations, and what they say about hosts and external numbers.
 
 use crate::CallFault;
 use crate::play::line::{Line, tell};
 use napt_config::Config;
 
-/// `settings TEXT`: reads a configuration, and tells what refuses it, if anything.
+/// `settings TEXT`: reads a configuration, and prints why it is refused, if it is.
 pub(crate) fn read<R: Print>(line: &mut Line<'_, R>) -> Result<Option<Config>, CallFault> {
     let text = line.bytes()?;
     let (config, fault) = match Config::read(line.alloc, &text) {
@@ -15,7 +15,7 @@ pub(crate) fn read<R: Print>(line: &mut Line<'_, R>) -> Result<Option<Config>, C
     Ok(config)
 }
 
-/// `copy`, of the current configuration, or `built_in`
+/// `copy`, of the current configuration, or `built_in`.
 pub(crate) fn made<R: Print>(
     line: &Line<'_, R>,
     config: Option<&Config>,
@@ -28,7 +28,7 @@ pub(crate) fn made<R: Print>(
     Ok(Some(made.map_err(|_| CallFault::Call)?))
 }
 
-/// A call on the current configuration.
+/// Makes a call on the current configuration.
 pub(crate) fn answer<R: Print>(
     line: &mut Line<'_, R>,
     config: &Config,

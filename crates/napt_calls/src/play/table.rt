@@ -10,8 +10,8 @@ use napt_config::{Config, PortBlock};
 use napt_table::{OutboundPacket, Table};
 use napt_wire::Protocol;
 
-/// `table ADDRESS CONFIGURATION`: a table of that address, behind a box: a function that owns one as it stands takes minutes to
-/// prove.
+/// `table ADDRESS CONFIGURATION`: makes a table of that address, in a box: a function that owns a table itself takes
+/// minutes to prove.
 pub(crate) fn begun<R: Print>(line: &mut Line<'_, R>) -> Result<Box<Table>, CallFault> {
     let address = line.long()?;
     let config = Config::read(line.alloc, &line.bytes()?).map_err(|_| CallFault::Config)?;
@@ -20,7 +20,7 @@ pub(crate) fn begun<R: Print>(line: &mut Line<'_, R>) -> Result<Box<Table>, Call
     Box::new(line.alloc, table).map_err(|_| CallFault::Call)
 }
 
-/// A call on the current table; `count` tells how many bindings `bindings` lists.
+/// Makes a call on the current table; `count` prints the number of bindings that `bindings` lists.
 pub(crate) fn answer<R: Print>(
     line: &mut Line<'_, R>,
     table: &mut Table,
@@ -52,7 +52,7 @@ pub(crate) fn answer<R: Print>(
     }
 }
 
-/// Whether there is no block, or an even number of numbers from an even one on, behind those below 1024.
+/// Whether there is no block, or one of an even size whose first number is even and at least 1024.
 fn keeps_block(block: Option<PortBlock>) -> bool
     ensures { result ≡ true → IfSome block IsPortBlock }
 {
@@ -63,7 +63,7 @@ fn keeps_block(block: Option<PortBlock>) -> bool
     first % 2 == 0 && first >= 1024 && size % 2 == 0 && size >= 64 && end <= 65_536
 }
 
-/// Whether a number may be that of an endpoint: port 0 may not (RFC 768).
+/// Whether a number can be that of an endpoint: port 0 cannot (RFC 768).
 pub(crate) fn is_number(protocol: Protocol, number: u16) -> bool
     ensures { result ≡ true → IsNumber protocol number }
 {
@@ -73,7 +73,7 @@ pub(crate) fn is_number(protocol: Protocol, number: u16) -> bool
     }
 }
 
-/// `outbound NOW PROTOCOL INSIDE REMOTE FLAGS`, and the first number and the size of the block of the inside host, if it has one.
+/// `outbound NOW PROTOCOL INSIDE REMOTE FLAGS`, and the first number and the size of the host's block, if it has one.
 fn outbound<R: Print>(line: &mut Line<'_, R>, table: &mut Table, now: u64) -> Result<(), CallFault>
     requires { table.old.at ≤ now }
 {

@@ -13,7 +13,7 @@ pub(crate) struct Translators {
     all: Vec<Translator>,
 }
 
-/// `translators CONFIGURATION`
+/// `translators CONFIGURATION`.
 pub(crate) fn begun<R: Print>(line: &mut Line<'_, R>) -> Result<Translators, CallFault> {
     let alloc = line.alloc;
     let config = Config::read(alloc, &line.bytes()?).map_err(|_| CallFault::Config)?;
@@ -30,13 +30,13 @@ pub(crate) fn begun<R: Print>(line: &mut Line<'_, R>) -> Result<Translators, Cal
 }
 
 impl Translators {
-    /// The translator at the place that the next word says.
+    /// Returns the translator at the index in the next word.
     fn at<R>(&mut self, line: &mut Line<'_, R>) -> Result<&mut Translator, CallFault> {
         let place = line.short()?;
         self.all.get_mut(usize::from(place)).ok_or(CallFault::Usage)
     }
 
-    /// `route SIDE`, of the current packet
+    /// `route SIDE`, for the current packet.
     pub(crate) fn tell_route<R: Print>(
         &self,
         line: &mut Line<'_, R>,
@@ -45,7 +45,7 @@ impl Translators {
         tell(line.rt, &route(&self.config, line.side()?, packet))
     }
 
-    /// `onward`, of the current packet
+    /// `onward`, for the current packet.
     pub(crate) fn tell_onward<R: Print>(
         &self,
         line: &Line<'_, R>,
@@ -54,7 +54,7 @@ impl Translators {
         tell(line.rt, &onward(&self.config, packet))
     }
 
-    /// `translate PLACE NUMBER NOW WAY`: a leg of the current packet; the one that leaves is the current one from now on.
+    /// `translate PLACE NUMBER NOW WAY`: makes a leg of the current packet, which becomes the packet that leaves.
     pub(crate) fn translate<R: Print>(
         &mut self,
         line: &mut Line<'_, R>,
@@ -73,7 +73,7 @@ impl Translators {
         tell_end(line.rt, answer)
     }
 
-    /// `rows PLACE NOW`: the bindings of a translator.
+    /// `rows PLACE NOW`: prints the bindings of a translator.
     pub(crate) fn tell_rows<R: Print>(&mut self, line: &mut Line<'_, R>) -> Result<(), CallFault> {
         let translator = self.at(line)?;
         let rows = translator
@@ -83,7 +83,7 @@ impl Translators {
     }
 }
 
-/// Tells the number of a leg and how it ends, and hands on the packet that leaves.
+/// Prints the number and the end of a leg, and returns the packet that leaves.
 fn tell_end<R: Print>(rt: &R, answer: Answer) -> Result<Option<Packet>, CallFault> {
     let Answer { number, end } = answer;
     print!(rt; "{number} ").map_err(|_| CallFault::File)?;

@@ -1,5 +1,5 @@
-//! A run over captures that are read whole, or as they come: with a growth of memory refused, and with each call of each device refused
-//! in turn.
+//! A run over captures that are read at once or in steps: with a growth of memory refused, and with each call of each
+//! device refused in turn.
 
 ghost use Rattle.std.specs.Prelude.{◌<◌};
 
@@ -13,13 +13,13 @@ use napt_run::{Devices, NoLog, Start, initial_state, run_captures, run_streams};
 use napt_wire::Side;
 use std::sync::Arc;
 
-/// How many bytes an output has room for, so that none grows while it is written.
+/// The capacity of an output in bytes, so that none grows while it is written.
 const ROOM: usize = 4096;
 
-/// How many bytes a device moves at once.
+/// The greatest number of bytes that a device moves in a call.
 const AT_ONCE: usize = 16;
 
-/// The most calls that a device has in a run.
+/// The greatest number of calls of a device in a run.
 const MOST_CALLS: u64 = 200;
 
 /// A device of the run.
@@ -32,7 +32,7 @@ enum RefusingDevice {
     Report,
 }
 
-/// The call of a device that goes wrong, counted from 1; none where it is 0.
+/// The call of a device that fails, counted from 1; 0 if none does.
 #[derive(Clone, Copy)]
 struct Refusal {
     device: RefusingDevice,
@@ -41,7 +41,7 @@ struct Refusal {
 }
 
 impl Refusal {
-    /// What a device does.
+    /// Returns the plan of a device.
     fn plan(self, device: RefusingDevice) -> FaultPlan
         ensures { 0 < result.most }
     {
@@ -54,7 +54,7 @@ impl Refusal {
     }
 }
 
-/// What a run answers and writes.
+/// What a run returns and writes.
 #[derive(Drop)]
 struct CallOutput {
     answer: Result<(), Fault>,
@@ -63,7 +63,7 @@ struct CallOutput {
     report: Vec<u8>,
 }
 
-/// Makes the run, through the gate.
+/// Makes the run, with this gate.
 fn make_run(
     rt: &impl System,
     config: &Config,
@@ -113,14 +113,14 @@ fn make_run(
     })
 }
 
-/// No call goes wrong.
+/// No call fails.
 const NONE: Refusal = Refusal {
     device: RefusingDevice::Inside,
     call: 0,
     trouble: InjectedFault::Fails,
 };
 
-/// Makes the run, and looks at what it leaves.
+/// Makes the run, and checks what it leaves.
 fn tried(
     rt: &impl System,
     config: &Config,
@@ -132,12 +132,12 @@ fn tried(
     looked_at(rt, &counts, run)
 }
 
-/// The run, and what it leaves: outputs that are whole. Where memory or a thread was refused they are empty after whole captures, and
-/// else begin as the whole ones.
+/// Makes the run. Its outputs must be complete. If memory or a thread was refused, they must be empty after captures
+/// that are read at once, and prefixes of the complete ones otherwise.
 pub(crate) fn ended(rt: &impl System, are_whole: bool) -> Result<(), CallResult> {
     let config = configuration(rt.alloc())?;
     let run = tried(rt, &config, are_whole, NONE)?;
-    // a packet to the outside, two to inside hosts
+    // One packet to the outside, two to inside hosts.
     let (whole, written) = ((68, 112), (run.to_outside.len(), run.to_inside.len()));
     let most = if are_whole { (0, 0) } else { whole };
     match run.answer {
@@ -152,8 +152,8 @@ pub(crate) fn ended(rt: &impl System, are_whole: bool) -> Result<(), CallResult>
     }
 }
 
-/// Refuses each call of each device in turn, while the captures come: no thread is left, each output begins as that of the whole run, and
-/// the fault names the device, and how much of an output is written.
+/// Refuses each call of each device in turn, over captures that are read in steps. No thread is left, each output is a
+/// prefix of that of the complete run, and the fault names the device and how much of an output was written.
 pub(crate) fn devices_ended(rt: &impl System) -> Result<(), CallResult> {
     let config = configuration(rt.alloc())?;
     let whole = tried(rt, &config, false, NONE)?;
@@ -179,7 +179,7 @@ fn sweep(
     for call in 1..MOST_CALLS {
         let mut is_over = false;
         for trouble in [InjectedFault::Fails, InjectedFault::TakesNone] {
-            // a capture that ends earlier is another capture
+            // A capture that ends earlier is another capture.
             let is_source = matches!(device, RefusingDevice::Inside | RefusingDevice::Outside);
             if is_source && trouble == InjectedFault::TakesNone {
                 continue;
@@ -200,7 +200,7 @@ fn sweep(
     Err(CallResult::Wrong("a device has no end of calls"))
 }
 
-/// Whether a run in which one call of a device went wrong ended as it should.
+/// Checks that a run in which one call of a device failed ended as it should.
 fn judge(device: RefusingDevice, run: &CallOutput, whole: &CallOutput) -> Result<(), CallResult> {
     let begins = whole.to_outside.starts_with(&run.to_outside)
         && whole.to_inside.starts_with(&run.to_inside)

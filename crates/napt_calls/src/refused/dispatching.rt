@@ -15,7 +15,7 @@ use std::alloc::{AllocError, Global};
 use std::marker::PhantomData;
 use std::sync::Arc;
 
-/// The workers of all external addresses before any leg, in the order of the pool.
+/// Returns the workers of all external addresses before any leg, in the order of the pool.
 fn workers(alloc: Global, config: &Config) -> Result<Vec<Worker<NoTrace>>, AllocError>
     ensures kept { RulesInvariant config.now }
     ensures made { IfOk result (λ made. made.items

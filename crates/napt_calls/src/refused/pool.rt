@@ -10,10 +10,10 @@ use std::alloc::{AllocError, Global};
 use std::sync::Arc;
 use std::sync::atomic::Ordering;
 
-/// How many workers there are.
+/// The number of workers.
 const WORKERS: u32 = 3;
 
-/// Answers each item with itself, and takes memory for each step. What is made and dropped of it is counted.
+/// Answers each item with itself, and takes memory for each step. The machines that are made and dropped are counted.
 struct Echo {
     counts: Arc<Counts>,
 }
@@ -41,7 +41,7 @@ impl Machine for Echo {
     }
 }
 
-/// The machines of the pool.
+/// Returns the machines of the pool.
 fn machines(alloc: Global, counts: &Arc<Counts>) -> Result<Vec<Echo>, AllocError>
     ensures { IfOk result (λ v. vec_len v ≡ 3) }
 {
@@ -54,7 +54,7 @@ fn machines(alloc: Global, counts: &Arc<Counts>) -> Result<Vec<Echo>, AllocError
     Ok(all)
 }
 
-/// Offers a worker as many items as it may owe answers, and says whether it took them.
+/// Offers a worker as many items as it may owe answers, and returns whether it took them.
 fn fill<G: Gate>(alloc: Global, pool: &mut Pool<Echo, G>, w: u32) -> bool
     requires { w < length (initial_machines pool.old) }
     ensures { length (initial_machines pool.new) ≡ length (initial_machines pool.old) }
@@ -64,7 +64,7 @@ fn fill<G: Gate>(alloc: Global, pool: &mut Pool<Echo, G>, w: u32) -> bool
     first && second
 }
 
-/// Whether each worker handed back the answers to its items.
+/// Whether each worker returned the answers to its items.
 fn are_whole(ended: &[Ended<Echo>]) -> bool {
     for end in ended {
         if end.answers.as_slice() != [7, 8].as_slice() {
@@ -74,7 +74,7 @@ fn are_whole(ended: &[Ended<Echo>]) -> bool {
     ended.len() == WORKERS as usize
 }
 
-/// What a fault of the pool comes to.
+/// Returns the end of the call after a fault of the pool.
 fn end_of(fault: PoolFault) -> CallResult {
     match fault {
         PoolFault::Memory => CallResult::Memory,

@@ -1,4 +1,4 @@
-//! A capture and a configuration that are read.
+//! Reading a capture and a configuration.
 
 use crate::refused::CallResult;
 use napt_capture::{CaptureFault, Watched, read_capture};
@@ -12,7 +12,7 @@ const CAPTURE: [u8; 62] = [
     1, 0, 0, 0, 0, 0, 0, 0, 2, 0, 0, 0, 2, 0, 0, 0, 1, 2, // the second
 ];
 
-/// Each key that a configuration may have.
+/// Each key that a configuration can have.
 const CONFIGURATION: &str = r#"
 pool = ["203.0.113.1", "203.0.113.2"]
 inside = ["10.0.0.0/8", "192.168.0.0/16"]

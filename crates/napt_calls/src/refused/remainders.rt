@@ -1,4 +1,4 @@
-//! What workers leave behind: machines, threads, and asks of their gate.
+//! What workers leave: machines, threads, and questions to their gate.
 
 use crate::refused::CallResult;
 use napt_pool::{Backoff, Gate};
@@ -8,10 +8,10 @@ use std::sync::atomic::{AtomicU64, Ordering};
 use std::sync::{Arc, Wait};
 use std::{fs, io};
 
-/// The most often that the program looks whether a thread has gone.
+/// The greatest number of times that the program checks whether a thread has ended.
 const MOST_LOOKS: u32 = 10_000;
 
-/// What machines and gate count.
+/// The counts of machines and of the gate.
 #[derive(Drop)]
 pub(crate) struct Counts {
     pub(crate) made: AtomicU64,
@@ -19,7 +19,7 @@ pub(crate) struct Counts {
     asks: AtomicU64,
 }
 
-/// Always says yes, and counts how often it is asked.
+/// A gate that is always open, and counts how often it is asked.
 #[derive(Drop)]
 pub(crate) struct GateCounter {
     counts: Arc<Counts>,
@@ -36,7 +36,7 @@ impl Gate for GateCounter {
     }
 }
 
-/// Counts, and a gate that counts there.
+/// Returns new counts, and a gate that counts in them.
 pub(crate) fn counted(alloc: Global) -> Result<(Arc<Counts>, Arc<GateCounter>), AllocError> {
     let counts = Counts {
         made: AtomicU64::new(0),
@@ -50,13 +50,13 @@ pub(crate) fn counted(alloc: Global) -> Result<(Arc<Counts>, Arc<GateCounter>), 
     Ok((counts, Arc::new(alloc, asked)?))
 }
 
-/// Whether the system counts one thread of this program.
+/// Whether this program has one thread, by the system's count.
 fn is_alone<R: Files + AllocGlobal>(rt: &R) -> io::Result<bool> {
     let status = fs::read_to_string(rt, "/proc/self/status")?;
     Ok(status.as_str().contains("\nThreads:\t1\n"))
 }
 
-/// Looks until this program has one thread, and says whether that came.
+/// Waits until this program has one thread, and returns whether that happened.
 fn is_soon_alone<R: Files + AllocGlobal + Wait>(rt: &R) -> io::Result<bool> {
     let mut backoff = Backoff::new();
     for _ in 0..MOST_LOOKS {
@@ -68,8 +68,8 @@ fn is_soon_alone<R: Files + AllocGlobal + Wait>(rt: &R) -> io::Result<bool> {
     Ok(false)
 }
 
-/// What the call came to, where nothing is left: each machine has been dropped, no thread runs beside the first, and the gate is not asked
-/// any more.
+/// Returns the end of the call, if nothing is left: each machine has been dropped, only the first thread runs, and the
+/// gate is not asked any more.
 pub(crate) fn looked_at<R: Files + AllocGlobal + Wait, T: Drop>(
     rt: &R,
     counts: &Counts,

@@ -1,5 +1,5 @@
-//! Two captures, one of each side; runs over their inputs through two external addresses, on workers and on one thread; and these inputs,
-//! merged.
+//! Two captures, one of each side; runs over their inputs with two external addresses, on workers and on one thread;
+//! and the merging of these inputs.
 
 use crate::refused::remainders::{counted, looked_at};
 use crate::refused::{CallResult, System};
@@ -35,7 +35,7 @@ pub(crate) const OUTSIDE: [u8; 68] = [
     0xcb, 0x00, 0x71, 0x02, 0x00, 0x35, 0x1b, 0x58, 0x00, 0x08, 0x00, 0x00,
 ];
 
-/// What a fault of a run comes to.
+/// Returns the end of the call after a fault of a run.
 pub(crate) fn end_of_run(fault: RunFault) -> CallResult {
     match fault {
         RunFault::Memory | RunFault::Pool(PoolFault::Memory) => CallResult::Memory,
@@ -44,24 +44,24 @@ pub(crate) fn end_of_run(fault: RunFault) -> CallResult {
     }
 }
 
-/// The configuration, before the call.
+/// Reads the configuration, before the call.
 pub(crate) fn configuration(alloc: Global) -> Result<Config, CallResult> {
     Config::read(alloc, CONFIGURATION.as_bytes()).map_err(|_| CallResult::Before)
 }
 
-/// The records of a capture, before the call.
+/// Reads the records of a capture, before the call.
 fn records(alloc: Global, capture: &[u8]) -> Result<Vec<Record>, CallResult> {
     let capture = read_capture(alloc, &mut Watched::new(capture)).map_err(|_| CallResult::Before)?;
     Ok(capture.records)
 }
 
-/// The merged inputs, before the call.
+/// Merges the inputs, before the call.
 pub(crate) fn inputs(alloc: Global) -> Result<Vec<Input>, CallResult> {
     let (inside, outside) = (records(alloc, &INSIDE)?, records(alloc, &OUTSIDE)?);
     merge(alloc, inside, outside).map_err(|_| CallResult::Before)
 }
 
-/// Whether an input is a packet of 28 bytes that came from a side at a time, in seconds, the latest so far.
+/// Whether an input is a packet of 28 bytes that arrived from a side at a time, in seconds, the latest so far.
 fn came(input: &Input, side: Side, seconds: u64) -> bool {
     let time = seconds.saturating_mul(1_000_000_000);
     input.side == side && input.time == time && input.clock == time && input.bytes.len() == 28
@@ -79,7 +79,7 @@ fn are_merged(inputs: &[Input]) -> bool {
     }
 }
 
-/// The records of both captures are merged.
+/// Merges the records of both captures.
 pub(crate) fn merge_ended(alloc: Global) -> Result<(), CallResult> {
     let (inside, outside) = (records(alloc, &INSIDE)?, records(alloc, &OUTSIDE)?);
     match merge(alloc, inside, outside) {
@@ -89,7 +89,7 @@ pub(crate) fn merge_ended(alloc: Global) -> Result<(), CallResult> {
     }
 }
 
-/// The run on one thread.
+/// Makes the run on one thread.
 pub(crate) fn plain_ended(alloc: Global) -> Result<(), CallResult> {
     let (config, inputs) = (configuration(alloc)?, inputs(alloc)?);
     match run_plain(alloc, &config, &inputs) {
@@ -99,7 +99,7 @@ pub(crate) fn plain_ended(alloc: Global) -> Result<(), CallResult> {
     }
 }
 
-/// The run over workers.
+/// Makes the run over workers.
 pub(crate) fn workers_ended(rt: &impl System) -> Result<(), CallResult> {
     let alloc = rt.alloc();
     let (config, inputs) = (configuration(alloc)?, inputs(alloc)?);

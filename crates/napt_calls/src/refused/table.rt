@@ -12,25 +12,25 @@ const SECOND: u64 = 1_000_000_000;
 /// 203.0.113.1
 const EXTERNAL: u32 = 0xCB00_7101;
 
-/// The table's address, and a filter under which a flow shows.
+/// The table's address, and a filter with which flows can be observed.
 const CONFIGURATION: &str =
     "pool = [\"203.0.113.1\"]\ninside = [\"10.0.0.0/8\"]\nfilter = \"address-port\"\n";
 
-/// How many packets there are.
+/// The number of packets.
 const PACKETS: u16 = 60;
 
-/// What a packet is to the table.
+/// The kinds of packets.
 #[derive(Clone, Copy)]
 pub(crate) enum TableCall {
-    /// Each is the first of its host.
+    /// Each packet is the first of its host.
     Bindings,
-    /// Each but the first of its protocol is of a binding that is there, to another remote.
+    /// Each packet but the first of its protocol has an existing binding, and is sent to another remote.
     Flows,
-    /// Each comes 400 s after the one before it of its protocol and host, whose binding has ended by then; others are live.
+    /// Each packet is sent 400 s after the last of its protocol and host, whose binding has ended; others are live.
     Ends,
 }
 
-/// A packet that goes out, at a time in ns.
+/// A packet that is sent, at a time in ns.
 #[derive(Clone, Copy)]
 struct TablePacket {
     now: u64,
@@ -40,8 +40,8 @@ struct TablePacket {
     flags: Flags,
 }
 
-/// The packet of a kind at a place in the order, one of each protocol in turn: from 10.0.0.0:5000 and on, to 198.51.100.0:53 and
-/// on.
+/// Returns the packet of a kind at an index, one of each protocol in turn: from 10.0.0.0:5000 on, to 198.51.100.0:53
+/// and on.
 fn packet_of(kind: TableCall, place: u16) -> TablePacket {
     let round = place / 3;
     let protocol = match place % 3 {
@@ -74,7 +74,7 @@ fn packet_of(kind: TableCall, place: u16) -> TablePacket {
     }
 }
 
-/// Sends the packet: the external number; none where the packet is refused, or may not be sent.
+/// Sends the packet, and returns the external number, or `None` if the packet is refused or may not be sent.
 fn send(alloc: Global, table: &mut Table, packet: TablePacket) -> Result<Option<u16>, AllocError> {
     let TablePacket {
         now,
@@ -90,7 +90,7 @@ fn send(alloc: Global, table: &mut Table, packet: TablePacket) -> Result<Option<
     Ok(answer.ok())
 }
 
-/// Whether an answer to the packet comes in, where its external number is that of its inside endpoint.
+/// Whether an answer to the packet comes in, if its external number is that of its inside endpoint.
 fn is_answered(table: &mut Table, packet: TablePacket) -> bool {
     if packet.now < table.at() {
         return false;
@@ -105,7 +105,7 @@ fn is_answered(table: &mut Table, packet: TablePacket) -> bool {
         .is_ok()
 }
 
-/// The rows at each of the times.
+/// Returns the rows at each of the times.
 fn rows_at(alloc: Global, table: &Table, times: &[u64]) -> Result<Vec<Row>, AllocError> {
     let mut all = Vec::new(alloc);
     for time in times {
@@ -116,7 +116,7 @@ fn rows_at(alloc: Global, table: &Table, times: &[u64]) -> Result<Vec<Row>, Allo
     Ok(all)
 }
 
-/// Sends the packet, and looks at the table where it is refused.
+/// Sends the packet, and checks the table if it is refused.
 fn step(alloc: Global, table: &mut Table, packet: TablePacket) -> Result<(), CallResult> {
     let at = table.at();
     let lasts = match packet.protocol {
@@ -124,7 +124,7 @@ fn step(alloc: Global, table: &mut Table, packet: TablePacket) -> Result<(), Cal
         Protocol::Tcp => 240,
         Protocol::Udp => 300,
     };
-    // when the packet before it came, when it comes, and when what is as old as the packet before it has ended
+    // The times of the packet before it, of the packet, and when a binding as old as the packet before it has ended.
     let times = [at, packet.now, at.saturating_add(lasts * SECOND)];
     let before = rows_at(alloc, table, &times)?;
     match send(alloc, table, packet) {
@@ -140,7 +140,7 @@ fn step(alloc: Global, table: &mut Table, packet: TablePacket) -> Result<(), Cal
     }
 }
 
-/// What a refused packet comes to: no answer to it comes in, until it is sent again and passes.
+/// Returns the end of the call after a refused packet: no answer to it comes in, until it is sent again and passes.
 fn sent_again(alloc: Global, table: &mut Table, packet: TablePacket) -> CallResult {
     if is_answered(table, packet) {
         return CallResult::Wrong("a refused packet is answered");
@@ -157,7 +157,7 @@ fn sent_again(alloc: Global, table: &mut Table, packet: TablePacket) -> CallResu
 pub(crate) fn ended(alloc: Global, kind: TableCall) -> Result<(), CallResult> {
     let config = Config::read(alloc, CONFIGURATION.as_bytes()).map_err(|_| CallResult::Before)?;
     let table = Table::new(alloc, EXTERNAL, &config)?;
-    // behind a box: a function that owns a table as it stands takes minutes to prove
+    // In a box: a function that owns a table itself takes minutes to prove.
     let mut table = Box::new(alloc, table).map_err(|_| CallResult::Before)?;
     for place in 0..PACKETS {
         step(alloc, &mut table, packet_of(kind, place))?;

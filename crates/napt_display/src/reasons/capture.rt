@@ -4,6 +4,7 @@ ghost use Rattle.std.specs.Prelude.{◌≤◌, ◌+◌, IfOk, OnOk, vec_len};
 
 use crate::reasons::reason::{Reason, add};
 use napt_capture::CaptureFault;
+use napt_config::Prefix;
 use std::alloc::{AllocError, Global};
 
 /// The call of split that makes of a capture what napt reads.
@@ -13,8 +14,8 @@ pub struct SplitAdvice<'a> {
     pub command: &'a str,
     /// The path of the capture; none if it has none.
     pub capture: Option<&'a str>,
-    /// The prefixes of inside hosts, with spaces between them.
-    pub inside: &'a str,
+    /// The prefixes of inside hosts.
+    pub inside: &'a [Prefix],
 }
 
 /// What some bytes seem to be.
@@ -77,7 +78,7 @@ fn pcap(bytes: &[u8], is_big: bool, unit: &'static str) -> FileForm {
     FileForm::Pcap(CaptureSpelling { order, unit }, link)
 }
 
-/// The name of a link type whose headers split cuts.
+/// The name of a link type that captures often have.
 fn link_name(link: u32) -> Option<&'static str> {
     match link {
         0 => Some("BSD loopback"),
@@ -131,10 +132,15 @@ fn add_form(
         }
         FileForm::Pcapng => add_split(alloc, reasons, splitting, "in.pcapng"),
         FileForm::Gzip => add_split(alloc, reasons, splitting, "in.pcap.gz"),
-        FileForm::Pcap(_, link) => match link_name(link) {
-            Some(_) => add_split(alloc, reasons, splitting, "in.pcap"),
-            None => Ok(()),
-        },
+        FileForm::Pcap(_, 9 | 50 | 51) => {
+            let text =
+                "capture at the ppp interface itself, as tcpdump -i ppp0 does: split does not read this";
+            add(reasons, "do", String::from_str(alloc, text))
+        }
+        FileForm::Pcap(_, 1 | 12 | 14 | 113 | 276) => {
+            add_split(alloc, reasons, splitting, "in.pcap")
+        }
+        FileForm::Pcap(..) => Ok(()),
     }
 }
 
@@ -153,8 +159,12 @@ fn add_split(
         ..
     } = splitting;
     let capture = splitting.capture.unwrap_or(other);
-    let call = format!(in alloc; "{command} {capture} --inside {inside} --out DIR");
-    add(reasons, "do", call)?;
+    let mut call = format!(in alloc; "{command} {capture} --inside")?;
+    for prefix in inside {
+        call.push_str(&format!(in alloc; " {prefix}")?)?;
+    }
+    call.push_str(" --out DIR")?;
+    add(reasons, "do", Ok(call))?;
     let more = "DIR/inside.pcap and DIR/outside.pcap are then what napt reads (docs/CAPTURES.md)";
     add(reasons, "", String::from_str(alloc, more))
 }

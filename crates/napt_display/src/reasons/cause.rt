@@ -62,7 +62,7 @@ impl CauseText {
             Cause::BadPort => CauseText::new("a port 0"),
             Cause::Spoofed => CauseText::with(
                 "the source belongs to the other side",
-                "the captures are exchanged, one is of both interfaces, or a prefix is missing in `inside`",
+                "the captures are swapped, one is of both interfaces, or a prefix is missing in `inside`",
             ),
             Cause::NotOurs => CauseText {
                 advice_of_replies: Some("is this an outside capture? (`--outside`)"),

@@ -1,4 +1,4 @@
-//! Sets at the borders of their words.
+//! Sets at the boundaries of their words.
 
 use napt_collections::BitSet;
 use std::test::Fail;
@@ -6,7 +6,7 @@ use std::test::Fail;
 /// One past the greatest number.
 const END: u32 = 65_536;
 
-/// The first numbers that are absent from a place on: of all, and of those below an end.
+/// Returns the first absent numbers from a number on: of all numbers, and of those below an end.
 fn absent(set: &BitSet, from: u32, end: u32) -> [Option<u32>; 2] {
     [
         set.first_absent(from, END),
@@ -24,7 +24,7 @@ fn nothing_is_in_a_new_set(rt: HostRuntime) -> Result<(), Fail> {
     Ok(())
 }
 
-/// A number is put in twice, and taken out twice. Its neighbour is not in the set.
+/// A number is inserted twice, and removed twice. Its neighbour is not in the set.
 #[test]
 fn one_number_at_a_border(rt: HostRuntime) -> Result<(), Fail> {
     for number in [0, 63, 64, 4_095, 4_096, 65_534] {
@@ -46,7 +46,7 @@ fn one_number_at_a_border(rt: HostRuntime) -> Result<(), Fail> {
     Ok(())
 }
 
-/// A full set without one number, which then is there again.
+/// A number is removed from a full set and inserted again.
 #[test]
 fn all_numbers_but_one(rt: HostRuntime) -> Result<(), Fail> {
     let mut set = BitSet::new(rt.alloc())?;

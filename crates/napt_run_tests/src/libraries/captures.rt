@@ -1,4 +1,4 @@
-//! Captures on devices that fail. What their bytes say is told in `tests/calls`.
+//! Captures on devices that fail. The meaning of their bytes is in `tests/calls`.
 
 ghost use Rattle.std.specs.Prelude.{◌<◌, ◌*◌, ◌^◌, length, All, IfOk};
 ghost use Rattle.napt_capture.specs.Text.{IsWritable};
@@ -16,10 +16,10 @@ use std::io::{Read, Write};
 use std::process::Abort;
 use std::test::*;
 
-/// How many records a capture has, and whether its last is cut.
+/// The number of records in a capture, and whether its last is cut.
 pub(crate) type Shape = (usize, bool);
 
-/// The shape of a capture that is read whole from a device.
+/// Returns the shape of a capture that is read as a whole from a device.
 pub(crate) fn shape_of(alloc: Global, bytes: &[u8], plan: FaultPlan) -> Result<Shape, CaptureFault>
     requires { 0 < plan.most }
 {
@@ -34,7 +34,7 @@ pub(crate) fn shape_of(alloc: Global, bytes: &[u8], plan: FaultPlan) -> Result<S
     Ok((capture.records.len(), capture.cut))
 }
 
-/// What the capture of one packet comes to where it ends after so many of its bytes.
+/// Returns the shape of the capture of one packet, if it ends after this number of its bytes.
 fn shape_of_front(length: u16) -> Result<Shape, CaptureFault> {
     match length {
         0..=23 => Err(CaptureFault::NoHeader),
@@ -44,7 +44,7 @@ fn shape_of_front(length: u16) -> Result<Shape, CaptureFault> {
     }
 }
 
-/// How many bytes a read gives, and how many reads the capture takes: the last finds the end.
+/// The number of bytes that a read returns, and of the reads of the capture: the last finds the end.
 #[test]
 fn each_read_fails_in_turn(rt: HostRuntime) {
     let all_reads = [4, 4, 5, 6, 13, 36, 71];
@@ -62,7 +62,7 @@ fn each_read_fails_in_turn(rt: HostRuntime) {
     }
 }
 
-/// A read that answers 0 is the end, as is that of the bytes.
+/// A read that returns 0 is the end, as is the end of the bytes.
 #[test]
 fn each_read_finds_the_end(rt: HostRuntime) {
     for given in 0..=70u16 {
@@ -76,7 +76,7 @@ fn each_read_finds_the_end(rt: HostRuntime) {
     }
 }
 
-/// The packet that is written, whose length on the link, which is not written, is another.
+/// Returns the packet to write. Its length on the link, which is not written, differs.
 fn packet(alloc: Global) -> Result<Record, Fail>
     ensures { IfOk result IsWritable }
 {
@@ -88,10 +88,10 @@ fn packet(alloc: Global) -> Result<Record, Fail>
     })
 }
 
-/// How writing to a disk ended, and what the disk holds.
+/// The result of writing to a disk, and what the disk contains.
 type DiskOutcome = (Result<(), WriteFault>, Vec<u8>);
 
-/// Writes to a disk that goes wrong as planned.
+/// Writes to a disk that fails as planned.
 macro_rules! written {
     ($rt:ident, $plan:expr, $write:ident($written:expr)) => {{
         let mut disk = Faulty::new(Watched::new(Vec::new($rt.alloc())), $plan);
@@ -100,7 +100,7 @@ macro_rules! written {
     }};
 }
 
-/// What a disk is to hold once it was written to, and how that is to have ended.
+/// Checks what a disk contains after writing, and the result of writing.
 fn assert_written(
     rt: &impl Abort,
     written: DiskOutcome,
@@ -121,7 +121,7 @@ fn one_packet_or_none_is_written(rt: HostRuntime) -> Result<(), Fail> {
     Ok(())
 }
 
-/// A byte at a time, the call behind the seventy writes is the flush, which takes no bytes, and there is no other.
+/// With a byte at a time, the call after the seventy writes is the flush, which takes no bytes, and there is no other.
 #[test]
 fn each_write_fails_in_turn(rt: HostRuntime) -> Result<(), Fail> {
     let records = [packet(rt.alloc())?];
@@ -144,11 +144,11 @@ fn each_write_fails_in_turn(rt: HostRuntime) -> Result<(), Fail> {
     Ok(())
 }
 
-/// Counts the calls that reach it. Each is good, and moves a byte where it has room, or each fails.
+/// Counts its calls. Each succeeds, and moves a byte if there is room, or each fails.
 #[derive(Drop)]
 struct CountingDevice {
     fault: Option<io::ErrorKind>,
-    /// The reads, the writes and the flushes.
+    /// The numbers of reads, writes and flushes.
     calls: [u8; 3],
 }
 
@@ -182,7 +182,7 @@ impl Write for CountingDevice {
     }
 }
 
-/// Each call goes to the device once, and answers what that answers.
+/// Each call reaches the device once, and returns the device's answer.
 #[test]
 fn calls_are_handed_on_once(rt: HostRuntime) {
     let (broken, interrupted) = (io::ErrorKind::BrokenPipe, io::ErrorKind::Interrupted);

@@ -1,4 +1,4 @@
-//! In which order entries come out.
+//! The order in which entries are taken out.
 
 use napt_collections::Due;
 use std::alloc::{AllocError, Global};
@@ -13,7 +13,7 @@ fn queue_of(alloc: Global, entries: &[(u64, u16)]) -> Result<Due<u16>, AllocErro
     Ok(due)
 }
 
-/// The first entry, as a look and a take find it.
+/// Returns the first entry, as a look and a removal find it.
 fn taken(due: &mut Due<u16>) -> [Option<(u64, u16)>; 2] {
     [due.peek(), due.pop()]
 }

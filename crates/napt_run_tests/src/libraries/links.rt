@@ -1,4 +1,4 @@
-//! Nodes in a row, as they are taken out and put before others.
+//! Nodes in a row, as they are removed and inserted before others.
 
 ghost use Rattle.std.specs.Prelude.{◌≡◌, ◌<◌, true, length};
 ghost use Rattle.napt_collections.specs.Links.{next, prev};
@@ -35,7 +35,7 @@ fn are_in_order(links: &[Links], order: &[u32]) -> bool {
         .all(|(before, after)| are_neighbours(links, *before, *after))
 }
 
-/// Takes the node out if it is in the row, and else puts it before another one, in the links and in a list of nodes.
+/// Removes the node if it is in the row, and otherwise inserts it before another one, in the links and in a list.
 fn change(
     rt: &impl Abort,
     links: &mut [Links],
@@ -58,7 +58,7 @@ fn change(
     Ok(())
 }
 
-/// Node 0 stays first and node 1 last; 600 times another one of 20 goes or comes, wherever the numbers say.
+/// Node 0 stays first and node 1 last. 600 times, one of 20 others is removed or inserted, as the numbers say.
 #[test]
 fn row_and_list_of_nodes_agree(rt: HostRuntime) -> Result<(), Fail> {
     let end = Links {

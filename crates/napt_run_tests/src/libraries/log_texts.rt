@@ -1,4 +1,4 @@
-//! Dates around which the calendar is not plain, as Python's `datetime` has them, and a row, a line and an object of each
+//! Dates near irregularities of the calendar, as Python's `datetime` has them, and a row, a line and an object of each
 //! kind.
 
 use crate::packets::UDP_QUERY;
@@ -45,7 +45,7 @@ fn dates_are_those_of_the_calendar(rt: HostRuntime) -> Result<(), Fail> {
     Ok(())
 }
 
-/// A binding of a UDP host that was made at 1 s and ends behind the times of 64 bits.
+/// A binding of a UDP host that was made at 1 s and ends after all times of 64 bits.
 const ENTRY: Entry = Entry {
     binding: Row {
         protocol: Protocol::Udp,
@@ -64,7 +64,7 @@ const ENTRY: Entry = Entry {
     last_sent: 2_000_000_000,
 };
 
-/// The row of an event.
+/// Returns the row of an event.
 fn row_of(alloc: Global, event: LogEvent) -> Result<String, Fail> {
     let config = Config::read(alloc, ONE_ADDRESS.as_bytes())?;
     let mut text = String::new(alloc);
@@ -108,7 +108,7 @@ fn each_event_has_a_row(rt: HostRuntime) -> Result<(), Fail> {
     Ok(())
 }
 
-/// A row of the binding of `ENTRY`, read back.
+/// Returns a row of the binding of `ENTRY`, as it is read.
 fn saved(event: LogField) -> LogRow {
     LogRow {
         time: LogField::Number(304_000_000_000),
@@ -163,7 +163,7 @@ fn fields_are_read_back(rt: HostRuntime) -> Result<(), Fail> {
     Ok(())
 }
 
-/// The external endpoint of `ENTRY`, with another number.
+/// Returns the external endpoint of `ENTRY`, with another number.
 fn party(number: u16) -> Party {
     Party {
         address: 0xCB00_7101,
@@ -171,7 +171,7 @@ fn party(number: u16) -> Party {
     }
 }
 
-/// Whoever had an endpoint of that number, over UDP, in a span of ns.
+/// Returns the request for the holders of an endpoint with this number, over UDP, in a span of ns.
 fn request(number: u16, first: u128, until: u128) -> Request {
     Request {
         protocol: Some(Protocol::Udp),
@@ -224,7 +224,7 @@ fn nobody_has_lines(rt: HostRuntime) -> Result<(), Fail> {
 
 #[test]
 fn a_span_has_holders(rt: HostRuntime) -> Result<(), Fail> {
-    // one after another: at 1 s, from 304 s and from 900 s on
+    // Three entries, one after another: from 1 s, from 304 s and from 900 s on.
     let second = Entry {
         made: 304_000_000_000,
         end: Some(604_000_000_000),
@@ -258,7 +258,7 @@ const ECHO: &[u8] = &[
     8, 0, 0xf7, 0xf7, 0, 7, 0, 1, // echo request, checksum, identifier, sequence number
 ];
 
-/// Port unreachable about the query as it left, and as 10.0.0.2 gets it.
+/// Port unreachable about the query as it left, and as 10.0.0.2 receives it.
 const UNREACHABLE: &[u8] = &[
     0x45, 0, 0, 56, 0, 2, 0, 0, 64, 1, 0x14, 0x87, 198, 51, 100, 7, 203, 0, 113, 1, // IPv4
     3, 3, 0xcb, 0xbe, 0, 0, 0, 0, // port unreachable, checksum, unused
@@ -273,7 +273,7 @@ const UNREACHABLE_IN: &[u8] = &[
     0x13, 0x88, 0, 53, 0, 10, 0x4f, 0x77, // ports, length, checksum
 ];
 
-/// An input that came at 1 s.
+/// Returns an input that arrived at 1 s.
 fn input(alloc: Global, side: Side, bytes: &[u8]) -> Result<Input, Fail> {
     Ok(Input {
         side,
@@ -288,7 +288,7 @@ fn packet(alloc: Global, side: Side, bytes: &[u8]) -> Result<Packet, Fail> {
     Ok(Packet::read(side, bytes).ok().ok_or("a packet")?)
 }
 
-/// The object of an input that has a number, an outcome and a note.
+/// Returns the object of an input that has a number, an outcome and a note.
 fn object_of(
     alloc: Global,
     number: u64,
@@ -317,7 +317,7 @@ fn a_packet_that_leaves_has_an_object(rt: HostRuntime) -> Result<(), Fail> {
         made.as_str(),
         "{\"number\":1,\"time\":1000000000,\"side\":\"inside\",\"outcome\":\"to-outside\",\"cause\":null,\"binding\":\"made\",\"hairpin\":false,\"before\":{\"kind\":\"udp\",\"source\":\"10.0.0.2\",\"source_port\":5000,\"destination\":\"198.51.100.7\",\"destination_port\":53,\"identifier\":null,\"about\":null},\"after\":{\"kind\":\"udp\",\"source\":\"203.0.113.1\",\"source_port\":5000,\"destination\":\"198.51.100.7\",\"destination_port\":53,\"identifier\":null,\"about\":null}}\n"
     );
-    // as a hairpin would: only the side that it leaves for counts
+    // As a hairpin would: only the side to which it leaves counts.
     let echo = input(alloc, Side::Inside, ECHO)?;
     let back = Outcome::ToInside(packet(alloc, Side::Inside, ECHO)?);
     let hairpin = object_of(alloc, 2, &echo, &back, LogNote::Redirect)?;

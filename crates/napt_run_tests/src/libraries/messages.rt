@@ -1,11 +1,11 @@
-//! What faults and refusals say. Their messages are derived, and no clause has them: one that is always empty would meet its contract.
+//! The messages of faults and refusals. They are derived, and no clause has them: an empty one would meet its contract.
 
 use napt_capture::{CaptureFault, WriteFault};
 use napt_config::ConfigFault;
 use napt_pool::{OfferRefused, PoolFault};
 use std::test::Fail;
 
-/// Each fault of a type, by its variant, says its message.
+/// Checks the message of each variant of a fault.
 macro_rules! assert_messages {
     ($rt:ident, $fault:ident: $($variant:ident $(($number:literal))? $message:literal)*) => {
         for (fault, message) in [$(($fault::$variant $(($number))?, $message)),*] {

@@ -1,4 +1,4 @@
-//! Which number an inside endpoint gets where its class is full. Others are told in `tests/calls` and `tests/numbers`.
+//! The number that an inside endpoint gets if its class is full. Other cases are in `tests/calls` and `tests/numbers`.
 
 use crate::samples::hosts::host;
 use napt_config::NumberAssignment;
@@ -6,7 +6,7 @@ use napt_table::Numbers;
 use napt_wire::Protocol;
 use std::test::Fail;
 
-/// What stands for each number.
+/// Returns the number that is chosen in place of each number.
 fn choices(numbers: &Numbers, of: [u16; 4]) -> [Option<u16>; 4] {
     of.map(|number| numbers.choose(NumberAssignment::DEFAULT, None, host(2, number)))
 }

@@ -1,4 +1,4 @@
-//! Records read one after another.
+//! Records that are read one after another.
 
 ghost use Rattle.std.specs.Prelude.{◌<◌};
 
@@ -11,7 +11,7 @@ use napt_capture::{
 use std::alloc::Global;
 use std::test::*;
 
-/// Two packets, the second with a fraction of a whole second.
+/// Returns a capture of two packets, the second with a fraction of a whole second.
 fn two_packets(alloc: Global) -> Result<Vec<u8>, Fail> {
     let mut bytes = ONE_PACKET.to_vec(alloc)?;
     bytes.extend_from_slice(&ONE_PACKET[24..28])?;
@@ -20,7 +20,7 @@ fn two_packets(alloc: Global) -> Result<Vec<u8>, Fail> {
     Ok(bytes)
 }
 
-/// How many records a capture has, read one after another, and whether its last is cut.
+/// Returns the number of records in a capture, read one after another, and whether its last is cut.
 fn shape_one_by_one(alloc: Global, bytes: &[u8], plan: FaultPlan) -> Result<Shape, CaptureFault>
     requires { 0 < plan.most }
 {
@@ -36,7 +36,7 @@ fn shape_one_by_one(alloc: Global, bytes: &[u8], plan: FaultPlan) -> Result<Shap
     Err(CaptureFault::TooLarge)
 }
 
-/// Cut at each byte, and read in pieces of some size, a capture comes to the same as if it is read whole.
+/// A capture that is cut at each byte, and read in pieces of some size, has the same shape as if it is read as a whole.
 #[test]
 fn one_by_one_is_the_same_as_whole(rt: HostRuntime) -> Result<(), Fail> {
     let bytes = two_packets(rt.alloc())?;
@@ -50,7 +50,7 @@ fn one_by_one_is_the_same_as_whole(rt: HostRuntime) -> Result<(), Fail> {
     Ok(())
 }
 
-/// The header, then 16 bytes at a time: the sixth read finds the end.
+/// The header is read, and then 16 bytes at a time: the sixth read finds the end.
 #[test]
 fn a_failed_read_is_told(rt: HostRuntime) {
     for call in 1..=6 {

@@ -1,4 +1,4 @@
-//! A state with a line of each kind is written and read back; damaged texts are refused, with a line that says why.
+//! A state with a line of each kind is written and read back. Damaged texts are refused, with the line and the reason.
 
 use napt_state::{read_state, write_state};
 use std::alloc::Global;
@@ -14,6 +14,15 @@ const TEXT: &str = "clock 1800000000000000000\n\
     end 3 1\n";
 
 const WITH_LOG: &str = "clock 1800000000000000000\n\
+    log 17 3 18446744073709551615 14695981039346656037\n\
+    redirect tcp 10.0.0.9 80 203.0.113.1 8080 0 1 0 3 2305843009213693952 7 8\n\
+    held icmp 10.0.0.3 7 203.0.113.1 7 1800000000000000000\n\
+    binding udp 10.0.0.2 5001 203.0.113.1 1025 1799999999000000001 17 5 1 2 9 10\n\
+    flow 198.51.100.7 443 1799999999000000001 0 0 0 0 0\n\
+    end 3 1\n";
+
+/// As an earlier version wrote it, and as it is written again.
+const EARLIER: &str = "clock 1800000000000000000\n\
     redirect tcp 10.0.0.9 80 203.0.113.1 8080 0\n\
     binding udp 10.0.0.2 5001 203.0.113.1 1025 1799999999000000001\n\
     log 17 2305843009213693953\n\
@@ -21,11 +30,17 @@ const WITH_LOG: &str = "clock 1800000000000000000\n\
     entry 17 binding udp 10.0.0.2 5001 203.0.113.1 1025 5 340282366920938463463374607431768211455 1 2 9 10\n\
     end 2 0 2\n";
 
-/// What is written of the state that a text says, or why the text is refused.
+const AGAIN: &str = "clock 1800000000000000000\n\
+    log 17 0 0 0\n\
+    redirect tcp 10.0.0.9 80 203.0.113.1 8080 0 1 0 3 2305843009213693952 7 8\n\
+    binding udp 10.0.0.2 5001 203.0.113.1 1025 1799999999000000001 17 5 1 2 9 10\n\
+    end 2 0\n";
+
+/// Returns what is written of the state in a text, or why the text is refused.
 fn written(alloc: Global, text: &[u8]) -> io::Result<Vec<u8>> {
     let mut written = Vec::new(alloc);
     match read_state(alloc, text) {
-        Ok(saved) => write_state(alloc, &mut written, &saved.state, saved.log.as_ref())?,
+        Ok(saved) => write_state(alloc, &mut written, &saved)?,
         Err(fault) => write!(&mut written, "{fault}")?,
     }
     Ok(written)
@@ -37,11 +52,13 @@ fn a_state_is_read_and_written_again(rt: HostRuntime) -> Result<(), Fail> {
         TEXT,
         WITH_LOG,
         "clock 0\nend 0 0\n",
-        "clock 0\nlog 0 0\nend 0 0 0\n",
+        "clock 0\nlog 0 0 0 0\nend 0 0\n",
     ] {
         let text = text.as_bytes();
         assert_eq!(rt; written(rt.alloc(), text)?.as_slice(), text);
     }
+    let again = written(rt.alloc(), EARLIER.as_bytes())?;
+    assert_eq!(rt; again.as_slice(), AGAIN.as_bytes());
     Ok(())
 }
 
@@ -77,6 +94,27 @@ fn what_is_no_state_is_refused(rt: HostRuntime) -> Result<(), Fail> {
         "clock 1\nend 0 0\nend 0 0\n" "line 3: behind the end";
         "clock 1\nend 0 0 0\n" "line 2: counts of other lines";
         "clock 1\nlog 1 0\nend 0 0\n" "line 3: counts of other lines";
+        "clock 1\nlog 0 0 0\n" "line 2: too many words, or too few";
+        "clock 1\nbinding udp 10.0.0.2 5 203.0.113.1 5 1\nlog 0 0 0 0\n" "line 3: first word 'log'";
+        "clock 1\nlog 0 0 0 0\nlog 0 0 0 0\n" "line 3: first word 'log'";
+        "clock 1\nbinding udp 10.0.0.2 5 203.0.113.1 5 1 1 1 0 0 1\n" "line 2: too many words, or too few";
+        "clock 1\nbinding udp 10.0.0.2 5 203.0.113.1 5 1 1 1 2305843009213693953 0 1 1\n"
+            "line 2: number '2305843009213693953'";
+        "clock 1\nbinding udp 10.0.0.2 5 203.0.113.1 5 1 1 1 0 0 1 1\nend 1 0\n"
+            "line 3: numbers that no log has";
+        "clock 1\nlog 1 0 0 0\nbinding udp 10.0.0.2 5 203.0.113.1 5 1 2 1 0 0 1 1\nend 1 0\n"
+            "line 4: numbers that no log has";
+        "clock 1\nlog 1 0 0 0\nbinding udp 10.0.0.2 5 203.0.113.1 5 1 1 2 0 0 1 1\nend 1 0\n"
+            "line 4: numbers that no log has";
+        "clock 1\nlog 2 0 0 0\nbinding udp 10.0.0.2 5 203.0.113.1 5 1 1 1 0 0 1 1\nbinding udp 10.0.0.2 6 203.0.113.1 6 1 1 1 0 0 1 1\nend 2 0\n"
+            "line 5: numbers that no log has";
+        "clock 1\nlog 2 0 0 0\nbinding udp 10.0.0.2 5 203.0.113.1 5 1 1 1 0 0 1 1\nbinding udp 10.0.0.2 6 203.0.113.1 5 1 2 1 0 0 1 1\nend 2 0\n"
+            "line 5: numbers that no log has";
+        "clock 1\nheld udp 10.0.0.2 5 203.0.113.1 5 2\nend 1 0\n" "line 3: numbers that no log has";
+        "clock 1\nheld udp 10.0.0.2 5 203.0.113.1 5 1\nflow 10.0.0.2 5000 1 0 0 0 0 0\n"
+            "line 3: a flow before each binding";
+        "clock 1\nlog 1 0\nentry 2 binding udp 10.0.0.2 5 203.0.113.1 5 1 2 3 4 5 6\nend 0 0 1\n"
+            "line 4: numbers that no log has";
         "clock 1\nentry 1 binding\n" "line 2: too many words, or too few";
         "clock 1\nlog 0 0\nlog 0 0\n" "line 3: first word 'log'";
         "clock 1\nlog 0 0\nbinding udp 10.0.0.2 5000 203.0.113.1 1 1\n" "line 3: first word 'binding'";

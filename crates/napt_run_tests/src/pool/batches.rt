@@ -1,5 +1,5 @@
-//! Many items in one message: they are answered in order, alone or together, and a worker asks and stops among them as among
-//! items that come alone.
+//! Many items in one message: they are answered in order, alone or together, and a worker asks the gate and stops among
+//! them as among items that are sent alone.
 
 use super::checked::CheckedPool;
 use super::rounds::{Keepers, keepers};
@@ -11,7 +11,7 @@ use std::alloc::{AllocError, Global};
 use std::process::Abort;
 use std::test::Fail;
 
-/// These items in one message.
+/// Returns a message of these items.
 pub(super) fn batch(
     rt: &impl Abort,
     alloc: Global,
@@ -23,7 +23,7 @@ pub(super) fn batch(
     Ok(Batch::new(items, room))
 }
 
-/// A batch of so many numbers from `from` on.
+/// Returns a batch of `count` numbers from `from` on.
 fn numbers(rt: &impl TestRuntime, from: u64, count: u64) -> Result<Batch<u64, u64>, AllocError> {
     let mut items = Vec::new(rt.alloc());
     for k in 0..count {
@@ -32,7 +32,7 @@ fn numbers(rt: &impl TestRuntime, from: u64, count: u64) -> Result<Batch<u64, u6
     batch(rt, rt.alloc(), &items)
 }
 
-/// The answers to the next batch, which come together.
+/// Takes the answers to the next batch together.
 fn together(rt: &impl Abort, pool: &mut Keepers<impl TestRuntime>) -> AnsweredBatch<u64, u64> {
     match pool.take_all_soon(0) {
         Ok(Some(TakenAnswers::All(answered))) => Some(answered),
@@ -41,7 +41,7 @@ fn together(rt: &impl Abort, pool: &mut Keepers<impl TestRuntime>) -> AnsweredBa
     .expect(rt, "the answers of a batch")
 }
 
-/// The next answer, which comes alone.
+/// Takes the next answer alone.
 fn alone(pool: &mut Keepers<impl TestRuntime>) -> Option<u64> {
     match pool.take_all_soon(0) {
         Ok(Some(TakenAnswers::One(answer))) => Some(answer),
@@ -49,7 +49,7 @@ fn alone(pool: &mut Keepers<impl TestRuntime>) -> Option<u64> {
     }
 }
 
-/// The one worker of a pool has kept these items, and is left with these answers.
+/// Checks that the one worker of a pool has kept these items, and that these answers remain.
 fn assert_ended<R: TestRuntime>(rt: &R, pool: Keepers<R>, items: &[u64], answers: &[u64]) {
     let ended = pool.closed();
     assert_eq!(rt; ended.len(), 1);
@@ -67,7 +67,7 @@ fn batches_and_items_are_answered_in_order(rt: HostRuntime) -> Result<(), Fail> 
     pool.give(0, 44);
     pool.give_all(0, second);
     assert!(rt; matches!(pool.offer(0, 47), Err(OfferRefused::Full(47))));
-    // One of the first batch alone, and then what is left of it.
+    // One answer of the first batch alone, and then the rest of it.
     assert!(rt; pool.take_soon(0) == Ok(Some(0)));
     for count in 1..5 {
         assert_eq!(rt; alone(&mut pool), Some(count));
@@ -80,7 +80,7 @@ fn batches_and_items_are_answered_in_order(rt: HostRuntime) -> Result<(), Fail> 
     Ok(())
 }
 
-/// What `take` left of a batch comes back before what is in the ring.
+/// `close` returns what `take` left of a batch before what is in the ring.
 #[test]
 fn close_hands_back_the_rest_of_a_batch(rt: HostRuntime) -> Result<(), Fail> {
     let first = batch(&rt, rt.alloc(), &[7, 8, 9])?;
@@ -93,7 +93,7 @@ fn close_hands_back_the_rest_of_a_batch(rt: HostRuntime) -> Result<(), Fail> {
     Ok(())
 }
 
-/// A batch goes whole or not at all, and one of no items takes no slot of a ring.
+/// A batch is accepted whole or not at all, and one without items takes no slot of a ring.
 #[test]
 fn batch_that_does_not_fit_comes_back(rt: HostRuntime) -> Result<(), Fail> {
     let two = batch(&rt, rt.alloc(), &[8, 9])?;
@@ -116,7 +116,7 @@ fn batch_that_does_not_fit_comes_back(rt: HostRuntime) -> Result<(), Fail> {
     Ok(())
 }
 
-/// Offers a batch, and takes the answers to it as they come.
+/// Offers a batch, and takes its answers as they come.
 fn round<R: TestRuntime>(rt: &R, pool: &mut Keepers<R>, from: u64, count: u64) {
     let more = numbers(rt, from, count).ok().expect(rt, "a batch");
     pool.give_all(0, more);
@@ -147,7 +147,7 @@ fn batch_rounds(rt: HostRuntime) -> Result<(), Fail> {
     Ok(())
 }
 
-/// Takes the answers 0, 1, .. of a worker that stops for a cause, and returns how many came.
+/// Takes the answers 0, 1, .. of a worker that stops for a cause, and returns their number.
 fn until_stopped(
     pool: &mut CheckedPool<impl TestRuntime, Echo, Watch>,
     cause: PoolFault,
@@ -162,7 +162,7 @@ fn until_stopped(
     None
 }
 
-/// The gate is shut at a step of a batch: the answers before it come, then why the worker stopped, and it has not made that step.
+/// The gate is shut at a step of a batch: the answers before it come, and then the fault. The step is not made.
 #[test]
 fn gate_is_shut_in_a_batch(rt: HostRuntime) -> Result<(), Fail> {
     for shut in 0..4u64 {
@@ -178,7 +178,7 @@ fn gate_is_shut_in_a_batch(rt: HostRuntime) -> Result<(), Fail> {
     Ok(())
 }
 
-/// The gate is shut to the first item: the one slot of the ring is for the word that the worker stopped.
+/// The gate is shut to the first item: the one slot of the ring is for the notice that the worker stopped.
 #[test]
 fn gate_is_shut_to_a_batch(rt: HostRuntime) -> Result<(), Fail> {
     let alloc = rt.alloc();

@@ -1,4 +1,4 @@
-//! A pool for tests, whose calls check what their caller owes.
+//! A pool for tests, whose calls check the preconditions.
 
 ghost use Rattle.std.specs.Prelude.{◌≡◌, length};
 ghost use Rattle.napt_pool.specs.Pools.{initial_machines};
@@ -9,8 +9,8 @@ use napt_pool::{Batch, Ended, Gate, Machine, OfferRefused, Pool, PoolFault, Take
 use std::sync::Arc;
 use std::thread;
 
-/// A pool that stops a test which asks what a caller may not: for no worker, or for a worker that is not there. Its calls promise
-/// nothing, so that the proof of a test is short: the test sees what comes of them when it runs.
+/// A pool that stops a test which violates a precondition: without workers, or for a worker that does not exist. Its
+/// calls have no clauses, so that the proof of a test is short: the test checks their results when it runs.
 pub(crate) struct CheckedPool<R, M: Machine, G: Gate> {
     rt: R,
     pool: Pool<M, G>,
@@ -18,7 +18,7 @@ pub(crate) struct CheckedPool<R, M: Machine, G: Gate> {
     ghost many: { length (initial_machines pool) ≡ workers },
 }
 
-/// What a call takes, once that is there; nothing where it has not come for long.
+/// Returns what a call takes, once that is there, or nothing if it does not come for long.
 macro_rules! soon {
     ($taken:expr) => {{
         for _ in 0..MOST_LOOKS {
@@ -37,7 +37,7 @@ impl<R: TestRuntime, M: Machine, G: Gate> CheckedPool<R, M, G> {
         self.pool.offer(self.rt.alloc(), w, item)
     }
 
-    /// Offers an item that is not refused.
+    /// Offers an item, which is accepted.
     pub(crate) fn give(&mut self, w: u32, item: M::Item) {
         let offered = self.offer(w, item).is_ok();
         assert!(self.rt; offered, "the item of worker {w}");
@@ -52,7 +52,7 @@ impl<R: TestRuntime, M: Machine, G: Gate> CheckedPool<R, M, G> {
         self.pool.offer_all(self.rt.alloc(), w, batch)
     }
 
-    /// Offers a batch that is not refused.
+    /// Offers a batch, which is accepted.
     pub(crate) fn give_all(&mut self, w: u32, batch: Batch<M::Item, M::Answer>) {
         let offered = self.offer_all(w, batch).is_ok();
         assert!(self.rt; offered, "the batch of worker {w}");
@@ -63,7 +63,7 @@ impl<R: TestRuntime, M: Machine, G: Gate> CheckedPool<R, M, G> {
         self.pool.take(&self.rt, self.rt.alloc(), w)
     }
 
-    /// Takes until worker `w` has an answer or tells why it stopped.
+    /// Takes until worker `w` has an answer or reports why it stopped.
     pub(crate) fn take_soon(&mut self, w: u32) -> Result<Option<M::Answer>, PoolFault> {
         soon!(self.take(w))
     }
@@ -73,7 +73,7 @@ impl<R: TestRuntime, M: Machine, G: Gate> CheckedPool<R, M, G> {
         self.pool.take_all(&self.rt, self.rt.alloc(), w)
     }
 
-    /// Takes until worker `w` has answers or tells why it stopped.
+    /// Takes until worker `w` has answers or reports why it stopped.
     pub(crate) fn take_all_soon(&mut self, w: u32) -> TakenOr<M> {
         soon!(self.take_all(w))
     }
@@ -87,27 +87,27 @@ impl<R: TestRuntime, M: Machine, G: Gate> CheckedPool<R, M, G> {
         pool.close(&rt, rt.alloc())
     }
 
-    /// Closes a pool that has no fault.
+    /// Closes a pool without a fault.
     pub(crate) fn closed(self) -> Vec<Ended<M>> {
         let rt = self.rt;
         self.close().ok().expect(&rt, "close")
     }
 
-    /// Worker `w` tells a fault, and so does the pool as it is closed.
+    /// Checks that worker `w` reports a fault, and that closing the pool does, too.
     pub(crate) fn assert_stopped(mut self, w: u32, fault: PoolFault) {
         let told = self.take_soon(w).err();
         assert_eq!(self.rt; told, Some(fault));
         self.assert_close_tells(fault);
     }
 
-    /// Closes a pool that has a fault.
+    /// Closes a pool with this fault.
     pub(crate) fn assert_close_tells(self, fault: PoolFault) {
         let rt = self.rt;
         assert_eq!(rt; self.close().err(), Some(fault));
     }
 }
 
-/// What `take_all` gives.
+/// The result of `take_all`.
 type TakenOr<M> = Result<
     Option<TakenAnswers<<M as Machine>::Item, <M as Machine>::Answer>>,
     PoolFault,

@@ -1,4 +1,4 @@
-//! What tests see of the threads of a pool: a gate, and machines that count what they do.
+//! What tests observe of the threads of a pool: a gate, and machines that count their steps.
 
 use super::MOST_LOOKS;
 use napt_pool::{Gate, Machine};
@@ -7,20 +7,20 @@ use std::sync::Arc;
 use std::sync::atomic::{AtomicU64, Ordering};
 use std::thread;
 
-/// What a gate answers.
+/// The answers of a gate.
 #[derive(Clone, Copy)]
 pub(crate) enum GateAnswer {
-    /// Always yes.
+    /// It always opens.
     Yes,
-    /// No to one worker.
+    /// It refuses one worker.
     NoTo(u32),
-    /// No at each first ask of a turn.
+    /// It refuses the first request for each turn.
     NoFirst,
-    /// No from this turn on.
+    /// It refuses all turns from this one on.
     NoFrom(u64),
 }
 
-/// What was counted so far.
+/// Returns a count so far.
 pub(crate) fn so_far(count: &AtomicU64) -> u64 {
     count.load(Ordering::SeqCst)
 }
@@ -29,24 +29,24 @@ pub(crate) fn so_far(count: &AtomicU64) -> u64 {
 #[derive(Drop)]
 pub(crate) struct Watch {
     says: GateAnswer,
-    /// Whether each step waits a while for all other machines to begin one of the same number.
+    /// Whether each step waits a while for all other machines to begin a step of the same number.
     is_barrier: bool,
-    /// How many steps each machine has begun.
+    /// The number of steps that each machine has begun.
     steps: Vec<AtomicU64>,
-    /// How many steps saw that all machines had begun as many.
+    /// The number of steps that saw all machines in a step of the same number.
     pub(crate) met: AtomicU64,
-    /// How often the gate was asked, and how often it was told what is not so: another turn than that of the worker's next step, or
-    /// another size.
+    /// The numbers of requests to the gate, and of those that were wrong: for another turn than that of the worker's
+    /// next step, or with another size.
     pub(crate) asks: AtomicU64,
     pub(crate) strange: AtomicU64,
-    /// How often the gate was shown a size; that of one worker's machine is then the number of its steps.
+    /// The number of sizes that the gate was shown. The size of each worker's machine is the number of its steps.
     pub(crate) shown: AtomicU64,
-    /// How many machines were dropped.
+    /// The number of machines that were dropped.
     pub(crate) drops: AtomicU64,
 }
 
 impl Watch {
-    /// The watch over so many machines.
+    /// Returns the watch over `count` machines.
     pub(crate) fn new(
         alloc: Global,
         count: usize,
@@ -75,7 +75,7 @@ impl Watch {
         self.steps.iter().all(|steps| so_far(steps) >= count)
     }
 
-    /// Waits a while until each machine has begun this many steps: whether it has.
+    /// Waits a while until each machine has begun this many steps, and returns whether it has.
     pub(crate) fn is_met(&self, count: u64) -> bool {
         for _ in 0..MOST_LOOKS {
             if self.have_begun(count) {
@@ -96,7 +96,7 @@ impl Watch {
         }
     }
 
-    /// How many steps a machine has begun.
+    /// Returns the number of steps that a machine has begun.
     pub(crate) fn begun(&self, place: usize) -> Option<u64> {
         self.steps.get(place).map(so_far)
     }
@@ -128,11 +128,11 @@ impl Gate for Watch {
     }
 }
 
-/// The item that each machine refuses as where there is no memory.
+/// The item that each machine refuses, as it does without memory.
 pub(crate) const REFUSED: u64 = 99;
 
-/// Answers each item with itself, or refuses it as where there is no memory. Its steps and its drop are counted, and its size
-/// is the number of its steps.
+/// Answers each item with itself, or refuses it as if there were no memory. Its steps and its drop are counted, and its
+/// size is the number of its steps.
 pub(crate) struct Echo {
     place: usize,
     refuses: bool,
@@ -173,7 +173,7 @@ impl Machine for Echo {
 }
 
 impl Echo {
-    /// A machine for each of these, which say whether it refuses its items.
+    /// Returns a machine for each of these values, which say whether it refuses its items.
     pub(crate) fn several(
         alloc: Global,
         watch: &Arc<Watch>,

@@ -1,4 +1,4 @@
-//! What threads do: they step at the same time and unasked, ask the gate before each step, stop, and drop their machines.
+//! What threads do: they step together and without a request, ask the gate before each step, stop, and drop machines.
 
 use super::batches::batch;
 use super::checked::CheckedPool;
@@ -8,14 +8,14 @@ use napt_pool::{OpenGate, PoolFault};
 use std::sync::Arc;
 use std::test::Fail;
 
-/// A pool of machines, some of which refuse their items, and the watch over it.
+/// A pool of machines, some of which refuse their items, and its watch.
 pub(super) struct Watched<R> {
     pub(super) pool: CheckedPool<R, Echo, Watch>,
     pub(super) watch: Arc<Watch>,
 }
 
-/// Starts a pool with rings for four items. Where it is refused memory or a thread, it has dropped each machine when it returns: here
-/// nothing is refused, and `tests/refused_calls` refuses each growth in turn, in a program of its own.
+/// Starts a pool with rings for four items. If memory or a thread is refused, it drops each machine before it returns.
+/// Here nothing is refused; `tests/refused_calls` refuses each growth in turn, in a program of its own.
 pub(super) fn make_watched<R: TestRuntime>(
     rt: &R,
     refuse: &[bool],
@@ -30,7 +30,7 @@ pub(super) fn make_watched<R: TestRuntime>(
     Ok(Watched { pool, watch })
 }
 
-/// Three items for each worker, whatever the gate: each of the steps saw all other workers in a step of the same number.
+/// Three items for each worker, under any gate: each of the steps sees all other workers in a step of the same number.
 fn step_together(rt: &impl TestRuntime, workers: u32, refuse: &[bool]) -> Result<(), Fail> {
     let alloc = rt.alloc();
     let watch = Watch::new(alloc, refuse.len(), GateAnswer::Yes, true)?;
@@ -52,7 +52,7 @@ fn steps_meet(rt: HostRuntime) -> Result<(), Fail> {
     step_together(&rt, 16, &[false; 16])
 }
 
-/// A worker steps on an item though nobody asks for the answer.
+/// A worker steps on an item before anybody asks for the answer.
 #[test]
 fn steps_unasked(rt: HostRuntime) -> Result<(), Fail> {
     let Watched { mut pool, watch } = make_watched(&rt, &[false], GateAnswer::Yes)?;
@@ -63,8 +63,8 @@ fn steps_unasked(rt: HostRuntime) -> Result<(), Fail> {
     Ok(())
 }
 
-/// One worker takes four items in order, one by one or two in a message, asks the gate so often, each time with the number of the steps
-/// that it has made, and shows it the size of its machine after each step.
+/// One worker takes four items in order, one by one or two in a message. It asks the gate once for each, with the
+/// number of steps that it has made, and shows it the size of its machine after each step.
 fn take_turns(
     rt: &impl TestRuntime,
     says: GateAnswer,
@@ -90,7 +90,7 @@ fn take_turns(
     Ok(())
 }
 
-/// The gate is asked before each step, of a batch too, and again where it says no.
+/// The gate is asked before each step, also in a batch, and again after a refusal.
 #[test]
 fn gate_is_asked_before_each_step(rt: HostRuntime) -> Result<(), Fail> {
     for are_batches in [false, true] {

@@ -62,7 +62,7 @@ impl Bindings {
     ghost use Rattle.napt_table.specs.Keys.{key_eq, key_of};
     ghost use Rattle.napt_table.specs.declared.bindings.keys.ExternalNumberKey.{ExternalNumberKey as Key};
     ghost use Rattle.napt_table.specs.BindingIndexes.{held_binding, held_at, HasInside, IsSamePlace, HasNoInside, HoldsSame, IsUsedBy, SendKnownPost};
-    ghost use Rattle.napt_table.specs.Bindings.{BindingsHaveRoom, BindingsUnchanged, NewBindingOk, RenewedBindingOk, SendPost, SendsKnown};
+    ghost use Rattle.napt_table.specs.Bindings.{BindingsHaveRoom, BindingsUnchanged, NewBindingOk, RenewedBindingOk, Finds, SendPost, SendsKnown};
 
     /// Stores a binding that is live or held and whose endpoints are free. A redirect never expires, so
     /// it is not queued. Fails if memory is refused; the stored bindings are then unchanged.
@@ -128,7 +128,8 @@ impl Bindings {
         ensures timers { self.new.timers ≡ self.old.timers }
         ensures known { IfOk result (λ found. IfSome found (λ number.
             SendsKnown packet self.old self.new number)) }
-        ensures unknown { result ≡ Ok None → BindingsUnchanged self.old self.new }
+        ensures unknown { result ≡ Ok None →
+            BindingsUnchanged self.old self.new × Finds false packet self.old }
         ensures refused { OnErr result (BindingsUnchanged self.old self.new) }
     {
         self.timers.are_within_limits();

@@ -1,4 +1,4 @@
--- No write failed.
+-- put_outside: while records are written, no write to the device has failed.
 use Rattle.std.proofs.Common.{◌≡◌}
 use Rattle.explain.proofs.follow_command.put_outside.Given as goal
 

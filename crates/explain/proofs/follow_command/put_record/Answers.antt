@@ -1,3 +1,4 @@
+-- put_record: a capture that is not too long so far has room for one more record.
 use Rattle.std.proofs.Common.{arith}
 use Rattle.napt_records.proofs.Texts.{length-record}
 use Rattle.explain.proofs.follow_command.put_record.Goals as goal

@@ -1,5 +1,6 @@
 -- run: a fault of the run or of saving its state is a stop of the files that the options name.
 use Rattle.std.proofs.{Common.{◌≡◌, true, is_some, ap}, lemmas.Result.err_from_is_err_and}
+use Rattle.napt_program.specs.CommandLine.{files_with_log}
 use Rattle.napt_program.proofs.StateLemmas.{save_stop}
 use Rattle.napt.proofs.program.run.Goals as goal
 
@@ -15,3 +16,8 @@ returns-in_err-finish g c =
     cc (c.in_ok-config.ensures.save, ap is_some c.in-Some-Some.is-0) in
     rw (p.1, p.2) (save_stop c.args.streams c.args.options.now c.in_err-finish.field-0.0 named
     c.in_err-finish.ensures.refused)
+
+pub returns-in_err-sync : goal.returns-in_err-sync
+returns-in_err-sync g c =
+    let p = err_from_is_err_and c.from_residual-in_err-sync.result c.from_residual-in_err-sync.ensures.1 in
+    rw (p.1, p.2) (c.in_err-sync.ensures c.args.streams (files_with_log c.args.options.now))

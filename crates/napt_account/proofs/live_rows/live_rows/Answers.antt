@@ -1,3 +1,4 @@
+-- live_rows: the rows are the redirects, and then the live bindings of the state.
 use Rattle.std.proofs.Common.{◌≡◌, ◌<◌, ◌≤◌, ℕ, true, false, List, ◌++◌, map, length, get_or, sym, ◌∙◌, ap, subst}
 use Rattle.std.{proofs.lemmas.List.take_all}
 use Rattle.napt_rules.specs.Prelude.{Binding, Rules, State, Timers, is_live, flows_share, opening, with_live_flows}

@@ -1,3 +1,4 @@
+-- redirects: the rows are those of the configuration's redirects.
 use Rattle.std.proofs.Common.{◌≡◌, ◌<◌, ◌≤◌, ℕ, false, List, [], ◌∷◌, ◌++◌, None, map, take, length, get_or, sym, ◌∙◌, ap}
 use Rattle.std.proofs.lemmas.List.{take_all, take_more}
 use Rattle.napt_rules.specs.{declared.Row.Row, Prelude.{Redirect, Rules, pair_of, redirect_binding}}

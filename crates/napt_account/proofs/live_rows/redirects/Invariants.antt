@@ -1,3 +1,4 @@
+-- redirects: the rows so far are those of the first redirects.
 use Rattle.std.proofs.Common.{◌≡◌, map, take}
 use Rattle.napt_rules.specs.Prelude.{pair_of, redirect_binding}
 use Rattle.napt_table.specs.TimedRows.{timed_row}

@@ -1,3 +1,4 @@
+-- held_numbers_have_one_holder: the law, from the ends of bindings and the numbers in packets.
 use Rattle.napt_binding.proofs.FirstEnds.{ends_are_first}
 use Rattle.napt_account.proofs.HeldNumbers.{held_numbers}
 use Rattle.napt_account.proofs.log.held_numbers_have_one_holder.Goals as goal

@@ -1,3 +1,4 @@
+-- log_attributes: the log lists the live bindings, since the opening list is sound, and therefore names them.
 use Rattle.napt_account.proofs.Attribution.{log_lists, log_names}
 use Rattle.napt_binding.proofs.FirstEnds.{ends_are_first}
 use Rattle.napt_account.proofs.log.log_attributes.Goals as goal

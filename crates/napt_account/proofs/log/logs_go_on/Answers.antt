@@ -1,12 +1,6 @@
 use Rattle.napt_account.proofs.GoingOn as lemmas
-use Rattle.napt_account.proofs.StateLogs.{logs_are_of_their_states}
+use Rattle.napt_account.proofs.Comes.{logs_are_of_their_states}
 use Rattle.napt_account.proofs.log.logs_go_on.Goals as goal
-
-pub returns-clause-begin : goal.returns-clause-begin
-returns-clause-begin c = lemmas.logs_begin
-
-pub returns-clause-uses : goal.returns-clause-uses
-returns-clause-uses c = lemmas.uses_begin
 
 pub returns-clause-go_on : goal.returns-clause-go_on
 returns-clause-go_on c = lemmas.logs_go_on c.runs_go_on.ensures.go_on

@@ -1,3 +1,4 @@
+-- add_entry: the text gets the number of an entry and the fields after it.
 use Rattle.std.proofs.Common.{append_assoc}
 use Rattle.napt_log_text.proofs.event.add_entry.Goals as goal
 

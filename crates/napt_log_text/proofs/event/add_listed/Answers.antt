@@ -1,3 +1,4 @@
+-- add_listed: the text gets the row of a binding.
 use Rattle.std.proofs.Common.{append_assoc}
 use Rattle.napt_log_text.proofs.event.add_listed.Goals as goal
 

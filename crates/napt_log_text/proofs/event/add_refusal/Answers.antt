@@ -1,3 +1,4 @@
+-- add_refusal: the text gets the fields of a shortage up to its host.
 use Rattle.std.proofs.{Common.{arith, append_assoc}, lemmas.{Grind.common_steps, Bool.Decides.nat_tests}}
 use Rattle.napt_log_text.proofs.event.add_refusal.Goals as goal
 

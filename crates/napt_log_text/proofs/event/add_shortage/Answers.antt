@@ -1,3 +1,4 @@
+-- add_shortage: the text gets the row of a shortage.
 use Rattle.std.proofs.{Common.{arith, append_assoc}, lemmas.{Grind.common_steps, Bool.Decides.nat_tests}}
 use Rattle.napt_log_text.proofs.event.add_shortage.Goals as goal
 

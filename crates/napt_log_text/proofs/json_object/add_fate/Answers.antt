@@ -1,3 +1,4 @@
+-- add_fate: the text gets the members of the outcome.
 use Rattle.std.proofs.Common.{append_assoc}
 use Rattle.napt_log_text.specs.Objects.{fate_members}
 use Rattle.napt_log_text.proofs.json_object.add_fate.Goals as goal

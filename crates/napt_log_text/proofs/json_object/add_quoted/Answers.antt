@@ -1,3 +1,4 @@
+-- add_quoted: the text gets the object of the packet that an ICMP error quotes.
 use Rattle.std.proofs.Common.{◌≡◌, ◌++◌, codes, string_bytes, append_assoc}
 use Rattle.napt_log_text.{specs.Objects.{quoted, quoted_object}, proofs.Quoted.quoted_behind}
 use Rattle.napt_log_text.proofs.json_object.add_quoted.Goals as goal

@@ -1,3 +1,4 @@
+-- kind_text: each kind of packet has its name.
 use Rattle.std.proofs.lemmas.{Grind.common_steps, Bool.Decides.nat_tests}
 use Rattle.std.proofs.Common.{ℕ, ◌≡◌, ◌==◌, ◌∙◌, Bool, true, false, List, codes, sym, ap, subst, if◌then◌else◌, arith}
 use Rattle.napt_wire.specs.{Bytes.byte_at, Fields.{form_at, kind, kind_of, protocol_number, transport_start}, declared.{Flags.Flags, Inner.Inner, transport_form.TransportForm.TransportForm}}
@@ -17,7 +18,7 @@ error : (form : TransportForm) (bytes : List ℕ) (inner : Inner) → kind_of fo
     form_name form ≡ codes "icmp-error"
 error form bytes inner h = grind (arith, common_steps, nat_tests)
 
--- of an echo message the type alone tells the form
+-- The type of an echo message alone decides its form.
 echo : (is_udp is_tcp is_request is_reply : Bool) (bytes : List ℕ) →
     kind_of (if is_udp then Udp else (if is_tcp then Tcp else (if is_request then Request
     else (if is_reply then Reply else Error)))) bytes ≡ kinds.Echo →

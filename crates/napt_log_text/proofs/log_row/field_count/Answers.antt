@@ -1,3 +1,4 @@
+-- field_count: the number of fields is that of the parts between commas.
 use Rattle.std.proofs.{Common.{◌∙◌, length, lit<, sym, ap}, lemmas.{List.length-map, Iterator.{items_from_drains, Splits.YieldsList-from_str_split}}}
 use Rattle.napt_log_text.proofs.log_row.field_count.Goals as goal
 

@@ -1,8 +1,8 @@
+-- add_made: the rows so far have been appended.
 use Rattle.std.proofs.Common.{◌≡◌, ◌++◌, string_bytes, take}
 use Rattle.napt_log_text.specs.Logs.{made_rows}
 use Rattle.napt_log_text.proofs.log_rows.add_made.Given as goal
 
--- the rows so far are there
 abbrev pub invariant-loop-listed : goal.invariant-loop-listed
 invariant-loop-listed l = string_bytes l.text ≡ string_bytes l.fn.text ++ made_rows l.config
     (take l.listed-index l.made)

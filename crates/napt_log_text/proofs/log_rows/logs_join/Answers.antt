@@ -1,8 +1,5 @@
-use Rattle.napt_log_text.proofs.Logs.{logs_begin_anew, logs_join, pieces_stand_alone, saved_logs_join}
+use Rattle.napt_log_text.proofs.Logs.{logs_join, pieces_stand_alone, saved_logs_join}
 use Rattle.napt_log_text.proofs.log_rows.logs_join.Goals as goal
-
-pub returns-clause-anew : goal.returns-clause-anew
-returns-clause-anew c = logs_begin_anew c.logs_go_on.ensures.begin
 
 pub returns-clause-join : goal.returns-clause-join
 returns-clause-join c = logs_join c.logs_go_on.ensures.go_on

@@ -1,8 +1,8 @@
 use Rattle.std.proofs.Common.{◌≡◌, List, [], ap, append-nil, ◌∙◌}
 use Rattle.napt_config.specs.Rules.{Rules}
-use Rattle.napt_rules.specs.Prelude.{Binding, State, opening}
+use Rattle.napt_rules.specs.Prelude.{Binding, opening}
 use Rattle.napt_run.specs.{Captures.texts_from, Origins.{OriginModel, initial_origin, resumed_origin}}
-use Rattle.napt_run.proofs.LogTaken.{begun_log, begun_told, taken_anew, texts_begin}
+use Rattle.napt_run.proofs.LogTaken.{texts_begin}
 use Rattle.napt_run.proofs.initial.initial_state.Goals as goal
 
 begins : (rules : Rules) (items : List Binding) → items ≡ [] →
@@ -19,11 +19,5 @@ returns-clause-texts c rules inside outside =
     ap (λ (o : OriginModel). texts_from o inside outside) (begins rules _ c.new.ensures.items)
 
 pub returns-clause-log : goal.returns-clause-log
-returns-clause-log c rules kept none =
-    let state : State = record { clock = 0; list = c.new.result.items } in
-    let is = begins rules _ c.new.ensures.items in record {
-      log = begun_log rules;
-      told = begun_told rules;
-      is = taken_anew rules state is kept none;
-      texts = texts_begin rules state is c.logs_join.ensures.anew;
-    }
+returns-clause-log c rules saved none =
+    texts_begin c.started_logs_go_on.ensures.anew rules c.new.result.items saved c.new.ensures.items none

@@ -1,3 +1,4 @@
+-- workers: the translators are those with which the pool starts, one for each address.
 use Rattle.std.proofs.Common.{◌≡◌, List, [], ◌∷◌, ◌++◌, length, sym, ◌∙◌, ap, arith}
 use Rattle.napt_config.specs.Rules.{Rules}
 use Rattle.napt_rules.specs.Prelude.{initial_state}

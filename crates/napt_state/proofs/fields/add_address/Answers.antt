@@ -1,3 +1,4 @@
+-- add_address: the text gets the four numbers of the address with dots between them.
 use Rattle.std.proofs.Common.{append_assoc}
 use Rattle.napt_config.specs.Text.{address_text}
 use Rattle.napt_state.proofs.fields.add_address.Goals as goal

@@ -1,3 +1,4 @@
+-- end: the end that was written is read back, since no number is the word `never`.
 use Rattle.std.proofs.Common.{ℕ, ◌≡◌, ◌<◌, ◌^◌, ◌∙◌, Some, None, codes, decimal, refl, sym, ap, subst, arith}
 use Rattle.std.specs.{Result.result_ok, Str.Parse.IsNumeral}
 use Rattle.std.proofs.lemmas.{Fmt.{parse-decimal_wide, decimal_is_IsNumeral_wide}, Option.none-some}

@@ -1,3 +1,4 @@
+-- endpoint: the endpoint that was written is read back.
 use Rattle.std.proofs.{lemmas.{Grind.common_steps, Bool.Decides.nat_tests}, Common.{ℕ, ◌≡◌, ◌<◌, ◌^◌, ◌∙◌, List, Some, Result, decimal, sym, ap, arith}}
 use Rattle.std.{specs.{Result.result_ok, Str.Parse.ParsesUnsigned}, proofs.lemmas.{Fmt.parse-decimal, Option.none-some}}
 use Rattle.napt_wire.specs.declared.Endpoint.{Endpoint}

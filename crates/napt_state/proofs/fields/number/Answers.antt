@@ -1,3 +1,4 @@
+-- number: the number that was written is read back, and an empty word is not a number.
 use Rattle.std.proofs.Common.{ℕ, [], None, Result, Ok, Err, ◌≡◌, ◌∙◌, ap, subst, refl, arith}
 use Rattle.std.{specs.{Result.result_ok, Str.Parse.ParsesUnsigned}, proofs.lemmas.Fmt.parse-decimal}
 use Rattle.napt_state.proofs.fields.number.Goals as goal

@@ -1,3 +1,4 @@
+-- word: the word at an index of the line, or an empty one, is that of the definition.
 use Rattle.std.{proofs.Common.{◌≡◌, ◌∙◌, [], Option, Some, None, lit<, refl, ap}, specs.{Option.option_map, Prelude.unwrap_or}}
 use Rattle.std.proofs.lemmas.{Option.unwrap_or-slice_get, Iterator.{Consumers.nth_from_yields_List, Splits.YieldsList-from_str_split}}
 use Rattle.napt_state.proofs.fields.word.Goals as goal

@@ -17,7 +17,7 @@ entry_text old l =
 
 pub returns : goal.returns
 returns c =
-    let l = c.args.listed.now in
+    let l = c.args.numbered.now in
     c.in_ok-add_use.ensures
     ∙ ap (λ (t : StateTextBytes). t ++ words_text (use_words l.entry)) (c.in_ok-add_row.ensures
     ∙ ap (λ (t : StateTextBytes). t ++ spaced (row_words l.entry.binding [])) (c.in_ok-add_spaced.ensures

@@ -1,14 +1,18 @@
-use Rattle.std.proofs.Common.{◌≡◌, ◌-◌, ◌∙◌, List, [], ◌∷◌, Option, length, drop, subst, sym, ap, arith}
+-- first_misfit_in: the reason against one more binding that goes on, given those after it.
+use Rattle.std.proofs.Common.{◌≡◌, ◌-◌, ◌∙◌, ℕ, List, [], ◌∷◌, Option, length, drop, subst, sym, ap, cond, not, ◌&&◌, arith}
 use Rattle.std.proofs.Math.ListN.{drop_of_length-le}
-use Rattle.napt_rules.specs.{Bindings.Binding, Misfits.{misfit_of, misfit_or, misfit_in}, declared.{Misfit.Misfit}}
+use Rattle.napt_rules.specs.{Bindings.{Binding}, Misfits.{misfit_of, misfit_or, misfit_in}, declared.{Misfit.Misfit}}
+use Rattle.napt_rules.specs.Life.{is_live, with_live_flows, hold_ago}
 use Rattle.napt_state.specs.StateReaders.{AreOf}
-use Rattle.napt_state.proofs.Taken.{are_more, drop_before}
+use Rattle.napt_state.proofs.{Taken.are_more, Standing.{going_on, going_before, dynamic_going}}
 use Rattle.napt_state.proofs.state_checks.first_misfit_in.Goals as goal
 
 pub loop-left-init : goal.loop-left-init
 loop-left-init c =
+    let timers = c.args.config.now.timers in
     let list = c.args.list.now in
-    let none : drop (length list) list ≡ [] = drop_of_length-le list (omega arith) in
+    let none : going_on timers c.held_at-held.result (drop (length list) list) ≡ [] =
+    ap (going_on timers c.held_at-held.result) (drop_of_length-le list (omega arith)) in
     record {
       within = omega arith;
       redirects = c.in_ok-redirects.ensures;
@@ -16,24 +20,63 @@ loop-left-init c =
       found = ap (misfit_in c.args.config.now c.args.clock) (sym none);
     }
 
-pub loop-left-preserved : goal.loop-left-preserved
-loop-left-preserved c =
+pub loop-left-preserved-in-Continue-branch-3 : goal.loop-left-preserved-in-Continue-branch-3
+loop-left-preserved-in-Continue-branch-3 c =
     let rules = c.args.config.now in
+    let timers = rules.timers in
     let list = c.args.list.now in
-    let rest = drop c.loop-left.left list in
+    let held = c.held_at-held.result in
+    let clock = c.args.clock in
+    let rest = going_on timers held (drop c.loop-left.left list) in
     let one = c.index-list-left.result in
-    let place : drop (c.loop-left.left - 1) list ≡ one ∷ rest =
-    drop_before list c.loop-left.left one c.loop-left-test.true c.loop-left.invariant.within
-    ∙ ap (λ (b : Binding). b ∷ rest) (sym c.index-list-left.is) in
-    let judged = c.in_ok-misfit.ensures rest c.loop-left.invariant.redirects c.loop-left.invariant.behind in
+    let live = with_live_flows timers held one in
+    let place : going_on timers held (drop (c.loop-left.left - 1) list) ≡ live ∷ rest =
+    going_before timers held list c.loop-left.left _ c.loop-left-test.true c.loop-left.invariant.within
+    ∙ ap (λ (b : Binding). cond (not b.row.fixed && is_live timers held b) (with_live_flows timers held b ∷ rest) rest)
+    (sym c.index-list-left.is)
+    ∙ ap (λ v. cond v (live ∷ rest) rest) (sym c.goes_on.ensures ∙ c.if-goes_on.true) in
+    let judged = c.in_ok-misfit.ensures rest c.loop-left.invariant.redirects c.loop-left.invariant.behind
+    ∙ ap (λ (n : ℕ). misfit_of rules clock (with_live_flows timers n one) rest) (sym c.held_at-held.ensures) in
     record {
       within = omega (arith, c.loop-left.invariant.within);
       redirects = c.loop-left.invariant.redirects;
       behind = subst (λ (l : List Binding). AreOf l c.insert.new.self) (sym place)
-          (are_more rest one c.binding.inside.row c.loop-left.behind c.insert.new.self
+          (are_more rest live c.binding.inside.row c.loop-left.behind c.insert.new.self
           (ap (λ (b : Binding). b.row) c.binding.view_is) c.loop-left.invariant.behind c.in_ok-insert.ensures);
       found = c.misfit_or-found.ensures
           ∙ ap (λ (m : Option Misfit). misfit_or one.row m c.loop-left.found) judged
-          ∙ ap (misfit_or one.row (misfit_of rules c.args.clock one rest)) c.loop-left.invariant.found
-          ∙ sym (ap (misfit_in rules c.args.clock) place);
+          ∙ ap (misfit_or one.row (misfit_of rules clock live rest)) c.loop-left.invariant.found
+          ∙ sym (ap (misfit_in rules clock) place);
     }
+
+pub loop-left-preserved : goal.loop-left-preserved
+loop-left-preserved c =
+    let rules = c.args.config.now in
+    let timers = rules.timers in
+    let list = c.args.list.now in
+    let held = c.held_at-held.result in
+    let rest = going_on timers held (drop c.loop-left.left list) in
+    let one = c.index-list-left.result in
+    let place : going_on timers held (drop (c.loop-left.left - 1) list) ≡ rest =
+    going_before timers held list c.loop-left.left _ c.loop-left-test.true c.loop-left.invariant.within
+    ∙ ap (λ (b : Binding). cond (not b.row.fixed && is_live timers held b) (with_live_flows timers held b ∷ rest) rest)
+    (sym c.index-list-left.is)
+    ∙ ap (λ v. cond v (with_live_flows timers held one ∷ rest) rest) (sym c.goes_on.ensures ∙ c.if-goes_on.false) in
+    record {
+      within = omega (arith, c.loop-left.invariant.within);
+      redirects = c.loop-left.invariant.redirects;
+      behind = subst (λ (l : List Binding). AreOf l c.loop-left.behind) (sym place) c.loop-left.invariant.behind;
+      found = c.loop-left.invariant.found ∙ sym (ap (misfit_in rules c.args.clock) place);
+    }
+
+pub returns : goal.returns
+returns c =
+    let rules = c.args.config.now in
+    let none : c.loop-left.left ≡ 0 = omega (arith, c.loop-left-test.false) in
+    c.loop-left.invariant.found
+    ∙ ap (λ (n : ℕ). misfit_in rules c.args.clock (going_on rules.timers n (drop c.loop-left.left c.args.list.now)))
+    c.held_at-held.ensures
+    ∙ ap (λ (n : ℕ). misfit_in rules c.args.clock
+    (going_on rules.timers (hold_ago rules.timers c.args.clock) (drop n c.args.list.now))) none
+    ∙ sym (ap (misfit_in rules c.args.clock) (dynamic_going rules
+    (record { clock = c.args.clock; list = c.args.list.now })))

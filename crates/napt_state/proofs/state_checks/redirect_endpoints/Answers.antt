@@ -1,3 +1,4 @@
+-- redirect_endpoints: one more redirect adds its endpoints.
 use Rattle.std.proofs.Common.{◌-◌, List, get_or, drop, map, subst, sym, ap, arith}
 use Rattle.napt_config.specs.Rules.{pair_of}
 use Rattle.napt_rules.specs.{Bindings.Binding, Opening.redirect_binding}

@@ -15,3 +15,8 @@ returns-in_err-finish g c =
     let p = err_from_is_err_and c.from_residual-in_err-finish.result c.from_residual-in_err-finish.ensures.1 in
     rw (p.1, p.2) (save_stop c.args.streams c.args.options.now c.in_err-finish.field-0.0
     (sym c.in_ok-config.ensures.save ∙ ap is_some c.in-Some-Some.is-0) c.in_err-finish.ensures.refused)
+
+pub returns-in_err-sync : goal.returns-in_err-sync
+returns-in_err-sync g c =
+    let p = err_from_is_err_and c.from_residual-in_err-sync.result c.from_residual-in_err-sync.ensures.1 in
+    rw (p.1, p.2) (c.in_err-sync.ensures c.args.streams (files_with_log c.args.options.now))

@@ -1,3 +1,4 @@
+-- enter_queue: one more endpoint is due at its time.
 use Rattle.std.proofs.Common.{◌≡◌, true, ℕ, Option, subst}
 use Rattle.napt_binding.specs.Ends.{is_before}
 use Rattle.napt_account.proofs.Queue.{within_insert}

@@ -1,3 +1,4 @@
+-- look_at: the entry is removed if it has ended, and queued at its end otherwise.
 use Rattle.std.proofs.Common.{◌≡◌, cond, true, false, Some, None, refl, sym, ◌∙◌, subst}
 use Rattle.napt_account.specs.declared.open_entries.{EntryKey.EntryKey, Open.Open, OpenEntries.OpenEntries}
 use Rattle.napt_account.{specs.OpenEntries.{external_eq, open_at, is_queued, IsIndexedBut}, proofs.OpenEntries.{moved, queued_at}}

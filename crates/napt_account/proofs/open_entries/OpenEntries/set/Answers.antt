@@ -1,3 +1,4 @@
+-- set: the endpoint has the entry, and is queued at its time.
 use Rattle.std.proofs.{Common.{ℕ, cond, Option, Some, refl, sym, ◌∙◌, ap, subst}, lemmas.Option.same_Some}
 use Rattle.napt_account.specs.declared.open_entries.{EntryKey.EntryKey, Open.Open, OpenEntries.OpenEntries}
 use Rattle.napt_account.{specs.OpenEntries.{entry_key, external_eq, open_at, is_queued, entry_is_at, IsPlaced}, proofs.OpenEntries.{moved, queued_at}}
@@ -5,10 +6,10 @@ use Rattle.napt_account.proofs.open_entries.OpenEntries.set.Goals as goal
 
 pub returns-clause-indexed : goal.returns-clause-indexed
 returns-clause-indexed c = λ but.
-    let key : EntryKey = entry_key c.args.listed.entry.binding in
+    let key : EntryKey = entry_key c.args.numbered.entry.binding in
     let same = c.external_key-key.ensures in
     let due : Option ℕ = c.due_by-due.result in
-    let next : Open = record { listed = c.args.listed; due = due } in
+    let next : Open = record { numbered = c.args.numbered; due = due } in
     let new : OpenEntries = record {
       by_external = c.insert.new.self;
       queue = c.queue_at.new.self.queue;

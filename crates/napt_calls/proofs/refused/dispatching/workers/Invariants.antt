@@ -1,3 +1,4 @@
+-- workers: the translators so far are those of the first addresses of the pool.
 use Rattle.std.proofs.Common.{◌≡◌, ◌≤◌, length}
 use Rattle.napt_dispatch.specs.Dispatch.{started_translators}
 use Rattle.napt_calls.proofs.refused.dispatching.workers.Given as goal

@@ -1,3 +1,4 @@
+-- machines: there are as many machines as the loop has counted.
 use Rattle.std.proofs.Common.{◌≡◌, vec_len}
 use Rattle.napt_calls.proofs.refused.pool.machines.Given as goal
 

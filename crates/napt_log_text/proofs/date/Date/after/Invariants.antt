@@ -1,8 +1,8 @@
+-- after: the first day of the month is after the start by the days that are no longer left.
 use Rattle.std.proofs.Common.{ℕ, ◌≡◌, ◌+◌, ◌-◌, ◌≤◌}
 use Rattle.napt_log_text.specs.Calendar as calendar
 use Rattle.napt_log_text.proofs.date.Date.after.Given as goal
 
--- the first day of the month is so many days behind the start as are no longer left
 abbrev pub invariant-loop-left : goal.invariant-loop-left
 invariant-loop-left l = record {
   months : (1 ≤ l.month) × (l.month ≤ 12);

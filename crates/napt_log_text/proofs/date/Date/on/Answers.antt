@@ -1,3 +1,4 @@
+-- on: the year does not begin after the day, and the days since its beginning lead to the day.
 use Rattle.std.proofs.Common.{ℕ, ◌≡◌, ◌+◌, ◌-◌, ◌*◌, ◌≤◌, ◌/◌, ◌∙◌, ap, sym, subst, arith}
 use Rattle.napt_log_text.specs.Calendar as calendar
 use Rattle.napt_log_text.proofs.Days.{new_years_day, no_longer}

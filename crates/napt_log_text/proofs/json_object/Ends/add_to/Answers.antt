@@ -1,3 +1,4 @@
+-- add_to: the text gets the members of the endpoints.
 use Rattle.std.proofs.Common.{◌≡◌, ◌++◌, codes, string_bytes, append_assoc}
 use Rattle.napt_config.specs.Text.{address_text}
 use Rattle.napt_log_text.{specs.Objects.{end_members, quoted}, proofs.Quoted.quoted_between}

@@ -1,3 +1,4 @@
+-- add_members: the text gets the object without the end of its line.
 use Rattle.std.proofs.Common.{append_assoc}
 use Rattle.napt_log_text.specs.Objects.{object_of}
 use Rattle.napt_log_text.proofs.json_object.JsonObject.add_members.Goals as goal

@@ -1,8 +1,9 @@
+-- next: a row that was written is read back, and a last line without its line feed is reported.
 use Rattle.std.proofs.{Common.{ℕ, ◌≡◌, ◌≢◌, ◌∙◌, List, [], ◌∷◌, ◌++◌, Option, MatchOption, Ok, Bor, sym, ap, subst, lit<}, lemmas.Str.Pattern.strip_suffix_char}
 use Rattle.napt_log_text.proofs.SavedRows.{csv_row-line, line_left, line_read, torn_read}
 use Rattle.napt_log_text.proofs.log_reader.LogReader.next.Goals as goal
 
--- what a line is without its end, if it has one
+-- The line without its end, if it has one.
 abbrev IsCut : List ℕ → Option (Bor (List ℕ)) → Type 0
 IsCut line r = MatchOption r ((front : List ℕ) → line ≢ front ++ 10 ∷ []) (λ x. line ≡ x.now ++ 10 ∷ [])
 

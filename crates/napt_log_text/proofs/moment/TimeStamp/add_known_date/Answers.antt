@@ -1,3 +1,4 @@
+-- add_known_date: the text gets the date and the time of day.
 use Rattle.std.proofs.{Common.{arith, append_assoc}, lemmas.{Grind.common_steps, Bool.Decides.nat_tests}}
 use Rattle.napt_log_text.specs.Times.{date_text}
 use Rattle.napt_log_text.proofs.moment.TimeStamp.add_known_date.Goals as goal

@@ -1,3 +1,4 @@
+-- add_seconds: the text gets the seconds with nine decimals.
 use Rattle.std.proofs.Common.{append_assoc}
 use Rattle.napt_log_text.specs.Times.{seconds_text}
 use Rattle.napt_log_text.proofs.moment.TimeStamp.add_seconds.Goals as goal

@@ -1,3 +1,4 @@
+-- push_address: the four numbers of the address are put in front, with dots between them.
 use Rattle.std.proofs.Common.{append_assoc}
 use Rattle.napt_config.specs.Text.{address_text}
 use Rattle.napt_log_text.proofs.suffix.Suffix.push_address.Goals as goal

@@ -1,3 +1,4 @@
+-- push_number: there is room for the digits of the number, which are put in front.
 use Rattle.std.proofs.{Common.{◌≡◌, ◌-◌, ◌≤◌, length, decimal, sym, ap, ◌∙◌, arith, length-append}, lemmas.Fmt.{length-decimal-le, IsAscii-decimal}}
 use Rattle.std.proofs.lemmas.{List.length-drop, Str.IsAscii-append}
 use Rattle.napt_log_text.proofs.suffix.Suffix.push_number.Goals as goal

@@ -1,23 +1,41 @@
-use Rattle.std.proofs.Common.{◌+◌, ◌^◌, ◌<◌, [], ◌∷◌, ◌++◌, length, append-nil, refl, sym, ◌∙◌, ap, ap₂, subst}
-use Rattle.napt_account.specs.{TrackedLogs.KnownTraces, TraceLogs.told_with}
-use Rattle.napt_log_text.specs.{Logs.told_rows, Times.TimeText}
+use Rattle.std.proofs.Common.{◌++◌, append-nil, refl, sym, ◌∙◌, ap}
+use Rattle.napt_account.specs.{LogBuilders.{LogBuilderModel, part_in}}
+use Rattle.napt_log_text.specs.{Logs.part_rows, Times.TimeText}
 use Rattle.napt_run.specs.RunningLogs.{opening_before}
+use Rattle.napt_run.proofs.Entering.{few_more, known_more, part_is}
 use Rattle.napt_run.proofs.running_log.RunningLog.rows.Goals as goal
 
 pub returns-then-is_quiet : goal.returns-then-is_quiet
 returns-then-is_quiet g c from before at =
-    let going = ap (λ (l : KnownTraces). l.is_stopped) at.log in
-    let told = c.in_ok-told.ensures in
+    let going = ap (λ (l : LogBuilderModel). l.is_stopped) at.log in
+    let entered = c.in_ok-part.ensures in
+    let part = part_is from before c.args.trace c.args.self.now.log at.log (part_in c.in_ok-part.part)
+    (entered.tells going) in
+    let opening : TimeText = opening_before from before c.args.trace.now in
     record {
-      log = told.goes going ∙ ap (λ (l : KnownTraces).
-          let next : KnownTraces = record l { traces = l.traces ++ c.args.trace ∷ [] } in next) at.log;
-      few = subst (λ (l : KnownTraces). length l.traces + 1 < 2 ^ 62) at.log (told.few going);
+      log = known_more from before c.args.trace c.args.self.now.log at.log c.enter.new.self (entered.goes going);
+      few = few_more from before c.args.trace c.args.self.now.log at.log (entered.few going);
       output = refl;
       each = refl;
       goes_on = refl;
-      rows = c.in_ok-text.ensures from before at ∙ (sym (append-nil (opening_before from before c.args.trace.now))
-          ∙ ap (λ (l : TimeText). opening_before from before c.args.trace.now ++ l)
-          (sym (ap (told_rows from.origin.rules)
-          (ap (λ (l : KnownTraces). told_with l.begun l.traces c.args.trace) (sym at.log)
-          ∙ (sym (told.tells going) ∙ c.is_quiet.ensures c.if-is_quiet.true)))));
+      rows = c.in_ok-text.ensures from before at ∙ (sym (append-nil opening) ∙ ap (λ (l : TimeText). opening ++ l)
+          (ap (part_rows from.origin.rules) (sym (c.is_quiet.ensures c.if-is_quiet.true) ∙ part)));
+    }
+
+pub returns : goal.returns
+returns g c from before at =
+    let going = ap (λ (l : LogBuilderModel). l.is_stopped) at.log in
+    let entered = c.in_ok-part.ensures in
+    let part = part_is from before c.args.trace c.args.self.now.log at.log (part_in c.in_ok-part.part)
+    (entered.tells going) in
+    let log = known_more from before c.args.trace c.args.self.now.log at.log c.enter.new.self (entered.goes going) in
+    let rules = c.config.ensures ∙ ap (λ (l : LogBuilderModel). l.rules) log in
+    record {
+      log = log;
+      few = few_more from before c.args.trace c.args.self.now.log at.log (entered.few going);
+      output = refl;
+      each = refl;
+      goes_on = refl;
+      rows = c.in_ok-add_part.ensures
+          ∙ (λ i. c.in_ok-text.ensures from before at i ++ part_rows (rules i) (part i));
     }

@@ -1,5 +1,5 @@
 use Rattle.std.proofs.Common.{◌≡◌, ◌∙◌, ap, inl, []}
-use Rattle.napt_run.specs.{LogRuns.as_run, Logs.with_log, Origins.origin_of, Posts.{FaultPost, IsBeforeReport}, Runs.IsToldOf, Streams.{Explains, IsStopFault}}
+use Rattle.napt_run.specs.{LogRuns.as_run, Logs.with_log, Posts.{FaultPost, IsBeforeReport}, Runs.IsToldOf, Streams.{Explains, IsStopFault}}
 use Rattle.napt_run.proofs.{Endings.closed, Posts.{end_with, err_both, err_with, inside_post, kept_with, on_any, outside_post, plain_fault, reads_post, told_with}}
 use Rattle.napt_run.proofs.start.OriginSetting.stream_plain.{Given.Over, Goals.After-with_log}
 use Rattle.napt_run.proofs.start.OriginSetting.stream_plain.Goals as goal
@@ -17,7 +17,7 @@ returns-clause-to_inside g c = rw (end_with _ _ _ (is g c))
     (inl (inside_post g.V.Sink _ _ _ (as_run c.stream-streamed.result) _ _ c.stream-streamed.ensures.to_inside))
 
 pub returns-clause-log : goal.returns-clause-log
-returns-clause-log g c = kept_with (λ log. log ≡ record { made = 0; living = [] }) _ _ _ (is g c)
+returns-clause-log g c = kept_with (λ log. log ≡ record { made = 0; entries = []; shortages = [] }) _ _ _ (is g c)
     (on_any _ _ c.none-kept.ensures)
 
 pub returns-clause-told : goal.returns-clause-told

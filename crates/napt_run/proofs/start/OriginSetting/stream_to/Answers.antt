@@ -1,7 +1,7 @@
-use Rattle.std.proofs.{Common.{◌≡◌, ◌∙◌, OnOk, ap, inr, refl, rules, subst, sym}, lemmas.Result.err_from_is_err_and}
-use Rattle.napt_run.specs.{LoggedStreams.{LogIsKept, IsLoggedStop, LoggedExplains}, LogOrigins.texts_from, Logs.{unified, with_log}, Origins.origin_of, Posts.{FaultPost, IsBeforeReport, IsDone, SinkPost}, Runs.IsToldOf, Streams.stream_ended}
+use Rattle.std.proofs.{Common.{◌≡◌, ◌∙◌, OnOk, ap, rules, subst, sym}, lemmas.Result.err_from_is_err_and}
+use Rattle.napt_run.specs.{LoggedStreams.{LogIsKept, IsLoggedStop, LoggedExplains}, LogOrigins.log_origin, Logs.{unified, with_log}, Origins.origin_of, Posts.{FaultPost, IsBeforeReport, IsDone, SinkPost}, Runs.IsToldOf, Streams.stream_ended}
 use Rattle.napt_records.specs.declared.Which.TheVariants.{Log}
-use Rattle.napt_run.proofs.LogTaken.{kept_is, ready, texts_taken}
+use Rattle.napt_run.proofs.LogTaken.{log_of, ready, texts_taken}
 use Rattle.napt_run.proofs.Posts.{end_with, err_both, err_one, err_with, inside_logged, kept_with, log_at, log_few, log_post, log_unbegun, log_with, logged_fault, outside_logged, told_with, unified_before, unified_fault, unified_ok, unified_reads, unified_told}
 use Rattle.napt_run.proofs.start.OriginSetting.stream_to.{Given.Over, Goals.After-with_log}
 use Rattle.napt_run.proofs.start.OriginSetting.stream_to.Goals as goal
@@ -58,27 +58,29 @@ given g c same = c.log-1.given.1 (sym c.over-output.ensures.same_reference
     ∙ c.into_device-device.ensures.value ∙ ap (λ o. o.device.now) c.take_left-left.ensures.output
 
 pub returns-clause-log : goal.returns-clause-log
-returns-clause-log g c l told is_taken =
+returns-clause-log g c =
+    let start = c.args.self.start in
+    let log = (log_origin start c.args.log.now.start).log in
     let inside = g.R.Source.remaining c.args.inside.now in
     let outside = g.Q.Source.remaining c.args.outside.now in
     let gets = log_at _ inside outside c.stream_logged-told.result c.over-running.result.output
     c.stream_logged-told.new.log.output c.stream_logged-told.ensures.log.same c.stream_logged-told.ensures.log.gets
     c.args.log.now.device c.log-1.given.0
     (ap (λ o. o.device.now) c.over-running.ensures.output ∙ c.over-output.ensures.device) (given g c) in
-    let texts = texts_taken c.args.self.start c.args.log.now.start c.in_ok-taken.taken c.in_ok-taken.ensures l told
-    is_taken c.over-running.result c.over-running.ensures.log c.over-running.ensures.opening
+    let texts = texts_taken start c.args.log.now.start c.in_ok-taken.taken c.in_ok-taken.ensures
+    c.over-running.result c.over-running.ensures.log c.over-running.ensures.opening
     c.over-running.ensures.each c.over-running.ensures.goes_on in
-    let same = kept_is c.args.self.start c.args.log.now.start c.in_ok-taken.taken c.in_ok-taken.ensures l told is_taken
-    c.over-running.result c.over-running.ensures.log in
+    let same = log_of start c.args.log.now.start c.in_ok-taken.taken c.in_ok-taken.ensures c.over-running.result
+    c.over-running.ensures.log in
     record {
       written = rw (log_with _ _ _ (is g c)) (subst (λ t. SinkPost g.L.Sink t Log inside outside
           (stream_ended (unified c.stream_logged-told.result)) c.args.log.now.device c.log-1.given.0) texts
           (log_post g.G.Gate.is_open g.L.Sink _ inside outside c.stream_logged-told.result
           c.stream_logged-told.ensures.says.stop c.args.log.now.device c.log-1.given.0 gets));
-      kept = kept_with (LogIsKept (origin_of c.args.self.start) l inside outside) _ _ _ (is g c) (unified_ok _
+      kept = kept_with (LogIsKept (origin_of start) log inside outside) _ _ _ (is g c) (unified_ok _
           c.stream_logged-told.result (subst (λ k. OnOk c.stream_logged-told.result
-          (LogIsKept (origin_of c.args.self.start) l inside outside k)) (sym c.take_left-left.ensures.left)
-          (subst (λ k. OnOk c.stream_logged-told.result (LogIsKept (origin_of c.args.self.start) k inside outside
+          (LogIsKept (origin_of start) log inside outside k)) (sym c.take_left-left.ensures.left)
+          (subst (λ k. OnOk c.stream_logged-told.result (LogIsKept (origin_of start) k inside outside
           c.stream_logged-told.new.log.left)) same c.stream_logged-told.ensures.left)));
       few = λ done. log_few g.G.Gate.is_open g.L.Sink _ inside outside c.stream_logged-told.result
           c.stream_logged-told.ensures.says.stop c.args.log.now.device c.log-1.given.0 gets
@@ -88,7 +90,7 @@ returns-clause-log g c l told is_taken =
 -- THE LOG WAS NOT BEGUN
 
 pub returns-in_err-taken-clause-log : goal.returns-in_err-taken-clause-log
-returns-in_err-taken-clause-log g c l told is_taken =
+returns-in_err-taken-clause-log g c =
     let p = err_from_is_err_and c.from_residual.result c.from_residual.ensures.1 in
     rw (p.1, p.2) (record {
       written = log_unbegun g.L.Sink _ _ _ _;

@@ -1,4 +1,4 @@
--- No read failed.
+-- shape_one_by_one: while records are read, no read of the device has failed.
 use Rattle.std.proofs.Common.{◌≡◌, ◌+◌}
 use Rattle.napt_capture.specs.FaultyDevices.{device_of, own_failed}
 use Rattle.napt_capture.specs.Watched.{failed_of}

@@ -1,3 +1,4 @@
+-- two_kept: the answers that remain when the pool is closed are those of the two items that it accepted.
 use Rattle.std.proofs.Common.{◌≡◌, [], ◌∷◌, rules}
 use Rattle.napt_pool.specs.Pools.{initial_machines, accepted_items, taken_answers}
 use Rattle.napt_run_tests.proofs.OnlyOne.{all_of_one}

@@ -3,4 +3,4 @@ use Rattle.napt_state.specs.StateText.{flow_count}
 use Rattle.napt_state.proofs.line.LineCounts.of.Given as goal
 
 abbrev pub invariant-loop-binding : goal.invariant-loop-binding
-invariant-loop-binding l = l.flows ≡ flow_count (take l.binding-index l.state.list)
+invariant-loop-binding l = l.flows ≡ flow_count (take l.binding-index l.saved.bindings)

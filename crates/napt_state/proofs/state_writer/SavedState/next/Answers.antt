@@ -1,3 +1,4 @@
+-- next: a line that was written is read, and what is read is the beginning of the text.
 use Rattle.std.proofs.Common.{ℕ, ◌≡◌, ◌≢◌, ◌∙◌, Bool, true, false, List, [], ◌∷◌, ◌++◌, Option, Some, MatchOption, Result, Ok, Err, OnOk, is_err, Bor, sym, ap, subst, lit<}
 use Rattle.std.specs.Prelude.{bytes_eq}
 use Rattle.std.proofs.lemmas.{Str.Pattern.strip_suffix_char, Option.none-some, Bool.true≢false, Slice.Eq.bytes_eq-Decides}
@@ -5,7 +6,7 @@ use Rattle.napt_state.specs.StateText.{line_text}
 use Rattle.napt_state.proofs.Lines.{line_text-ended, line_left, line_read, torn_read, first_read}
 use Rattle.napt_state.proofs.state_writer.SavedState.next.Goals as goal
 
--- what a line is without its end, if it has one
+-- The line without its end, if it has one.
 abbrev IsCut : List ℕ → Option (Bor (List ℕ)) → Type 0
 IsCut line r = MatchOption r ((front : List ℕ) → line ≢ front ++ 10 ∷ []) (λ x. line ≡ x.now ++ 10 ∷ [])
 
@@ -56,7 +57,7 @@ returns-then-eq-clause-entry g c entry rest fits left =
     let found = c.read.ensures.read entry fits (sym read.0 ∙ sym c.as_str.ensures.value ∙ is) in
     (ap Ok (sym c.in-Some-read.is ∙ found), read.1)
 
--- what is written after all, where memory sufficed
+-- A fact that was proved if memory sufficed, where memory did suffice.
 sufficed : {A E P : Type 0} (r : Result A E) → OnOk r P → is_err r ≡ false → P
 sufficed (Ok x) h e = h
 sufficed (Err error) h e = cc

@@ -1,11 +1,9 @@
+-- saved: a text that was written is read to its end, and a text that is read is one of a state.
 use Rattle.std.proofs.lemmas.{Bool.true≢false, Result.err_from_is_err_and}
-use Rattle.std.proofs.Common.{Ok, sym, ap, subst}
-use Rattle.napt_laws.proofs.Lists.{each_pushed}
-use Rattle.napt_rules.specs.Prelude.{Each}
+use Rattle.std.proofs.Common.{ℕ, ◌≡◌, List, Some, Ok, Err, IfOk, sym, ap, subst, inl, inr}
 use Rattle.napt_state.specs.declared.line.StateLine.{StateLine}
-use Rattle.napt_state.specs.StateText.{lines_between}
-use Rattle.napt_state.specs.StateContents.{IsFewLine}
-use Rattle.napt_state.proofs.Reading.{AheadOf, ahead_next, none_next, can_follow, no_end, ahead_added, all_read, unless_weaker, taken_added, taken_all, few_of}
+use Rattle.napt_state.specs.{Saved.HasAccounts, StateContents.{IsFirstLine, IsReadAs}}
+use Rattle.napt_state.proofs.Reading.{AheadOf, ahead_next, none_next, can_follow, no_end, ahead_added, all_read, unless_weaker, taken_added, taken_all, earlier_read, no_earlier}
 use Rattle.napt_state.proofs.state_writer.SavedState.saved.Goals as goal
 
 pub returns-in_err-line-clause-read : goal.returns-in_err-line-clause-read
@@ -24,7 +22,7 @@ returns-in_err-end-in-End-clause-read g c whole fits left =
     let p = err_from_is_err_and c.from_residual-in_err-end-in-End.result
     c.from_residual-in_err-end-in-End.ensures.1 in
     rw (p.1, p.2) (unless_weaker c.in_err-end-in-End.field-0.0 (λ w. absurd (true≢false (sym w)))
-    (c.in_err-end-in-End.ensures.read all.1 all.2))
+    (c.in_err-end-in-End.ensures.read all.1 (subst HasAccounts (sym all.0) fits.1) all.2))
 
 pub returns-in-End-clause-read : goal.returns-in-End-clause-read
 returns-in-End-clause-read g c whole fits left =
@@ -36,12 +34,9 @@ returns-in-End-clause-read g c whole fits left =
 
 pub returns-in-End-clause-exact : goal.returns-in-End-clause-exact
 returns-in-End-clause-exact g c text left =
-    taken_all text c.loop.saved c.in_ok-line.line (g.R.Read.remaining c.loop.self.reader)
+    inl (taken_all text c.loop.saved c.in_ok-line.line (g.R.Read.remaining c.loop.self.reader)
     (g.R.Read.remaining c.entry.new.self.reader) (c.loop.invariant.exact text left) c.in_ok-line.ensures.exact
-    c.in-End.counts c.in-End.is c.in_ok-end-in-End.ensures.same c.in_ok-end-in-End.ensures.exact
-
-pub returns-in-End-clause-few : goal.returns-in-End-clause-few
-returns-in-End-clause-few g c = few_of c.loop.saved c.loop.invariant.few
+    c.in-End.counts c.in-End.is c.in_ok-end-in-End.ensures.same c.in_ok-end-in-End.ensures.exact)
 
 pub returns-in_err-add-in_default-clause-read : goal.returns-in_err-add-in_default-clause-read
 returns-in_err-add-in_default-clause-read g c whole fits left =
@@ -68,6 +63,21 @@ loop-preserved g c =
           ahead_added whole c.loop.saved line more new c.add.new.saved ahead added;
       exact = λ text left. taken_added text c.loop.saved line old new (c.loop.invariant.exact text left)
           c.in_ok-line.ensures.exact c.add.new.saved added;
-      few = subst (Each IsFewLine) (sym added.lines) (each_pushed IsFewLine (lines_between c.loop.saved) line
-          c.loop.invariant.few c.in_ok-line.ensures.few);
     }
+
+pub returns-in-EarlierLog-clause-read : goal.returns-in-EarlierLog-clause-read
+returns-in-EarlierLog-clause-read g c whole fits left =
+    let new = g.R.Read.remaining c.entry.new.self.reader in
+    let (more, ahead) = ahead_next whole c.loop.saved (g.R.Read.remaining c.loop.self.reader) new c.in_ok-line.line
+    c.in_ok-line.ensures.entry (c.loop.invariant.read whole fits left) in
+    absurd (no_earlier whole c.loop.saved c.in-EarlierLog.made c.in-EarlierLog.field-1 more new
+    (subst (λ (l : StateLine). AheadOf whole c.loop.saved l more new) c.in-EarlierLog.is ahead))
+
+pub returns-in-EarlierLog-clause-exact : goal.returns-in-EarlierLog-clause-exact
+returns-in-EarlierLog-clause-exact g c text left =
+    let earlier = earlier_read text c.loop.saved c.in-EarlierLog.made c.in-EarlierLog.field-1
+    (g.R.Read.remaining c.loop.self.reader) (g.R.Read.remaining c.entry.new.self.reader)
+    (c.loop.invariant.exact text left) (subst (λ (l : StateLine). (all : List ℕ) →
+    g.R.Read.remaining c.loop.self.reader ≡ Some all → IsFirstLine l all (g.R.Read.remaining c.entry.new.self.reader))
+    c.in-EarlierLog.is c.in_ok-line.ensures.exact) in
+    elim c.earlier.result as (λ r. IfOk r (IsReadAs text)) [ Ok saved ↦ inr earlier | Err reason ↦ tt ]

@@ -1,10 +1,10 @@
 -- `send_known`: a known binding's packet is sent as in the definition; else no binding changes.
-use Rattle.std.{proofs.Common.{◌≡◌, ℕ, Option, Some, None, Result, Ok, Err, cond, subst}, specs.{Prelude.{IfOk, IfSome}, Option.is_some}}
+use Rattle.std.{proofs.Common.{◌≡◌, ℕ, Option, Some, None, Result, Ok, Err, cond, ap, subst}, specs.{Prelude.{IfOk, IfSome}, Option.is_some}}
 use Rattle.std.specs.declared.alloc.AllocError.{AllocError}
 use Rattle.napt_config.specs.Rules.{AreTimers}
 use Rattle.napt_rules.specs.declared.OutboundPacket.{OutboundPacket}
 use Rattle.napt_table.specs.{BindingIndexes.{IsNamed, HasNone, SendKnownPost}, Bindings.{BindingsModel, SendsKnown}}
-use Rattle.napt_table.proofs.AssignedNumbers.{went_answer, went_any_block, went_keeps}
+use Rattle.napt_table.proofs.AssignedNumbers.{found_is, went_answer, went_any_block, went_keeps, none_live}
 use Rattle.napt_table.proofs.bindings.Bindings.send_known.Goals as goal
 
 known : (p : OutboundPacket) (old new : BindingsModel) → AreTimers old.timers → IsNamed old.held →
@@ -22,6 +22,8 @@ known p old new t named (Ok (Some number)) went at = record {
   );
   any_block = λ list apart keeps. went_any_block old.timers t old.held.granting p old.held new.held named number went
       list apart keeps;
+  finds = λ list apart keeps. ap is_some (found_is old.timers t old.held.granting p old.held new.held named number went
+      list apart keeps);
 }
 
 pub returns-clause-known : goal.returns-clause-known
@@ -36,9 +38,13 @@ returns-clause-unknown c is =
     let new = c.send_held.new.self in
     let none : HasNone old.timers p old.held new.held =
     subst (λ (r : Result (Option ℕ) AllocError). IfOk r (SendKnownPost old.timers p old.held new.held)) is
-    c.send_held.ensures.went in record {
-      timers_is = c.send_held.ensures.timers;
-      at_is = subst (λ (r : Result (Option ℕ) AllocError). IfOk r (λ found. new.at ≡ cond (is_some found) p.now old.at))
-          is c.send_held.ensures.at;
-      same = none.same;
-    }
+    c.send_held.ensures.went in (
+      record {
+        timers_is = c.send_held.ensures.timers;
+        at_is = subst (λ (r : Result (Option ℕ) AllocError).
+            IfOk r (λ found. new.at ≡ cond (is_some found) p.now old.at)) is c.send_held.ensures.at;
+        same = none.same;
+      },
+      λ list apart keeps. ap is_some (none_live old.timers p old.held new.held c.keep_names.ensures none list apart
+          keeps),
+    )

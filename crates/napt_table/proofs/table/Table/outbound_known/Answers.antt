@@ -1,9 +1,9 @@
 -- `outbound_known`: a known binding's packet is sent as in `step_out`, and the invariant is kept.
-use Rattle.std.{proofs.Common.{◌≤◌, ◌∙◌, ℕ, Option, Result, ap, refl, sym, subst}, specs.Prelude.{IfOk, IfSome}}
+use Rattle.std.{proofs.Common.{◌≤◌, ◌∙◌, ℕ, Option, Result, Ok, true, false, ap, refl, sym, subst}, specs.Prelude.{IfOk, IfSome}}
 use Rattle.napt_wire.specs.declared.Cause.{Cause}
 use Rattle.napt_rules.specs.Prelude.{OutboundEffect, IsNumber}
-use Rattle.napt_table.specs.{declared.table_event.TableEvent.TheVariants.Sent, Bindings.SendsKnown, TableModels.table_model, Tables.TableModel}
-use Rattle.napt_table.proofs.{TableSteps.{all, all_sound, all_taken, keep_now, shown_after, keeps_after, keeps_same}, Tables.table_out}
+use Rattle.napt_table.specs.{declared.table_event.TableEvent.TheVariants.Sent, Bindings.{Finds, SendsKnown}, TableModels.table_model, Tables.TableModel}
+use Rattle.napt_table.proofs.{TableSteps.{all, all_sound, all_taken, keep_now, found_now, shown_after, keeps_after, keeps_same}, Tables.table_out}
 use Rattle.napt_laws.proofs.RowNumbers.{out_named}
 use Rattle.napt_table.proofs.table.Table.outbound_known.Goals as goal
 
@@ -69,3 +69,28 @@ returns-in-Some-clause-named c =
     packet
     c.requires.block
     list sound)
+
+pub returns-in-Some-clause-found : goal.returns-in-Some-clause-found
+returns-in-Some-clause-found c =
+    let t = c.self.inside in
+    let packet = c.args.packet in
+    let le : t.bindings.at ≤ packet.now =
+    subst (λ (s : TableModel). s.at ≤ packet.now) (sym c.self.view_is) c.requires.later in
+    let k : SendsKnown packet t.bindings c.send_known.new.self c.in-Some.number =
+    subst (λ (found : Option ℕ). IfSome found (λ number.
+    SendsKnown packet t.bindings c.send_known.new.self number)) c.in-Some.is c.in_ok-number.ensures.known in
+    rw (← c.self.view_is) (sym (found_now t c.self.invariant packet.now le packet.protocol packet.inside true
+    (k.finds (all t c.self.invariant packet.now le) (all_sound t c.self.invariant packet.now le).apart
+    (keep_now t c.self.invariant packet.now le))))
+
+pub returns-in-None-clause-found : goal.returns-in-None-clause-found
+returns-in-None-clause-found c =
+    let t = c.self.inside in
+    let packet = c.args.packet in
+    let le : t.bindings.at ≤ packet.now =
+    subst (λ (s : TableModel). s.at ≤ packet.now) (sym c.self.view_is) c.requires.later in
+    let none : Finds false packet t.bindings = (c.send_known.ensures.unknown (c.in_ok-number.was ∙ ap Ok c.in-None.is)).1
+    in
+    rw (← c.self.view_is) (sym (found_now t c.self.invariant packet.now le packet.protocol packet.inside false
+    (none (all t c.self.invariant packet.now le) (all_sound t c.self.invariant packet.now le).apart
+    (keep_now t c.self.invariant packet.now le))))

@@ -1,0 +1,118 @@
+-- The entries of a log without their numbers, leg by leg, and those of a run.
+use Rattle.std.proofs.lemmas.{Grind.common_steps, Bool.{Decides.nat_tests, true≢false}, Option.same_Some}
+use Rattle.std.proofs.Common.{◌≡◌, ℕ, ◌+◌, ◌≤◌, Bool, true, false, cond, List, [], ◌∷◌, ◌++◌, length, map, Option, Some, None, refl, sym, ◌∙◌, ap, subst, arith}
+use Rattle.std.specs.List.{fold}
+use Rattle.napt_wire.specs.declared.{Protocol.Protocol, Way.{Way, TheVariants.{Outgoing, Incoming}}}
+use Rattle.napt_rules.specs.{declared.{Leg.Leg, Row.Row}, Prelude.{BindingUse, Binding, source, kind, act, LegAct, Arrival, State, initial_state, opening, purge, redirect_binding, row, run, effect_from, pair_of, Redirect, Rules, AreTimers, Timers}}
+use Rattle.napt_rules.specs.declared.End.{End, TheVariants.{ToOutside, ToInside, Onward, Dropped}}
+use Rattle.napt_laws.proofs.{OpeningList.redirect_stays, Turns.{IsTurn, InTurn, run_turn}}
+use Rattle.napt_binding.specs.Ends.{end_of}
+use Rattle.napt_table.specs.{declared.TimedRow.TimedRow, TimedRows.timed_row}
+use Rattle.napt_translate.specs.CarriedPackets.{packet_carried}
+use Rattle.napt_sequential.specs.Traces.{gone_through, loss_of, passage_by}
+use Rattle.napt_account.specs.{declared.log.{Entry.Entry, LogEntry.LogEntry}, Log.{LogModel, first_entry, begun_behind, counted, entry_through, unnumbered, use_entry, with_use, after_leg, after_record, log_of, log_on, numbered_from}}
+use Rattle.napt_account.proofs.{Lists.{map_joined, map_twice}, Moves.of_moves}
+
+-- the entries after a leg: the binding that it made gets one, and that of the binding that it found changes
+abbrev pub logged_by : Timers → Leg → Option BindingUse → List Entry → List Entry
+logged_by timers leg None entries = entries
+logged_by timers leg (Some went) entries =
+    let change : Entry → Entry = counted leg.way leg.now (end_of timers went.binding) in
+    cond went.made (entries ++ change (first_entry timers leg.now went.binding) ∷ [])
+    (map (entry_through leg.now (row went.binding) change) entries)
+
+abbrev pub logged : Timers → List Entry → LegAct → List Entry
+logged timers entries a = logged_by timers a.leg a.through entries
+
+-- ONE LEG
+
+plain_use : (way : Way) (now : ℕ) (told : TimedRow) (log : LogModel) → unnumbered (with_use way now told log)
+    ≡ map (entry_through now told.row (counted way now told.end)) (unnumbered log)
+plain_use way now told log =
+    map_twice (λ (n : LogEntry). n.entry) (use_entry way now told) log.entries
+    ∙ sym (map_twice (entry_through now told.row (counted way now told.end)) (λ (n : LogEntry). n.entry) log.entries)
+
+pub plain_through : (timers : Timers) (now : ℕ) (way : Way) (made : Bool) → (made ≡ true → way ≡ Outgoing) →
+    (b : Binding) (log : LogModel) → (let change : Entry → Entry = counted way now (end_of timers b) in
+    unnumbered (after_leg now (gone_through way made (timed_row timers b)) log)
+    ≡ cond made (unnumbered log ++ change (first_entry timers now b) ∷ []) (map (entry_through now (row b) change) (unnumbered log)))
+plain_through timers now Outgoing true out b log =
+    map_joined (λ (n : LogEntry). n.entry) log.entries _
+plain_through timers now Outgoing false out b log = plain_use Outgoing now (timed_row timers b) log
+plain_through timers now Incoming true out b log = let never : Incoming ≡ Outgoing = out refl in cc
+plain_through timers now Incoming false out b log = plain_use Incoming now (timed_row timers b) log
+
+plain_none : (now : ℕ) (carried : Option Protocol) (host : ℕ) (end : End) (log : LogModel) →
+    unnumbered (after_leg now (loss_of carried host end) log) ≡ unnumbered log
+plain_none now None host end log = refl
+plain_none now (Some protocol) host (ToOutside packet) log = refl
+plain_none now (Some protocol) host (ToInside packet) log = refl
+plain_none now (Some protocol) host (Onward place packet) log = refl
+plain_none now (Some protocol) host (Dropped cause) log = refl
+
+-- what a leg made it went out through
+abbrev pub MadeOut : Way → Option BindingUse → Type 0
+MadeOut way went = (t : BindingUse) → went ≡ Some t → t.made ≡ true → way ≡ Outgoing
+
+pub plain_leg : (timers : Timers) (leg : Leg) (carried : Option Protocol) (host : ℕ) (end : End) (went : Option BindingUse) →
+    MadeOut leg.way went → (log : LogModel) →
+    unnumbered (after_leg leg.now (passage_by timers leg.way carried host end went) log)
+    ≡ logged_by timers leg went (unnumbered log)
+plain_leg timers leg carried host end None out log = plain_none leg.now carried host end log
+plain_leg timers leg carried host end (Some went) out log =
+    plain_through timers leg.now leg.way went.made (out went refl) went.binding log
+
+module _ (rules : Rules) (t : AreTimers rules.timers) where
+  pub made_out : (address : ℕ) (leg : Leg) (list : List Binding) → MadeOut leg.way (act rules address leg list).through
+  made_out address leg list =
+      of_moves rules t address leg list (λ went left. MadeOut leg.way went)
+      (λ w is made. cc)
+      (λ p f b at same keeps w is made.
+      let found : BindingUse = record { binding = f b; made = false } in
+      let isnt : w.made ≡ false = ap (λ (x : BindingUse). x.made) (sym (same_Some found w is)) in
+      absurd (true≢false (sym made ∙ isnt)))
+      (λ new out is others w same made. out)
+
+  pub plain_act : (clock : ℕ) (list : List Binding) (a : LegAct) → IsTurn rules clock list a → (log : LogModel) →
+      unnumbered (after_record rules.timers log a) ≡ logged rules.timers (unnumbered log) a
+  plain_act clock list a turn log =
+      plain_leg rules.timers a.leg (packet_carried (kind a.leg.packet)) (source a.leg.packet).address a.end a.through
+      (subst (MadeOut a.leg.way) (sym turn.through) (made_out a.address a.leg list)) log
+
+  pub plain_acts : (clock : ℕ) (list : List Binding) (acts : List LegAct) (last : ℕ) (new : List Binding) →
+      InTurn rules clock list acts last new → (log : LogModel) →
+      unnumbered (fold (after_record rules.timers) log acts) ≡ fold (logged rules.timers) (unnumbered log) acts
+  plain_acts clock list [] last new turn log = refl
+  plain_acts clock list (a ∷ acts) last new turn log =
+      plain_acts a.leg.now (act rules a.address a.leg list).list acts last new turn.1 (after_record rules.timers log a)
+      ∙ ap (λ (es : List Entry). fold (logged rules.timers) es acts) (plain_act clock list a turn.0 log)
+
+-- WHERE A RUN BEGINS ANEW, it has the redirects
+
+pub unnumbered_from : (n : ℕ) (es : List Entry) → map (λ (l : LogEntry). l.entry) (numbered_from n es) ≡ es
+unnumbered_from n [] = refl
+unnumbered_from n (e ∷ es) = ap (λ (xs : List Entry). e ∷ xs) (unnumbered_from (n + 1) es)
+
+module _ (timers : Timers) (pair : ℕ → ℕ) where
+  redirects_stay : (rs : List Redirect) → purge timers 0 (map (redirect_binding pair) rs) ≡ map (redirect_binding pair) rs
+  redirects_stay [] = refl
+  redirects_stay (r ∷ rs) =
+      ap (λ (b : Binding). b ∷ purge timers 0 (map (redirect_binding pair) rs)) (redirect_stays timers 0 pair r)
+      ∙ ap (λ (bs : List Binding). redirect_binding pair r ∷ bs) (redirects_stay rs)
+
+pub plain_begun : (rules : Rules) → unnumbered (begun_behind 0 rules (initial_state rules))
+    ≡ map (first_entry rules.timers 0) (opening rules)
+plain_begun rules =
+    unnumbered_from (0 + 1) (map (first_entry rules.timers 0) (purge rules.timers 0 (opening rules)))
+    ∙ ap (map (first_entry rules.timers 0)) (redirects_stay rules.timers (pair_of rules) rules.redirects)
+
+-- a run's log
+pub plain_log : (rules : Rules) → AreTimers rules.timers → (inputs : List Arrival) → unnumbered (log_of rules inputs)
+    ≡ fold (logged rules.timers) (map (first_entry rules.timers 0) (opening rules)) (run rules inputs (opening rules)).acts
+unfolding log_on
+plain_log rules t inputs =
+    plain_acts rules t 0 (opening rules) (run rules inputs (opening rules)).acts _
+    (run rules inputs (opening rules)).list (run_turn rules 0 0 inputs (opening rules))
+    (begun_behind 0 rules (initial_state rules))
+    ∙ ap (λ (es : List Entry). fold (logged rules.timers) es (run rules inputs (opening rules)).acts)
+    (plain_begun rules)

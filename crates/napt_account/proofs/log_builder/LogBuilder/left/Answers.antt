@@ -1,0 +1,9 @@
+use Rattle.std.{proofs.Common.{◌≡◌, ◌∙◌, ap, subst}, specs.Prelude.IfOk}
+use Rattle.napt_account.specs.{LogBuilders.{LogBuilderModel}, LogParts.kept_at}
+use Rattle.napt_account.proofs.log_builder.LogBuilder.left.Goals as goal
+
+pub returns : goal.returns
+returns c = λ going.
+    let is = c.self.invariant (ap (λ (v : LogBuilderModel). v.is_stopped) c.self.view_is ∙ going) in
+    subst (λ (v : LogBuilderModel). IfOk c.left.result (λ left. left ≡ kept_at v.clock v.log)) c.self.view_is
+    (c.left.ensures _ _ _ is.entries)

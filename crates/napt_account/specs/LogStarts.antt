@@ -1,0 +1,211 @@
+-- How a log begins at a state, where each binding may have the account of its entry.
+--
+-- The entries of the state's bindings go on, each with the end that its binding has under the configuration. An entry ends
+-- where the configuration does not take up its binding: at the end under its timers, and a redirect that it does not have
+-- at the clock. A binding that is live and has no entry gets one that is made at the clock, with the next number.
+use Rattle.std.specs.{Prelude.{◌≡◌, ◌≢◌, ℕ, ◌+◌, ◌^◌, ◌==◌, nat_le, nat_lt, Bool, true, false, not, ◌&&◌, ◌||◌, cond, length, List, [], ◌∷◌, ◌++◌, map, filter, Option, Some, None, unwrap_or}, List.{list_any, slice_get}, Option.option_map}
+use Rattle.napt_config.specs.Rules.{Rules, RulesInvariant}
+use Rattle.napt_rules.specs.{Prelude.{Arrival, Binding, Each, IsStateInOrder, State, TakesState, initial_state, next_state, opening, purge, row, with_redirects}, declared.Row.Row}
+use Rattle.napt_binding.specs.Ends.{end_of}
+use Rattle.napt_table.specs.{declared.TimedRow.TimedRow, TimedRows.timed_row}
+use Rattle.napt_account.specs.declared.{account.Account.Account, log.{Entry.Entry, LogEntry.LogEntry}}
+use Rattle.napt_account.specs.{Attribution.has_ends, BindingTallies.open_of, Log.{LogModel, begun_behind, numbered_from, shares, unused_entry}, LogParts.{LogDelta, Rises, in_order_of_end, is_open}, OpenEntries.{entry_key, external_eq}, ResumedLogRuns.{IsLogOf, left_of}}
+
+-- What a state keeps of a log.
+pub record SavedLogStateModel : Type 0 where
+  -- how many entries the log has so far
+  pub made : ℕ
+  -- for each binding of the state, in its order, the account of its entry, if it has one that has not ended
+  pub accounts : List (Option Account)
+
+-- What a state of a run without a log keeps.
+abbrev pub no_saved_log : SavedLogStateModel
+no_saved_log = record { made = 0; accounts = [] }
+
+-- The state before any run.
+abbrev pub empty_state : State
+empty_state = record { clock = 0; list = [] }
+
+-- THE ENTRIES OF A STATE
+
+abbrev pub with_account : Binding → Option Account → List (Binding × Account) → List (Binding × Account)
+with_account binding None others = others
+with_account binding (Some account) others = (binding, account) ∷ others
+
+-- The bindings that have an account, each with it; accounts past the last binding say nothing.
+abbrev pub accounted : List Binding → List (Option Account) → List (Binding × Account)
+accounted [] accounts = []
+accounted (binding ∷ list) [] = []
+accounted (binding ∷ list) (account ∷ accounts) = with_account binding account (accounted list accounts)
+
+-- The account of the binding at a place.
+abbrev pub account_in : List (Option Account) → ℕ → Option Account
+account_in accounts place = unwrap_or (slice_get accounts place) None
+
+-- The entry of a binding with an account, with this end.
+abbrev pub entry_by_account : Row → Option ℕ → Account → LogEntry
+entry_by_account binding end account = record {
+  number = account.number;
+  entry = record {
+    binding = binding;
+    made = account.made;
+    end = end;
+    sent = account.sent;
+    received = account.received;
+    last = account.last;
+    last_sent = account.last_sent;
+  };
+}
+
+abbrev pub account_of_entry : LogEntry → Account
+account_of_entry numbered = record {
+  number = numbered.number;
+  made = numbered.entry.made;
+  sent = numbered.entry.sent;
+  received = numbered.entry.received;
+  last = numbered.entry.last;
+  last_sent = numbered.entry.last_sent;
+}
+
+-- Returns whether a configuration has a redirect with the protocol and both endpoints of a row.
+abbrev pub has_redirect : Rules → Row → Bool
+has_redirect rules wanted =
+    list_any (λ b. has_ends wanted.protocol wanted.inside wanted.external (row b)) (opening rules)
+
+-- The end of a binding's entry under a configuration. A redirect that the configuration does not have ends at the clock.
+abbrev pub resumed_end : Rules → ℕ → Binding → Option ℕ
+resumed_end rules clock binding =
+    cond binding.row.fixed (cond (has_redirect rules binding.row) None (Some clock)) (end_of rules.timers binding)
+
+abbrev pub resumed_entry : Rules → ℕ → Binding × Account → LogEntry
+resumed_entry rules clock kept = entry_by_account kept.0.row (resumed_end rules clock kept.0) kept.1
+
+-- The entries of the state's bindings under a configuration, in the order of the bindings.
+abbrev pub resumed_entries : Rules → State → SavedLogStateModel → List LogEntry
+resumed_entries rules state saved = map (resumed_entry rules state.clock) (accounted state.list saved.accounts)
+
+-- THE LOG WITH WHICH A RUN BEGINS
+
+-- An entry is put before the first of a greater number.
+abbrev pub placed_by_number : LogEntry → List LogEntry → List LogEntry
+placed_by_number numbered [] = numbered ∷ []
+placed_by_number numbered (other ∷ others) =
+    cond (nat_lt numbered.number other.number) (numbered ∷ other ∷ others) (other ∷ placed_by_number numbered others)
+
+abbrev pub in_order_of_number : List LogEntry → List LogEntry
+in_order_of_number [] = []
+in_order_of_number (numbered ∷ more) = placed_by_number numbered (in_order_of_number more)
+
+-- No two have one number.
+abbrev pub NumbersDiffer : List LogEntry → Type 0
+NumbersDiffer [] = Unit {0}
+NumbersDiffer (numbered ∷ more) = Each (λ other. numbered.number ≢ other.number) more × NumbersDiffer more
+
+-- The entries that go on, in the order of making.
+abbrev pub continued_entries : Rules → State → SavedLogStateModel → List LogEntry
+continued_entries rules state saved =
+    in_order_of_number (filter (is_open state.clock) (resumed_entries rules state saved))
+
+-- The live bindings without an entry, as a run begins with them.
+abbrev pub has_entry : List LogEntry → TimedRow → Bool
+has_entry entries timed = list_any (λ numbered. shares timed.row numbered.entry.binding) entries
+
+abbrev pub unlisted_rows : Rules → State → List LogEntry → List TimedRow
+unlisted_rows rules state entries = filter (λ timed. not (has_entry entries timed))
+    (map (timed_row rules.timers) (purge rules.timers state.clock (with_redirects rules state).list))
+
+-- Their entries, which begin at the clock.
+abbrev pub new_entries : Rules → State → SavedLogStateModel → List LogEntry
+new_entries rules state saved = numbered_from (saved.made + 1)
+    (map (λ timed. unused_entry timed.row state.clock timed.end)
+    (unlisted_rows rules state (continued_entries rules state saved)))
+
+-- THE LOG OF A STATE as a configuration takes it up: with it the run from `with_redirects rules state` begins.
+abbrev pub log_started : Rules → State → SavedLogStateModel → LogModel
+log_started rules state saved = record {
+  made = saved.made + length (new_entries rules state saved);
+  entries = continued_entries rules state saved ++ new_entries rules state saved;
+  shortages = [];
+}
+
+-- The log as it was saved: an entry for each account, in the order of making.
+abbrev pub log_before : Rules → State → SavedLogStateModel → LogModel
+log_before rules state saved = record {
+  made = saved.made;
+  entries = in_order_of_number (resumed_entries rules state saved);
+  shortages = [];
+}
+
+-- An entry that ends at a time.
+abbrev pub entry_ended_at : ℕ → LogEntry → LogEntry
+entry_ended_at now numbered = record numbered { entry = record numbered.entry { end = Some now } }
+
+-- What is told before the first input: the entries that have ended by the clock, and the new ones. The former end at the
+-- clock, up to which the run before had their bindings.
+abbrev pub started_part : Rules → State → SavedLogStateModel → LogDelta
+started_part rules state saved = record {
+  ended = map (entry_ended_at state.clock) (in_order_of_number
+      (filter (λ numbered. not (is_open state.clock numbered)) (resumed_entries rules state saved)));
+  made = new_entries rules state saved;
+  refused = [];
+}
+
+-- WHAT A STATE MAY KEEP of a log: at most 2 ^ 61 entries and packets; the number of each account is among those of the
+-- log, and was given by the clock; no two accounts have one number, and no two of their bindings one external endpoint.
+
+abbrev pub most_saved : ℕ
+most_saved = 2 ^ 61
+
+abbrev pub is_account : ℕ → ℕ → Account → Bool
+is_account made clock account =
+    (nat_lt 0 account.number && nat_le account.number made)
+    && (nat_le account.made clock && (nat_le account.sent most_saved && nat_le account.received most_saved))
+
+abbrev pub are_apart : Binding × Account → Binding × Account → Bool
+are_apart kept other =
+    not ((kept.1.number == other.1.number) || external_eq (entry_key kept.0.row) (entry_key other.0.row))
+
+-- Returns whether these may follow those before them.
+abbrev pub are_accounts : ℕ → ℕ → List (Binding × Account) → List (Binding × Account) → Bool
+are_accounts made clock before [] = true
+are_accounts made clock before (kept ∷ more) = is_account made clock kept.1
+    && (not (list_any (λ other. not (are_apart kept other)) before)
+    && are_accounts made clock (before ++ kept ∷ []) more)
+
+abbrev pub is_saved_log_state : State → SavedLogStateModel → Bool
+is_saved_log_state state saved =
+    nat_le saved.made most_saved && are_accounts saved.made state.clock [] (accounted state.list saved.accounts)
+
+-- WHAT IS SAVED of a log at a time beside the bindings of a state
+
+abbrev pub account_at : ℕ → LogModel → Row → Option Account
+account_at now log row = option_map account_of_entry (open_of now row log)
+
+abbrev pub saved_log_state : ℕ → LogModel → State → SavedLogStateModel
+saved_log_state now log state =
+    record { made = log.made; accounts = map (λ b. account_at now log b.row) state.list }
+
+-- LAWS
+
+-- A log begins with an entry for each live binding, with its row and its end.
+abbrev pub StartedLogsAreOfTheirStates : Type 0
+StartedLogsAreOfTheirStates = (rules : Rules) → RulesInvariant rules → (state : State) → TakesState rules state →
+    (saved : SavedLogStateModel) → is_saved_log_state state saved ≡ true →
+    IsLogOf rules (with_redirects rules state) (log_started rules state saved)
+    × Rises 1 (log_started rules state saved).entries
+
+-- A run that begins anew has the log of its redirects.
+abbrev pub StartedLogsBeginAnew : Type 0
+StartedLogsBeginAnew = (rules : Rules) →
+    log_started rules empty_state no_saved_log ≡ begun_behind 0 rules (initial_state rules)
+
+-- What a run leaves of its log is what the next run begins with under the same configuration, and nothing is told there.
+abbrev pub SavedLogsAreTakenUp : Type 0
+SavedLogsAreTakenUp = (rules : Rules) → RulesInvariant rules → (state : State) → TakesState rules state →
+    (log : LogModel) → IsLogOf rules (with_redirects rules state) log → Rises 1 log.entries →
+    (inputs : List Arrival) (saved : State) →
+    IsStateInOrder rules (next_state rules (with_redirects rules state) inputs) saved →
+    (let left : LogModel = left_of rules (with_redirects rules state) log inputs in
+    (log_started rules saved (saved_log_state saved.clock left saved) ≡ left)
+    × (started_part rules saved (saved_log_state saved.clock left saved)
+    ≡ record { ended = []; made = []; refused = [] }))

@@ -1,0 +1,84 @@
+//! What an input did to the bindings that it used.
+
+ghost use Rattle.std.specs.Prelude.{◌≡◌};
+ghost use Rattle.napt_account.specs.BindingTallies as uses;
+
+use crate::log::Entry;
+use napt_wire::Way;
+
+/// What a packet did to the binding that it used first.
+#[derive(Clone, Copy, Debug, PartialEq, Eq)]
+pub enum LogNote {
+    /// It used none: it was dropped before, is an error, or found none.
+    Nothing,
+    /// It made one.
+    Made,
+    /// It found one.
+    Found,
+    /// It found a redirect.
+    Redirect,
+}
+
+/// What a packet did to the bindings, and which entries of the log are theirs.
+#[derive(Clone, Copy, Debug, PartialEq, Eq)]
+pub struct BindingTally {
+    /// What it did to the binding that it used first.
+    pub note: LogNote,
+    /// The number of the entry of the binding that it went out through.
+    pub out: Option<u64>,
+    /// That of the binding that it came in through; a hairpin has both.
+    pub into: Option<u64>,
+}
+
+/// No binding was used.
+pub(crate) const NO_USE: BindingTally = BindingTally {
+    note: LogNote::Nothing,
+    out: None,
+    into: None,
+};
+
+/// What a packet did to a binding that was there before it.
+pub(crate) fn found(entry: &Entry) -> LogNote
+    ensures { result ≡ uses.noted entry.now }
+{
+    if entry.binding.fixed {
+        LogNote::Redirect
+    } else {
+        LogNote::Found
+    }
+}
+
+impl BindingTally {
+    /// What a packet did that went one way through the binding of an entry.
+    #[inline(always)]
+    pub(crate) fn through(way: Way, note: LogNote, number: u64) -> BindingTally
+        ensures { result ≡ uses.tally_used way note number }
+    {
+        match way {
+            Way::Outgoing => BindingTally {
+                note,
+                out: Some(number),
+                into: None,
+            },
+            Way::Incoming => BindingTally {
+                note,
+                out: None,
+                into: Some(number),
+            },
+        }
+    }
+}
+
+/// What both legs of an input did.
+pub(crate) fn both_uses(first: BindingTally, second: BindingTally) -> BindingTally
+    ensures { result ≡ uses.both_uses first second }
+{
+    BindingTally {
+        note: match first.note {
+            LogNote::Nothing => second.note,
+            note => note,
+        },
+        out: first.out.or(second.out),
+        into: first.into.or(second.into),
+    }
+}

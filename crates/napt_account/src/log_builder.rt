@@ -1,0 +1,190 @@
+//! The log of a run as it is built, by what the legs of its inputs did.
+
+ghost use Rattle.std.specs.Prelude.{◌≡◌, ◌==◌, ◌+◌, ◌^◌, ◌<◌, OnOk, IfErr, IfOk, Some, None, cond, false};
+ghost use Rattle.napt_account.specs.{BindingTallies.use_of, Log.after_input, LogParts.{kept_at, living_at, part_between}};
+ghost use Rattle.napt_account.specs.LogBuilders.{IsBuilderFault, IsStart, part_in};
+
+use crate::binding_tally::BindingTally;
+use crate::log::{LogEntry, Shortage};
+use crate::open_entries::OpenEntries;
+use crate::open_log::OpenLog;
+use http_server::Log;
+use napt_config::Config;
+use napt_pool::PoolFault;
+use napt_sequential::{RunFault, Trace};
+use std::alloc::{AllocError, Global};
+use std::marker::Model;
+
+/// The greatest number of inputs that a log takes. Its counts fit 64 bits, and no run comes to it.
+const MOST_INPUTS: u64 = 4_611_686_018_427_387_903;
+
+/// A log under a configuration, built of what the legs of a run's inputs did, one input after another. Contracts see the
+/// whole log; it keeps the entries whose bindings have not ended, so its memory is that of the bindings that live.
+#[derive(Drop)]
+pub struct LogBuilder<'a> {
+    config: &'a Config,
+    /// How many inputs it took.
+    taken: u64,
+    /// The time of the last, in ns; before the first, that at which it began.
+    clock: u64,
+    entries: OpenEntries,
+    /// The log with which it began. It takes no memory: only proofs read it.
+    begun: Log<u64, OpenLog>,
+    /// What the inputs did. It takes no memory: only proofs read it.
+    past: Log<u64, Trace>,
+    /// Whether an input was refused. From then on it does not go on.
+    is_stopped: bool,
+}
+
+/// What the log has to say with an input.
+#[derive(Drop)]
+pub struct InputPart {
+    /// What it did to the bindings.
+    pub used: BindingTally,
+    /// The bindings that ended since the time of the input before, each with its final entry, by end, equal ends by
+    /// number.
+    pub ended: Vec<LogEntry>,
+    /// The binding that the packet made, if any (at most one), with its entry as the packet left it.
+    pub made: Vec<LogEntry>,
+    /// The packet, if no binding could be made for it.
+    pub refused: Vec<Shortage>,
+}
+
+impl<'a> Model for LogBuilder<'a> {
+    ghost use Rattle.std.specs.Prelude.{◌≡◌, false};
+    ghost use Rattle.napt_account.specs.LogBuilders.{IsBuilt, LogBuilderModel, built};
+
+    ghost Value = { LogBuilderModel };
+
+    ghost view = { λ it. record {
+      rules = it.config.now;
+      clock = it.clock;
+      log = built it.begun.items it.past.items;
+      taken = it.taken;
+      is_stopped = it.is_stopped;
+    } };
+
+    ghost invariant = { λ it. it.is_stopped ≡ false → IsBuilt (record {
+      rules = it.config.now;
+      clock = it.clock;
+      log = built it.begun.items it.past.items;
+      taken = it.taken;
+      is_stopped = it.is_stopped;
+    }) it.entries };
+}
+
+impl<'a> LogBuilder<'a> {
+    /// Returns the log at a time, in ns, before the first input. Fails only if memory is refused.
+    pub(crate) fn begin(
+        alloc: Global,
+        config: &'a Config,
+        clock: u64,
+        log: &OpenLog,
+    ) -> Result<LogBuilder<'a>, AllocError>
+        requires { IsStart clock log.now }
+        ensures { IfOk result (λ builder. builder ≡ record {
+          rules = config.now;
+          clock = clock;
+          log = log.now;
+          taken = 0;
+          is_stopped = false;
+        }) }
+    {
+        let entries = OpenEntries::from_entries(alloc, log)?;
+        Ok(LogBuilder {
+            config,
+            taken: 0,
+            clock,
+            entries,
+            begun: Log::new().and(&0, log),
+            past: Log::new(),
+            is_stopped: false,
+        })
+    }
+
+    /// Its configuration.
+    pub fn config(&self) -> &'a Config
+        ensures { result.now ≡ self.now.rules }
+    {
+        self.config
+    }
+
+    /// The time of the last input, in ns; `None` before the first.
+    #[inline(always)]
+    pub fn last(&self) -> Option<u64>
+        ensures { result ≡ cond (self.now.taken == 0) None (Some self.now.clock) }
+    {
+        if self.taken == 0 {
+            None
+        } else {
+            Some(self.clock)
+        }
+    }
+
+    /// The entries that have not ended by the time of the last input, by end, equal ends by number; redirects, which never
+    /// end, last. Fails only if memory is refused.
+    pub fn living(&self, alloc: Global) -> Result<Vec<LogEntry>, AllocError>
+        ensures { self.now.is_stopped ≡ false → IfOk result (λ all.
+            all.items ≡ living_at self.now.clock self.now.log) }
+    {
+        let living = self.entries.list(alloc)?;
+        Ok(living)
+    }
+
+    /// What is kept of it beside the state that the run leaves. Fails only if memory is refused.
+    pub fn left(&self, alloc: Global) -> Result<OpenLog, AllocError>
+        ensures { self.now.is_stopped ≡ false → IfOk result (λ left. left
+            ≡ kept_at self.now.clock self.now.log) }
+    {
+        self.entries.left(alloc)
+    }
+
+    /// Takes what the legs of the next input did; returns what the log has to say with it. After a fault it does not go on,
+    /// and each later input fails with `RunFault::Memory`.
+    ///
+    /// Fails with `RunFault::TooMany` exactly if it took 4,611,686,018,427,387,903 inputs before, with `RunFault::Pool` if no
+    /// run has this input next, else with `RunFault::Memory` only if memory is refused.
+    #[inline(always)]
+    pub fn enter(&mut self, alloc: Global, effects: Trace) -> Result<InputPart, RunFault>
+        ensures tells { self.old.is_stopped ≡ false → IfOk result (λ part. part_in part
+            ≡ part_between self.old.clock effects.now self.old.log
+            (after_input self.old.log effects)) }
+        ensures uses { self.old.is_stopped ≡ false → IfOk result (λ part. part.used
+            ≡ use_of self.old.log effects) }
+        ensures goes { self.old.is_stopped ≡ false → OnOk result (self.new
+            ≡ record self.old {
+              clock = effects.now;
+              log = after_input self.old.log effects;
+              taken = self.old.taken + 1;
+            }) }
+        ensures few { self.old.is_stopped ≡ false →
+            OnOk result (self.old.taken + 1 < 2 ^ 62) }
+        ensures err { self.old.is_stopped ≡ false → IfErr result (IsBuilderFault self.old effects) }
+    {
+        if self.is_stopped {
+            return Err(RunFault::Memory);
+        }
+        // unless it comes to the end of this call
+        self.is_stopped = true;
+        if self.taken >= MOST_INPUTS {
+            return Err(RunFault::TooMany);
+        }
+        if effects.now < self.clock {
+            return Err(RunFault::Pool(PoolFault::Ring));
+        }
+        let ended = self.entries.take_ended(alloc, effects.now)?;
+        let Some(legs) = self.entries.enter(alloc, effects)? else {
+            return Err(RunFault::Pool(PoolFault::Ring));
+        };
+        self.taken += 1;
+        self.clock = effects.now;
+        self.past = self.past.and(&0, &effects);
+        self.is_stopped = false;
+        Ok(InputPart {
+            used: legs.used,
+            ended,
+            made: legs.made,
+            refused: legs.refused,
+        })
+    }
+}

@@ -1,0 +1,74 @@
+//! What is kept of a log.
+
+ghost use Rattle.std.specs.Prelude.{◌≡◌, ℕ, [], IfOk};
+ghost use Rattle.std.specs.HashMap as hash;
+ghost use Rattle.napt_account.specs.{LogParts.kept_at, LogStarts.saved_log_state, OpenEntries.{entry_key, external_eq}};
+
+use crate::account::{Account, SavedLogState};
+use crate::log::LogEntry;
+use crate::open_entries::{EntryKey, external_key};
+use napt_rules::State;
+use napt_table::Row;
+use std::alloc::{AllocError, Global};
+use std::collections::HashMap;
+use std::marker::Model;
+
+/// What is kept of a log where a run leaves its state: a log of its own, with which a run goes on.
+#[derive(Drop)]
+pub struct OpenLog {
+    /// How many entries the log had so far.
+    pub made: u64,
+    /// Those that have not ended by the clock of the state, with their numbers, in the order of making.
+    pub entries: Vec<LogEntry>,
+}
+
+impl Model for OpenLog {
+    ghost use Rattle.std.specs.Prelude.{[]};
+    ghost use Rattle.napt_account.specs.Log.{LogModel};
+
+    ghost Value = { LogModel };
+
+    ghost view = { λ it. record { made = it.made; entries = it.entries.items; shortages = [] } };
+}
+
+impl OpenLog {
+    /// That of a run without entries.
+    pub fn none(alloc: Global) -> OpenLog
+        ensures { result ≡ record { made = 0; entries = []; shortages = [] } }
+    {
+        OpenLog {
+            made: 0,
+            entries: Vec::new(alloc),
+        }
+    }
+
+    /// Returns what a state that a run leaves keeps of it: for each binding of the state the account of its entry. Linear in
+    /// the size of both. Fails only if memory is refused.
+    pub fn saved(&self, alloc: Global, state: &State) -> Result<SavedLogState, AllocError>
+        ensures { IfOk result (λ saved. (now : ℕ) → kept_at now self.now ≡ self.now →
+            saved ≡ saved_log_state now self.now state.now) }
+    {
+        let mut by_key: HashMap<EntryKey, Account> = HashMap::new(alloc);
+        for numbered in &self.entries {
+            let key = external_key(numbered.entry.binding);
+            if !by_key.contains_key(&key) {
+                by_key.insert(key, Account::from_entry(numbered))?;
+            }
+        }
+        let mut accounts = Vec::new(alloc);
+        for binding in &state.list {
+            accounts.push(account_under(&by_key, binding.row))?;
+        }
+        Ok(SavedLogState {
+            made: self.made,
+            accounts,
+        })
+    }
+}
+
+/// Returns the account under the external endpoint of a row.
+fn account_under(by_key: &HashMap<EntryKey, Account>, row: Row) -> Option<Account>
+    ensures { result ≡ hash.get external_eq by_key.now (entry_key row) }
+{
+    by_key.get(&external_key(row)).copied()
+}

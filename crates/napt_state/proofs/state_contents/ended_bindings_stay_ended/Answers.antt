@@ -1,0 +1,5 @@
+use Rattle.napt_state.proofs.TakenUp.{stays_ended}
+use Rattle.napt_state.proofs.state_contents.ended_bindings_stay_ended.Goals as goal
+
+pub returns : goal.returns
+returns c = stays_ended

@@ -1,7 +1,0 @@
-use Rattle.std.proofs.{lemmas.Grind.common_steps, Common.arith}
-use Rattle.napt_state.specs.StateText.{binding, flow}
-use Rattle.napt_state.proofs.Written.{written_behind}
-use Rattle.napt_state.proofs.text.push_binding.Goals as goal
-
-pub returns : goal.returns
-returns g c = grind (arith, common_steps, written_behind (binding c.args.binding.now.row c.args.binding.now.last) flow)
