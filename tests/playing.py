@@ -137,7 +137,7 @@ def shown_shortage(text):
 
 
 def step_pattern(wanted):
-    """What the log tells with an input: 'ended LISTED, ..; made LISTED; refused SHORTAGE; used made out 1 into 0', or
+    """What the log tells with an input: 'ended LISTED, ..; made LISTED; refused SHORTAGE; used made out 2 into 1', or
     'nothing'."""
     told = dict(part.split(" ", 1) for part in items_of(wanted.replace("nothing", "none"), "; "))
     used = r"BindingTally \{[^}]*\}"

@@ -1,8 +1,5 @@
 //! Reads the configurations and opens the captures as `napt` does, and prints why it refuses them.
 
-ghost use Rattle.std.specs.Prelude.{IfOk};
-ghost use Rattle.napt_state.specs.Saved.{HasAccounts};
-
 use crate::options::{ExplainOptions, OutputForm};
 use crate::places::{refuse_log, refuse_written, tell_closed, tell_file, tell_shared};
 use crate::refusals;
@@ -116,9 +113,7 @@ pub fn answer<R: Files + Input + Print + Eprint + AllocGlobal>(
 fn saved_at<R: Files + Eprint + AllocGlobal>(
     rt: &R,
     options: &ExplainOptions<'_>,
-) -> Result<StateFileContents, Exit>
-    ensures { IfOk result HasAccounts }
-{
+) -> Result<StateFileContents, Exit> {
     let alloc = rt.alloc();
     let Some(path) = &options.files.resume else {
         return Ok(StateFileContents::new(alloc, 0));
@@ -143,23 +138,22 @@ fn start_under<'a, R: Eprint + AllocGlobal>(
     options: &ExplainOptions<'_>,
     config: &'a Config,
     saved: StateFileContents,
-) -> Result<RunStart<'a>, Exit>
-    requires { HasAccounts saved }
-{
+) -> Result<RunStart<'a>, Exit> {
+    let path = options.files.resume.as_ref();
+    let path = path.map_or("", |path| path.as_str());
     match saved.take_up(rt.alloc(), config)? {
-        Ok(TakenState { state, log }) => Ok(RunStart::new(config, state, log)),
-        Err((row, misfit)) => {
-            let path = options.files.resume.as_ref();
-            let path = path.map_or("", |path| path.as_str());
-            Err(refusals::tell_binding(rt, path, row, misfit))
+        Ok(TakenState { state, log }) => {
+            if !log.is_valid(rt.alloc(), &state)? {
+                return Err(refusals::tell_accounts(rt, path));
+            }
+            Ok(RunStart::new(config, state, log))
         }
+        Err((row, misfit)) => Err(refusals::tell_binding(rt, path, row, misfit)),
     }
 }
 
-/// The same without accounts, once more.
-fn copied(alloc: Global, saved: &StateFileContents) -> Result<StateFileContents, AllocError>
-    ensures { IfOk result HasAccounts }
-{
+/// Returns a copy of the contents without accounts.
+fn copied(alloc: Global, saved: &StateFileContents) -> Result<StateFileContents, AllocError> {
     let mut copy = StateFileContents::new(alloc, saved.clock);
     for binding in &saved.bindings {
         copy.bindings.push(match binding {

@@ -5,7 +5,7 @@ use napt_commands::Exit;
 use napt_config::{ConfigFault, ConfigPlace};
 use napt_display::reasons::{Reason, SplitAdvice, capture_reasons};
 use napt_program::{
-    CaptureFaultName, StateRefusal, StateRefusalName, Stop, misfit_reason, stop_of_state,
+    CaptureFaultName, FileRole, StateRefusal, StateRefusalName, Stop, misfit_reason, stop_of_state,
 };
 use napt_records::{EndpointText, protocol_name};
 use napt_rules::{Misfit, Row};
@@ -43,6 +43,12 @@ pub fn tell_capture<R: Eprint + AllocGlobal>(
 pub fn tell_state<R: Eprint>(rt: &R, path: &str, fault: &StateFault) -> Exit {
     let _ = eprintln!(rt; "the state {path} is refused: {fault}");
     Exit::Told(stop_of_state(fault))
+}
+
+/// Prints that the accounts of the state at a path are those of no log, and returns how `napt` would stop.
+pub fn tell_accounts<R: Eprint>(rt: &R, path: &str) -> Exit {
+    let _ = eprintln!(rt; "the state {path} is refused: numbers that no log has");
+    Exit::Told(Stop::File(FileRole::Resume))
 }
 
 /// Prints which binding of the state at a path the configuration does not take, and why, and returns how `napt` would stop.

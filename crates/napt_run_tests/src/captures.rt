@@ -146,6 +146,9 @@ pub(crate) fn captured(
         }};
     }
     let kept = SavedLogState::none(alloc);
+    if !kept.is_valid(alloc, &state)? {
+        return Err(Fail::new("no log has these accounts"));
+    }
     let log_start = LogStart {
         saved: &kept,
         is_new: true,
