@@ -103,7 +103,7 @@ endpoints_more ks k key is old new has updates x =
     ∙ (ap (λ v. external_eq (entry_key k.0.row) x || v) (has x)
     ∙ sym (any_pushed (λ j. external_eq (entry_key j.0.row) x) ks k))))
 
--- one is apart from all before it where neither set has what it has
+-- an account is apart from all before it if neither set has its number or endpoint
 pub any_apart : (k : Kept) (ks : List Kept) → list_any (λ o. not (are_apart k o)) ks
     ≡ (list_any (λ j. j.1.number == k.1.number) ks || list_any (λ j. external_eq (entry_key j.0.row) (entry_key k.0.row)) ks)
 any_apart k [] = refl
@@ -129,7 +129,7 @@ any_apart k (o ∷ ks) =
     four false false false false e f r s t g = g
 
 module _ (made clock : ℕ) (list : List Binding) (accounts : List (Option Account)) where
-  -- the first were looked at, and the others are to be
+  -- the first accounts were checked, and the others are still to be
   abbrev pub IsChecked : ℕ → Type 0
   IsChecked k = are_accounts made clock [] (accounted list accounts)
       ≡ are_accounts made clock (accounted (take k list) accounts) (accounted (drop k list) (drop k accounts))

@@ -1,4 +1,4 @@
--- From a state and its log, each input's effects can come.
+-- From a state and its log, the effects of each input are possible.
 use Rattle.std.proofs.Common.{◌≡◌, ℕ, ◌+◌, ◌≤◌, max, List, [], ◌∷◌, ◌++◌, length, map, filter, Option, refl, sym, ◌∙◌, ap, subst, arith, append-nil}
 use Rattle.std.{specs.List.{fold, Sorted.IsPermutation}, proofs.lemmas.List.{append_cancel_left, Sorted.{IsPermutation-map, IsPermutation-sym, IsPermutation-trans}}}
 use Rattle.napt_config.specs.declared.settings.Timers.{Timers}
@@ -10,7 +10,7 @@ use Rattle.napt_sequential.{specs.{Traces.{trace_of, traces_of}, declared.passag
 use Rattle.napt_account.specs.{declared.log.{Entry.Entry, LogEntry.LogEntry}, Effects.{CanCome, EffectsCome, IsNext}, ResumedLogRuns.{IsLogOf, LogsAreOfTheirStates, left_of, timed_by}, Log.{LogModel, after_record, log_on, unnumbered}, LogParts.{IsNumbered, is_open, kept_at}}
 use Rattle.napt_account.proofs.{Effects.{acts_come, step_turn}, Entries.{Tells, apart_differ, hold, hold_of, living, purge_holds, tells_later, told_turn}, GoingOn.{each_kept, filter_again, numbered_all}, Lists.{each_mapped, each_shown, filter_seen, map_twice}, Plain.{logged, plain_acts}, Reordered.reordered}
 
--- a row and an end, of what a table tells of a binding
+-- the row and the end in what a table returns of a binding
 abbrev hold_by : TimedRow → Row × Option ℕ
 hold_by told = (told.row, told.end)
 
@@ -77,7 +77,7 @@ module _ (alike_go_on : AlikeStatesGoOn) (rules : Rules) (keeps : RulesInvariant
   goes inputs = alike_go_on rules keeps state other sound other_sound refl
       (alike_moved timers state.clock state.list list order.1) inputs
 
-  -- ITS ACTS ARE THE SAME
+  -- THE ACTS FROM IT ARE THE SAME
 
   abbrev next_of : State → List Arrival → Arrival → RunEffect
   next_of from front input = step rules (length front) (max (last_clock from.clock front) input.clock) input
@@ -146,7 +146,7 @@ module _ (alike_go_on : AlikeStatesGoOn) (rules : Rules) (keeps : RulesInvariant
           subst (IsNext was (log_on rules state log before)) same
           (record { later = omega arith; first = pair.0; second = pair.1 })
 
-    -- WHAT IS LEFT IS OF THE STATE THAT IS LEFT
+    -- THE LOG THAT IS LEFT IS OF THE STATE THAT IS LEFT
 
     abbrev grown : LogModel
     grown = log_on rules state log before
@@ -184,7 +184,7 @@ module _ (alike_go_on : AlikeStatesGoOn) (rules : Rules) (keeps : RulesInvariant
     numbered_left = each_kept (λ n. n.number ≤ grown.made) (is_open was) grown.entries
         (numbered_all timers (effect_from rules state before).acts log is.numbered)
 
-    -- and of each in which packets see the same
+    -- and of each state that is alike
     left_is_of : (then : State) → then.clock ≡ was → AreAlike timers was (next_state rules state before).list
         (live_and_held timers then.clock then.list) → IsLogOf rules then left
     left_is_of then clock alike = record {

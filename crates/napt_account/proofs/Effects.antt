@@ -1,4 +1,4 @@
--- The log of a run by the effects of its inputs, and which effects can come.
+-- The log of a run by the effects of its inputs, and which effects are possible.
 use Rattle.std.proofs.lemmas.{Grind.common_steps, Bool.Decides.nat_tests}
 use Rattle.std.proofs.Common.{◌≡◌, ℕ, ◌+◌, ◌≤◌, max, Bool, true, false, ◌&&◌, ◌||◌, cond, List, [], ◌∷◌, ◌++◌, length, map, filter, find, Option, Some, None, refl, sym, ◌∙◌, ap, subst, arith, append-nil}
 use Rattle.std.specs.List.{fold, list_any}
@@ -27,7 +27,7 @@ module _ (rules : Rules) where
       InTurn rules now list course.acts now course.list)
   step_turn number now input le list = grind (arith, common_steps, nat_tests, append-nil, run_turn)
 
-  -- an input has two legs at most, at its time
+  -- an input has at most two legs, both at its time
   acts_are : (now : ℕ) (list : List Binding) (acts : List LegAct) (new : List Binding) → length acts ≤ 2 →
       InTurn rules now list acts now new → (log : LogModel) →
       after_input log (effects_by now acts) ≡ fold (after_record rules.timers) log acts
@@ -60,7 +60,7 @@ pub effects_are_the_log : EffectsAreTheLog
 unfolding log_on
 effects_are_the_log rules state log inputs = effects_are rules 0 state.clock inputs state.list log
 
--- WHAT CAN COME: a binding that is made has an external endpoint of its own
+-- WHICH EFFECTS ARE POSSIBLE: a binding that is made has an external endpoint of its own
 
 abbrev open_rows : ℕ → List Entry → List Row
 open_rows now entries = map binding_of (filter (is_open now) entries)

@@ -28,7 +28,7 @@ sorted_order = sorted_turn end_key end_cmp ends_first (λ x y. x.number ≢ y.nu
     (λ x y. not_behind x.entry.end y.entry.end x.number y.number x y refl refl refl refl)
     (λ x y z. first_then x.entry.end y.entry.end z.entry.end x.number y.number z.number)
 
--- OF ENTRIES THAT ARE THERE
+-- DISTINCT ENDPOINTS
 
 recursion_each : {X : Type 0} (P : X → Type 0) (xs : List X) → AllByRecursion P xs → Each P xs
 recursion_each P [] h = tt

@@ -23,7 +23,7 @@ pub drop_more : {X : Type 0} (front xs ys : List X) → drop (length (front ++ x
 drop_more [] xs ys = refl
 drop_more (x ∷ front) xs ys = drop_more front xs ys
 
--- where what does not pass stays as it is, what passes after a change is that of what passed
+-- if a change keeps what does not pass, what passes after it is the change of what passed before
 changed_among : {X : Type 0} (p : X → Bool) (g : X → X) → ((x : X) → p x ≡ false → g x ≡ x) → (xs : List X) →
     filter p (map g xs) ≡ filter p (map g (filter p xs))
 changed_among p g stays [] = refl
@@ -45,7 +45,7 @@ none_behind made (x ∷ xs) h =
 
 -- NUMBERS
 
--- a leg leaves numbers among those that were given, and gives no fewer
+-- after a leg the numbers are still among those that were given, which are no fewer
 pub numbered_leg : (now : ℕ) (p : Passage) (log : LogModel) → IsNumbered log → IsNumbered (after_leg now p log)
 numbered_leg now Nothing log h = h
 numbered_leg now (Made timed) log h =
@@ -84,8 +84,8 @@ module _ (timers : Timers) where
       let first = more_leg a.leg.now (passage_of timers a) log in
       let rest = more_all acts (after_record timers log a) in omega (arith, first, rest)
 
--- TWO LOGS THAT TELL THE SAME from a time on: they have the same living entries, and the same behind a number; the one has
--- had some shortages more
+-- TWO LOGS TO WHICH THE SAME IS ADDED from a time on: they have the same open entries, and the same entries after a
+-- number; one of them has some earlier shortages
 
 pub record AreSame (now made : ℕ) (front : List Shortage) (one other : LogModel) : Type 0 where
   pub many : one.made ≡ other.made
@@ -185,7 +185,7 @@ kept_same now log numbered = record {
   shortages = sym (append-nil log.shortages);
 }
 
--- TOLD THE SAME
+-- THE SAME IS ADDED
 
 module _ (was now made : ℕ) (front : List Shortage) (earlier later other after : LogModel)
     (first : AreSame was made front earlier other) (last : AreSame now made front later after)

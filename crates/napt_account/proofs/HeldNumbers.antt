@@ -49,7 +49,7 @@ module _ (ends : EndsAreFirst) (timers : Timers) (t : AreTimers timers) (now : �
   abbrev change : Entry → Entry
   change = counted way now (end_of timers went)
 
-  -- Both change, or neither does.
+  -- Both holders change, or neither does.
   like_through : (e : Entry) (h : Holder) → IsLike timers e h → IsOne timers now (row went) h →
       IsLike timers (entry_through now (row went) change e) (holder_after timers now went h)
   like_through e h l one =

@@ -34,7 +34,7 @@ made_is_of : (now : ℕ) (timed : TimedRow) → is_before now timed.end ≡ true
 made_is_of now timed opens = and_from (is_before now timed.end) (shares timed.row timed.row) opens
     (shares_itself timed.row)
 
--- ENTRIES STAY OF THEIR ROWS
+-- ENTRIES KEEP THEIR ROWS
 
 module _ (way : Way) (now : ℕ) (timed : TimedRow) (opens : is_before now timed.end ≡ true) (r : Row) where
   stays_of : (n : LogEntry) → entry_is_of now r (use_entry way now timed n).entry ≡ entry_is_of now r n.entry
@@ -69,7 +69,7 @@ module _ (now made : ℕ) where
       new (map (use_entry way now timed) ns) ≡ map (use_entry way now timed) (new ns)
   used_new way timed ns = filter_seen (is_behind made) (use_entry way now timed) ns
 
-  -- what a leg makes is open after it
+  -- an entry that a leg makes is open after the leg
   made_open : (timed : TimedRow) (x : LogModel) → CanCome now x (Made timed) →
       open_of now timed.row (after_leg now (Made timed) x)
       ≡ Some (record { number = x.made + 1; entry = made_by now timed })
@@ -89,7 +89,7 @@ module _ (now made : ℕ) where
   first_is (In timed) x none le comes = used_new Incoming timed x.entries ∙ ap (map (use_entry Incoming now timed)) none
   first_is (Dropped loss) x none le comes = none
 
-  -- ANOTHER BEHIND IT
+  -- A SECOND LEG AFTER IT
 
   -- what the first leg made is open before the second
   abbrev IsThere : Passage → LogModel → Type 0

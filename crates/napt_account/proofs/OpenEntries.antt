@@ -110,7 +110,7 @@ module _ {X : Type 0} (p : X → Bool) where
     ]
   ] refl
 
--- ONE IS WRITTEN: at its endpoint, where no other was
+-- AN ENTRY IS INSERTED at an endpoint that has no other
 
 module _ (now most : ℕ) (old new : OpenEntries) (log later : LogModel) (shows : OpenEntriesShow now most log old)
     (l : LogEntry)

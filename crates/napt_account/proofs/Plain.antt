@@ -50,7 +50,7 @@ plain_none now (Some protocol) host (ToInside packet) log = refl
 plain_none now (Some protocol) host (Onward place packet) log = refl
 plain_none now (Some protocol) host (Dropped cause) log = refl
 
--- what a leg made it went out through
+-- a leg goes out through the binding that it makes
 abbrev pub MadeOut : Way → Option BindingUse → Type 0
 MadeOut way went = (t : BindingUse) → went ≡ Some t → t.made ≡ true → way ≡ Outgoing
 
@@ -87,7 +87,7 @@ module _ (rules : Rules) (t : AreTimers rules.timers) where
       plain_acts a.leg.now (act rules a.address a.leg list).list acts last new turn.1 (after_record rules.timers log a)
       ∙ ap (λ (es : List Entry). fold (logged rules.timers) es acts) (plain_act clock list a turn.0 log)
 
--- WHERE A RUN BEGINS ANEW, it has the redirects
+-- A NEW RUN has the redirects
 
 pub unnumbered_from : (n : ℕ) (es : List Entry) → map (λ (l : LogEntry). l.entry) (numbered_from n es) ≡ es
 unnumbered_from n [] = refl

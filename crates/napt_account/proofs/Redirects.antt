@@ -24,7 +24,7 @@ protocol_same Udp Icmp = refl
 protocol_same Udp Tcp = refl
 protocol_same Udp Udp = refl
 
--- two keys are the same where the protocols and the endpoints are
+-- two keys are the same if their protocols and endpoints are
 key_has_ends : (r s : Row) → binding_key_eq (binding_key r) (binding_key s) ≡ has_ends s.protocol s.inside s.external r
 key_has_ends r s = grind (arith, common_steps, nat_tests, protocol_same)
 
@@ -67,7 +67,7 @@ keys_all rules rows is keys are wanted =
     ∙ any_agrees _ (λ b. has_ends wanted.protocol wanted.inside wanted.external (row b)) (opening rules)
     (λ b. key_has_ends (row b) wanted)))
 
--- with them the entry of a binding is the one that goes on
+-- the entry that is made with them is the one by which the log goes on
 pub entry_is : (rules : Rules) (redirects : Redirects) → ((wanted : Row) → is_among redirects wanted ≡ has_redirect rules wanted) →
     (timers : Timers) → timers ≡ rules.timers → (now clock : ℕ) → now ≡ clock → (b : Binding) (account : Account) →
     entry_among redirects timers now b account ≡ resumed_entry rules clock (b, account)

@@ -11,10 +11,10 @@ pub record LoggedRunModel : Type 0 where
   pub state : State
   pub log : LogModel
   pub inputs : List Arrival
-  -- it does not go on
+  -- whether a step failed
   pub is_stopped : Bool
 
--- The one thing that a record has, or another.
+-- The only value in a ghost log, or a default if it has none.
 abbrev pub only_in : {X : Type 0} → X → List (ℕ × X) → X
 only_in none [] = none
 only_in none (kept ∷ more) = kept.1

@@ -91,7 +91,7 @@ Has (y ∷ ys) x = (y ≡ x) ⊎ Has ys x
 abbrev pub AreKeyed : List Row → Type 0
 AreKeyed rows = IsDistinct (λ a b. external_eq (entry_key a) (entry_key b)) rows
 
--- of this log it has the entries that have not ended by a time; none counts more than `most` packets either way
+-- the entries are those of a log that have not ended by a time, and none counts more than `most` packets either way
 pub record OpenEntriesShow (now most : ℕ) (log : LogModel) (all : OpenEntries) : Type 0 where
   pub indexed : IsIndexed all
   pub made : all.made ≡ log.made

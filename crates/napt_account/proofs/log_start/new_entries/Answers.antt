@@ -1,3 +1,4 @@
+-- new_entries: a row gets the next entry exactly if the set does not have its external endpoint.
 use Rattle.std.proofs.Common.{◌≡◌, ℕ, ◌+◌, ◌<◌, List, [], ◌∷◌, ◌++◌, None, true, false, filter, length, get_or, map, not, take, sym, ◌∙◌, ap, subst, arith}
 use Rattle.std.proofs.lemmas.List.{length-append, take_all}
 use Rattle.std.specs.HashSet as hash

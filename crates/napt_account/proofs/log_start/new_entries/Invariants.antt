@@ -1,3 +1,4 @@
+-- new_entries: the set has the endpoints of the entries so far; the rows so far have got their new entries.
 use Rattle.std.proofs.Common.{◌≡◌, ◌+◌, filter, length, map, not, take}
 use Rattle.napt_account.specs.{Log.{numbered_from, unused_entry}, LogStarts.has_entry}
 use Rattle.napt_account.proofs.NewEntries.{HasRows}

@@ -1,3 +1,4 @@
+-- step: the effects of one more input are possible, so that the builder takes them, and the invariant is preserved.
 use Rattle.std.proofs.lemmas.{Grind.common_steps, Bool.Decides.nat_tests}
 use Rattle.std.proofs.Common.{◌≡◌, ◌↔◌, ◌+◌, ◌^◌, ◌<◌, ◌≤◌, false, inl, inr, List, [], ◌∷◌, ◌++◌, length, sym, ◌∙◌, ap, subst, arith}
 use Rattle.std.proofs.lemmas.{Bool.cases_lt, Result.err_from_is_err_and, List.length-append}

@@ -1,3 +1,4 @@
+-- can_come: an endpoint has no entry here exactly if the log has no open entry for it.
 use Rattle.std.proofs.Common.{◌≡◌, true, false, not, Option, Some, None, refl, sym, ◌∙◌, ap, subst}
 use Rattle.std.specs.Option.{is_some, option_map}
 use Rattle.napt_sequential.specs.declared.passage.Passage.{Passage, TheVariants.Made}
