@@ -1,4 +1,4 @@
--- A log that is read again: behind its header the rows of its events, one after another.
+-- A log that is read back: its header, and after it the rows of its events.
 use Rattle.std.specs.Prelude.{◌≡◌, List, [], ◌∷◌, ◌++◌, None, Result, Err, false, flat_map, map}
 use Rattle.napt_config.specs.Rules.{Rules}
 use Rattle.napt_rules.specs.Prelude.{Arrival, State, initial_state}
@@ -9,7 +9,7 @@ use Rattle.napt_log_text.specs.{Logs.{log_anew, log_text}, Rows.{csv_row, csv_he
 abbrev pub part_events : LogDelta → List LogEvent
 part_events part = map Ended part.ended ++ (map Made part.made ++ map Refused part.refused)
 
--- the events of inputs that come after these, in order
+-- the events of the inputs that come after the given ones, in order
 abbrev pub events_after : Rules → State → LogModel → List Arrival → List Arrival → List LogEvent
 events_after rules state log before [] = []
 events_after rules state log before (input ∷ inputs) =

@@ -36,7 +36,7 @@ same_ok x y is = subst (λ r. IfOk r (λ z. x ≡ z)) is refl
 
 -- WHAT IS LEFT
 
--- of the lines of a text those behind some are left
+-- the lines of a text after the first ones are left
 pub record Ahead (whole so_far : StateFileModel) (more : List StateLine) (left : Option StateTextBytes) : Type 0
   where
     pub clock : so_far.clock ≡ whole.clock
@@ -47,7 +47,7 @@ pub record Ahead (whole so_far : StateFileModel) (more : List StateLine) (left :
 abbrev pub IsAhead : StateFileModel → StateFileModel → Option StateTextBytes → Type 0
 IsAhead whole so_far left = (more : List StateLine) × Ahead whole so_far more left
 
--- behind a line that was read
+-- after a line that was read
 pub record AheadOf (whole so_far : StateFileModel) (line : StateLine) (more : List StateLine)
     (left : Option StateTextBytes) : Type 0 where
   pub clock : so_far.clock ≡ whole.clock
@@ -72,7 +72,7 @@ module _ (whole so_far : StateFileModel) (old new : Option StateTextBytes) where
         },
       )
 
-  -- or none was
+  -- or there was none
   pub none_next : (Q : Type 0) (reason : StateReason) → Reads (Err reason) old new → IsAhead whole so_far old →
       unless_for reason Q
   none_next Q reason reads ([], ahead) = absurd (one_follows so_far whole ahead.split)

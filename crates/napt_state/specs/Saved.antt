@@ -53,7 +53,7 @@ abbrev pub made_so_far : Option LogPosition → ℕ
 made_so_far (Some position) = position.made
 made_so_far None = 0
 
--- where the text of the log ends; all is 0 if there is none
+-- where the text of the log ends; every number is 0 if there is no text
 abbrev pub log_end : Option LogPosition → LogEnd
 log_end (Some position) = position.end
 log_end None = record { piece = 0; length = 0; row = 0 }
@@ -75,7 +75,7 @@ IsSaved saved = Each IsStateLine (saved_lines saved) × HasAccounts saved
 
 -- WHAT IS TAKEN UP under these timers
 
--- the timer of a binding: under TCP of one whose flow is not established
+-- the timer of a binding; under TCP that of a flow that is not established
 abbrev pub timer_of : Protocol → Timers → ℕ
 timer_of Icmp timers = timers.icmp
 timer_of Tcp timers = timers.transitory
@@ -85,7 +85,7 @@ abbrev pub one_flow : Protocol → ℕ → List Flow
 one_flow Tcp last = record { remote = record { address = 0; number = 0 }; last = last; marks = no_marks } ∷ []
 one_flow _ last = []
 
--- a binding that was used so long ago that it ends then
+-- a binding that was last used so that it ends at the given time
 abbrev pub binding_until : Timers → Row → ℕ → Binding
 binding_until timers row end =
     let last : ℕ = end - timer_of row.protocol timers * ns_per_second in
@@ -115,7 +115,7 @@ log_taken timers saved =
 abbrev pub taken_of : Timers → StateFileModel → TakenState
 taken_of timers saved = record { state = state_taken timers saved; log = log_taken timers saved }
 
--- it is taken if its bindings fit, and a log can begin with its accounts if it has them
+-- a state is taken if its bindings fit, and a log can begin with its accounts if they are valid
 pub record IsTakenFrom (rules : Rules) (saved : StateFileModel) (taken : TakenState) : Type 0 where
   pub state : taken.state ≡ state_taken rules.timers saved
   pub log : taken.log ≡ log_taken rules.timers saved
@@ -126,8 +126,8 @@ abbrev pub IsTaken : Rules → StateFileModel → Result TakenState (Row × Misf
 IsTaken rules saved (Ok taken) = IsTakenFrom rules saved taken
 IsTaken rules saved (Err found) = misfit rules (state_taken rules.timers saved) ≡ Some found
 
--- LAW: a binding that had ended when it was saved is not live in the run that goes on, whatever its timers, and is held as
--- long as under the timers of before
+-- LAW: a binding that had ended when it was saved is not live in the run that goes on, whatever its timers, and its
+-- number is held as long as under the earlier timers
 
 pub record StaysEnded (timers : Timers) (clock : ℕ) (row : Row) (end : ℕ) : Type 0 where
   pub dead : Each (λ it. is_live timers clock it.0 ≡ false) (taken_binding timers clock (bindings.Ended row end))

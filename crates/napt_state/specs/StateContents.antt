@@ -1,4 +1,4 @@
--- What is said of a text that is read.
+-- What contracts say of a text that is read.
 use Rattle.napt_state.specs.StateFiles.{StateFileModel}
 use Rattle.std.specs.Prelude.{◌≡◌, ◌⊎◌, ℕ, List, [], ◌∷◌, ◌++◌, Option, Some, None, Result, Ok, Err}
 use Rattle.napt_rules.specs.{Prelude.Binding, declared.Flow.Flow}
@@ -25,11 +25,11 @@ abbrev pub UnlessFailed : {A : Type 0} → Result A StateFault → Type 0 → Ty
 UnlessFailed (Ok _) fact = fact
 UnlessFailed (Err fault) fact = unless_for fault.reason fact
 
--- The bytes begin with this line, and the others are left.
+-- The bytes begin with this line, and those after it are left.
 abbrev pub IsFirstLine : StateLine → List ℕ → Option (List ℕ) → Type 0
 IsFirstLine entry all left = (rest : List ℕ) × (all ≡ line_text entry ++ rest) × (left ≡ Some rest)
 
--- what is said before the first line after that of the clock
+-- the contents after the line of the clock alone
 abbrev pub empty_contents : ℕ → StateFileModel
 empty_contents clock = record { clock = clock; log = None; bindings = [] }
 
@@ -46,7 +46,7 @@ pub record IsAddedFlow (flow : Flow) (old new : List SavedBinding) : Type 0 wher
   pub is : old ≡ before ++ bindings.Live last account ∷ []
   pub now : new ≡ before ++ bindings.Live (record last { flows = last.flows ++ flow ∷ [] }) account ∷ []
 
--- no binding that lives is the last
+-- no live binding is the last
 abbrev pub HasNoLast : List SavedBinding → Type 0
 HasNoLast list = (before : List SavedBinding) (last : Binding) (account : Option Account) →
     ¬ (list ≡ before ++ bindings.Live last account ∷ [])
@@ -55,7 +55,7 @@ HasNoLast list = (before : List SavedBinding) (last : Binding) (account : Option
 abbrev pub IsEarlier : List ℕ → Type 0
 IsEarlier text = (front rest : List ℕ) × (made length : ℕ) × (text ≡ front ++ (line_text (earlier_log made length) ++ rest))
 
--- the text of what was read, unless an earlier version wrote it
+-- the text is that of what was read, unless an earlier version wrote it
 abbrev pub IsReadAs : List ℕ → StateFileModel → Type 0
 IsReadAs text saved = (text ≡ saved_text saved) ⊎ IsEarlier text
 

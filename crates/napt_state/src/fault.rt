@@ -23,7 +23,7 @@ pub enum StateReason {
     NotUtf8,
     /// The text ends before its last line does.
     Torn,
-    /// A word is not one that may be there; with it, those of its first 40 characters that can be printed.
+    /// A word may not be there; the text has those of its first 40 characters that can be printed.
     Word(StateField, String),
     /// A line has more or fewer words than its first word requires.
     WordCount,

@@ -29,7 +29,7 @@ fn redirect_endpoints(alloc: Global, config: &Config) -> Result<Endpoints, Alloc
     Ok(endpoints)
 }
 
-/// Whether a number is possible for the protocol: 0 is none of UDP or TCP.
+/// Whether a number is possible for the protocol: UDP and TCP have no port 0.
 fn is_number(protocol: Protocol, number: u16) -> bool
     ensures { result ≡ taking.is_number protocol number }
 {
@@ -67,7 +67,8 @@ fn is_used_after(config: &Config, clock: u64, binding: &StateBinding) -> bool
     clock < binding.last || has_later(clock, &binding.flows)
 }
 
-/// Whether two of the flows of a binding that stand at a time, in ns, are of one remote. Fails only if memory runs out.
+/// Whether two of the flows of a binding that stand at a time, in ns, have the same remote. Fails only if memory is
+/// refused.
 fn flows_share(
     alloc: Global,
     config: &Config,
@@ -96,14 +97,14 @@ fn flows_share(
     Ok(false)
 }
 
-/// The time, in ns, at which a binding of a state was live that is live or held at its clock.
+/// Returns a time, in ns, at which a binding was live that is live or held at the clock of its state.
 fn held_at(config: &Config, clock: u64) -> u64
     ensures { result ≡ life.hold_ago config.now.timers clock }
 {
     IdleTimers::from_config(config).hold_ago(clock)
 }
 
-/// Returns the first reason against a binding of a state, by the endpoints of the redirects and of later bindings.
+/// Returns the first reason against a binding of a state, given the endpoints of the redirects and of later bindings.
 fn misfit_of(
     alloc: Global,
     config: &Config,
@@ -159,7 +160,7 @@ fn misfit_or(
     }
 }
 
-/// The first of the bindings of a state that go on and do not fit, and why. Fails only if memory runs out.
+/// Returns the first of the bindings of a state that go on and do not fit, and why. Fails only if memory is refused.
 pub fn first_misfit(
     alloc: Global,
     config: &Config,

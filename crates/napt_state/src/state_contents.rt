@@ -40,7 +40,7 @@ pub struct TakenState {
 }
 
 impl StateFileContents {
-    /// Those of a state without bindings, and without a log.
+    /// Returns the contents of a state without bindings and without a log.
     pub fn new(alloc: Global, clock: u64) -> StateFileContents
         ensures { result ≡ said.empty_contents clock }
     {
@@ -51,7 +51,7 @@ impl StateFileContents {
         }
     }
 
-    /// Adds what a line says, and returns whether it may follow those so far. Fails only if memory runs out.
+    /// Adds what a line says, and returns whether the line may follow those so far. Fails only if memory is refused.
     pub(crate) fn add(&mut self, alloc: Global, line: StateLine) -> Result<bool, AllocError>
         ensures added { result ≡ Ok true → said.IsAdded line self.old self.new }
         ensures refused { result ≡ Ok false → ¬ said.CanFollow line self.old }
@@ -75,8 +75,9 @@ impl StateFileContents {
         Ok(true)
     }
 
-    /// Takes the state up under a configuration, or returns the first binding that does not fit it, and why. What does not go on
-    /// need not fit: redirects, and what has gone at the clock. In linear time. Fails only if memory runs out.
+    /// Takes the state up under a configuration, or returns the first binding that does not fit it, and why. Redirects,
+    /// and bindings that are neither live nor held at the clock, need not fit, since they do not go on. Takes linear
+    /// time. Fails only if memory is refused.
     pub fn take_up(
         self,
         alloc: Global,
@@ -126,14 +127,13 @@ impl StateFileContents {
     }
 }
 
-/// A binding that had ended when it was saved is not live in the run that goes on, whatever its timers, and its number is held
-/// as long as under the timers of before.
+/// A binding that had ended when it was saved is not live in the run that goes on, whatever its timers, and its number
+/// is held as long as under the earlier timers.
 pub fn ended_bindings_stay_ended()
     ensures { saved.EndedBindingsStayEnded }
 {}
 
-/// Adds a flow to the last binding, if that is one that has not ended, and returns whether it is. Fails only if memory runs
-/// out.
+/// Adds a flow to the last binding, if that has not ended, and returns whether it did. Fails only if memory is refused.
 fn add_flow(list: &mut Vec<SavedBinding>, flow: Flow) -> Result<bool, AllocError>
     ensures added { result ≡ Ok true → said.IsAddedFlow flow list.old.items list.new.items }
     ensures none { result ≡ Ok false → said.HasNoLast list.old.items }
@@ -149,7 +149,7 @@ fn add_flow(list: &mut Vec<SavedBinding>, flow: Flow) -> Result<bool, AllocError
 }
 
 impl LineCounts {
-    /// How many bindings and flows there are. Fails only if there are more than 2^64.
+    /// Returns the number of bindings and that of flows. Fails only if there are 2^64 flows or more.
     pub(crate) fn of(saved: &StateFileContents) -> Result<LineCounts, AllocError>
         ensures { IfOk result (λ counts. counts ≡ texts.counts_of saved.now) }
     {

@@ -1,3 +1,4 @@
+-- read: a line that was written is read back, by the word with which it begins.
 use Rattle.std.proofs.Common.{◌≡◌, [], ◌∙◌, codes, true, false, ap, get_or}
 use Rattle.napt_state.specs.declared.line.StateLine.{StateLine}
 use Rattle.napt_state.specs.declared.line.StateLine.TheVariants as lines
