@@ -1,4 +1,4 @@
--- From what passed between captures that were begun and outputs to what the run did.
+-- From what passed between captures, after their headers, and outputs to what the run did.
 use Rattle.std.proofs.lemmas.{Grind.common_steps, Bool.Decides.nat_tests}
 use Rattle.std.proofs.Common.{◌≡◌, inl, inr, ℕ, ◌^◌, ◌<◌, Bool, List, [], ◌++◌, length, Option, Some, None, Result, Ok, Err, refl, sym, ◌∙◌, ap, ap₂, subst, arith, append-nil, append_assoc}
 use Rattle.napt_wire.specs.declared.Side.{Side}
@@ -24,7 +24,7 @@ use Rattle.napt_run.proofs.{Begun.{ReadBy, read_somehow, read_to_fault, read_wel
 
 -- WHAT IS KNOWN OF THE CAPTURES
 
--- where the captures' bytes are known, this follows for what they give
+-- if the bytes of the captures are known, this follows for their inputs
 pub IfHeld-by : (P : MergedInputs → Type 0) (inside outside : Option (List ℕ))
     → ((bytes others : List ℕ) → inside ≡ Some bytes → outside ≡ Some others →
     P (files_until bytes others)) → IfHeld inside outside P
@@ -45,7 +45,7 @@ fault_told : (side : Side) (fault : CaptureFault) (all : MergedInputs) (inputs :
     IsStreamFaultOf side fault all
 fault_told side fault all inputs never stops = grind (arith, common_steps, nat_tests, ended_is)
 
--- what was taken before a fault, and that it is the fault of the files
+-- the inputs that were taken before a fault, which is the fault of the files
 pub record Refuses (side : Side) (fault : CaptureFault) (all : MergedInputs) (inputs : List Arrival) : Type 0 where
   pub taken : AreTaken side fault all inputs
   pub is_fault : IsStreamFaultOf side fault all
@@ -98,7 +98,7 @@ module _ {R Q W V : Type 0} {G : source.Ghosts R} {H : source.Ghosts Q} {S : sin
       AreCountsOf (ran_by origin inputs).outcomes new.counts
   counted inputs few took = all_counted origin inputs old new counts few took
 
-  -- they are all inputs
+  -- the inputs are all inputs of the captures
   pub whole_is : (inputs : List Arrival) (cuts : CutFlags) →
       InputsCame HandsOutInputs MergeEndsWith begin inputs None end →
       cuts.inside ≡ cut_of end.inside → cuts.outside ≡ cut_of end.outside →
@@ -134,7 +134,7 @@ module _ {R Q W V : Type 0} {G : source.Ghosts R} {H : source.Ghosts Q} {S : sin
       is same) (StopsBy-then fault (λ stops. of_files ∙ stops) (came_fault begin end b o
       inputs (record { side = side; fault = fault }) (begun b o is same) came))
 
-  -- they are all before the fault
+  -- the inputs are all those before the fault
   pub taken_is : (side : Side) (fault : CaptureFault) (inputs : List Arrival) →
       InputsCame HandsOutInputs MergeEndsWith begin inputs (Some (record { side = side; fault = fault })) end →
       IfHeld bytes others (λ all. AreTaken side fault all inputs)
@@ -155,7 +155,7 @@ module _ {R Q W V : Type 0} {G : source.Ghosts R} {H : source.Ghosts Q} {S : sin
             (λ b o is same. (refused side fault p.inputs p.came b o is same).is_fault);
       }
 
-  -- the outputs told a fault
+  -- an output failed
   came_somehow : (inputs : List Arrival) → HasCome HandsOutInputs MergeEndsWith begin inputs end →
       (mid : StreamMerger R Q G H) × HandsOutInputs begin inputs mid
   came_somehow inputs (inl handed) = (end, handed)
@@ -273,7 +273,7 @@ module _ {R Q W V : Type 0} {G : source.Ghosts R} {H : source.Ghosts Q} {S : sin
         (breaks_more old.to_inside e.middle.to_inside new.to_inside _ _ fault e.took_inside e.failed.1);
   }
 
-  -- or one did before
+  -- or an output failed before
   failed : (which : Which) (fault : WriteFault) → Early which fault → RunHalts open_gate origin bytes others [] old new
   failed Outside fault e = let f = fails_outside fault e in
       record {
@@ -319,7 +319,7 @@ module _ {R Q W V : Type 0} {G : source.Ghosts R} {H : source.Ghosts Q} {S : sin
   runs_to (Err (Write Log fault)) p = (early Log fault p).failed
   runs_to (Err (Run fault)) p = (p.0, halts p.1)
 
-  -- and how many reads failed
+  -- and the number of reads that failed
   pub reads_of : (result : Result Totals Fault) → PassesOr open_gate origin begin old end new result →
       (¬ IsOfRun result) → (read : Result (Unit {0}) Fault) × IsReading result read × ReadBy begin end live read
   reads_of (Ok totals) p not_run = grind (arith, common_steps, nat_tests, read_well, well)

@@ -1,4 +1,4 @@
--- From what left during a run to what its outputs took, and to what its log was entered.
+-- From what left during a run to what its outputs took, and to what was recorded in its log.
 use Rattle.std.proofs.lemmas.{Grind.common_steps, Bool.Decides.nat_tests, List.map-append}
 use Rattle.std.proofs.Common.{◌≡◌, ◌⊎◌, inl, inr, ℕ, Bool, List, [], ◌∷◌, ◌++◌, length, map, Option, Some, None, Result, Ok, Err, refl, sym, ◌∙◌, ap, subst, arith, append_assoc}
 use Rattle.napt_wire.specs.declared.Side.{Side}
@@ -115,7 +115,7 @@ module _ {P A F W V K E : Type 0} {S : sink.Ghosts W} {T : sink.Ghosts V} (tells
     failed = f.failed.failed;
   }
 
-  -- where the log failed the outputs have what left before
+  -- if the log failed, the outputs have what left before
   log_failed : (inputs : List Arrival) (went : List (ℕ × InputResult P)) → HasCome hands ends from inputs left →
       IsFrontOf went (Goes tells origin inputs) → (fault : E) → Failed went (Log fault) →
       RunPassesHalted origin hands ends from before.leaving left after.leaving
@@ -198,7 +198,7 @@ module _ {P A F W V K E : Type 0} {S : sink.Ghosts W} {T : sink.Ghosts V} (tells
         entered = subst (λ (l : List (Legs P)). enters before.log.now l after.log.now) f.went_is entered;
       }
 
-  -- where an output failed the log was entered all
+  -- if an output failed, everything was recorded in the log
   output_entered : (went : List (ℕ × InputResult P)) (fault : OutputFault) → Failed went (Output fault) →
       enters before.log.now (legs_in went) after.log.now
   output_entered went fault f = grind (arith, common_steps, nat_tests, legs_join)
@@ -234,7 +234,7 @@ module _ {P A F W V K E : Type 0} {S : sink.Ghosts W} {T : sink.Ghosts V} (tells
     | inr failed ↦ enters_or_fails p failed.0 failed.1
   ]
 
-  -- WHERE THEY ARE LEFT
+  -- WHERE THE OUTPUTS ARE LEFT
 
   same_failed : (went : List (ℕ × InputResult P)) (fault : LeavingFault E) → Failed went fault →
       IsSameSinkPlace before after
@@ -296,7 +296,7 @@ module _ {R Q W V P K E : Type 0} {G : source.Ghosts R} {H : source.Ghosts Q} {S
   ]
   logs_to (Err (log_faults.Log fault)) p e = fails_over fault e
 
--- BEFORE ANYTHING CAME
+-- BEFORE ANY INPUT
 
 module _ {P K E : Type 0} (tells : Passage → P) (origin : OriginModel) (enters : K → List (Legs P) → K → Type 0)
     (fails : K → List (Legs P) → E → K → Type 0) (is_settled : K → Type 0) (inside outside : Option (List ℕ)) (it : K)

@@ -1,4 +1,4 @@
--- What two files give, behind their headers.
+-- The inputs of two files, after their headers.
 use native.Mathlib.Omega.{arith}
 use Rattle.std.proofs.{lemmas.{Grind.common_steps, Bool.Decides.nat_tests}, Common.{◌≡◌, ℕ, List, take, drop, Option, None, Some, Result, Err, ap}}
 use Rattle.napt_wire.specs.declared.Side.{Side, TheVariants.{Inside, Outside}}

@@ -1,4 +1,4 @@
--- A run behind the headers is one of whole captures.
+-- A run after the headers is one of whole captures.
 use Rattle.std.proofs.lemmas.{Grind.common_steps, Bool.Decides.nat_tests}
 use Rattle.std.proofs.Common.{◌≡◌, ◌⊎◌, inl, inr, ℕ, ◌≤◌, Bool, List, [], Option, Result, Ok, Err, sym, subst, arith, append-nil}
 use Rattle.napt_wire.specs.declared.Side.{Side}
@@ -113,7 +113,7 @@ module _ {W V : Type 0} {S : Ghosts W} {T : Ghosts V} (open_gate : Bool) (origin
     headed (Err (Write Log fault)) p = absurd p
     headed (Err (Run fault)) p = (p.0, halts p.1)
 
-  -- or they could not be written
+  -- or the headers could not be written
   pub unheaded : (old new : Leaving W V S T) → old.to_outside.written ≡ 0 → (fault : Fault) →
       FailsToBegin old fault new → To file_header old new (Err fault)
   unheaded old new none (Write Outside fault) (broke, same) =

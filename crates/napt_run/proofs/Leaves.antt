@@ -1,4 +1,4 @@
--- What leaving does to the outputs.
+-- What an outcome that leaves does to the outputs.
 use Rattle.std.{proofs.lemmas.{Grind.common_steps, Bool.Decides.nat_tests, List.Elements.All-head}, specs.Prelude.MatchResult}
 use Rattle.std.proofs.Common.{◌≡◌, ℕ, ◌-◌, ◌^◌, ◌<◌, List, [], ◌∷◌, ◌++◌, length, Result, IfErr, OnOk, false, sym, subst, arith, append-nil, length-append}
 use Rattle.napt_capture.specs.{Text.{entry_of_packet, record_text}, declared.{device.Sink.Ghosts, fault.WriteFault.WriteFault}}
@@ -9,7 +9,7 @@ use Rattle.napt_run.specs.{Outputs.{OutputGrows, Breaks}, OutputSinks.{AreTimes,
 time_of_one : (time : ℕ) (outcome : Outcome) → AreTimes ((time, outcome) ∷ []) → IsTime time
 time_of_one time outcome all = All-head (λ timed. IsTime timed.0) (time, outcome) [] all
 
--- one outcome more was counted
+-- one more outcome was counted
 abbrev Counted : OutcomeCounts → Outcome → OutcomeCounts → Type 0
 Counted old outcome new = (outcomes : List Outcome) → length outcomes < 2 ^ 64 - 1 → AreCountsOf outcomes old →
     AreCountsOf (outcomes ++ outcome ∷ []) new
@@ -18,7 +18,7 @@ fewer : (outcomes : List Outcome) (outcome : Outcome) → length (outcomes ++ ou
     length outcomes < 2 ^ 64 - 1
 fewer outcomes outcome few = omega (arith, few, length-append outcomes (outcome ∷ []))
 
--- of a record that is the only one, or of a front of it
+-- the text of a single record, or a prefix of it
 module _ {W : Type 0} {S : Ghosts W} (old new : Output W S) where
   grows_one : (text : List ℕ) → OutputGrows old text new → OutputGrows old (text ++ []) new
   grows_one text p = subst (λ (l : List ℕ). OutputGrows old l new) (sym (append-nil text)) p

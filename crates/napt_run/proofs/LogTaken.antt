@@ -1,4 +1,4 @@
--- A log as it is taken up. Before any input it is that of a run that begins anew.
+-- A log as it is taken up. Before any input it is that of a new run.
 use Rattle.std.proofs.{Common.{◌≡◌, ℕ, Bool, true, string_bytes, lit<, List, [], false, Option, None, refl, sym, ◌∙◌, ap, ap₂, subst, append-nil}}
 use Rattle.std.specs.{Prelude.option_map, Int.NonZero.non_zero_u32_get}
 use Rattle.napt_config.specs.Rules.{Rules}
@@ -17,7 +17,7 @@ module _ (rules : Rules) where
   texts_at state origin =
       record { so_far = log_so_far rules state origin None; whole = log_text rules state origin None false }
 
-  -- a log that is not there yet, and is told first
+  -- a log without entries, which gets the redirects first
   abbrev told_anew : LogModel → LogOrigin
   told_anew log =
       let none : LogModel = record { made = 0; entries = []; shortages = [] } in
@@ -40,7 +40,7 @@ texts_begin begin rules items saved empty none =
     texts_at rules (with_redirects rules state) (origin_saved rules state kept true)) empty none
     ∙ texts_of_none rules begin
 
--- THE TEXTS OF ONE THAT GOES ON
+-- THE TEXTS OF A LOG THAT GOES ON
 
 pub texts_go_on : (origin : OriginModel) (log : LogOrigin) (each : Option ℕ) (goes_on : Bool) → texts_of (record {
   origin = origin;
@@ -91,7 +91,7 @@ module _ {L : Type 0} {S : Ghosts L} (start : Start) (log_start : LogStart) (tak
     written = written;
   }
 
-  -- its texts are those that are promised
+  -- its texts are those of the contracts
   pub texts_taken : (it : RunningLog L S) → it.log ≡ taken.log → string_bytes it.opening ≡ string_bytes taken.opening →
       it.each ≡ log_start.each → it.goes_on ≡ log_start.goes_on →
       texts_of (running_log_of (origin_of start) it) ≡ texts_from start log_start

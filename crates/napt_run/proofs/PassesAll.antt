@@ -1,4 +1,4 @@
--- From what passed between inputs that are all at hand and outputs to what these have.
+-- From what passed between inputs that are all in memory and outputs to what the outputs have.
 use native.Mathlib.Omega.{arith}
 use Rattle.std.proofs.lemmas.{Grind.common_steps, Bool.Decides.nat_tests}
 use Rattle.std.{proofs.Common.{◌≡◌, ℕ, Bool, List, [], ◌++◌, All, None, Result, Ok, Err, IfOk, OnOk, subst, sym}, specs.Io.KnownBytes.Appends}
@@ -35,7 +35,7 @@ passes_all origin from left old new passed none timely p =
       };
     })
 
--- behind the headers
+-- after the headers
 pub headed_all : {W V : Type 0} {S : Ghosts W} {T : Ghosts V} (origin : OriginModel) (inputs : List Arrival)
     (old mid new : Leaving W V S T) → SinkBegins old mid → (r : Result RunTally RunFault) →
     IfOk r (WritesAll [] origin inputs mid new) → IfOk r (WritesAll file_header origin inputs old new)
@@ -72,9 +72,9 @@ module _ {W V : Type 0} {S : Ghosts W} {T : Ghosts V} (origin : OriginModel) (in
       IfOk r (IsTallyOf origin inputs)
   told_tally r p = grind (arith, common_steps, nat_tests)
 
--- WHAT IS MADE OF IT
+-- THE OUTPUTS THAT ARE MADE
 
--- a capture that was kept in memory, once it is taken out of its device
+-- a capture that was kept in memory, as it is taken out of its device
 pub kept_text : (origin : OriginModel) (side : Side) (inputs arrivals : List Arrival) (none last kept : List ℕ) →
     none ≡ [] →
     inputs ≡ arrivals → kept ≡ last → last ≡ none ++ capture_text origin side inputs →

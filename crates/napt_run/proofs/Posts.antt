@@ -34,7 +34,7 @@ module _ (origin : OriginModel) (which : Which) (all : MergedInputs) (old new : 
   same_text (Err (Run fault)) inputs = refl
   same_text (Err (Write other fault)) inputs = refl
 
-  -- so many bytes
+  -- this number of bytes
   part_of : (result : Result (Unit {0}) Fault) (inputs : List Arrival) (count : ℕ) → IsFrontOf inputs all.arrivals →
       count ≤ length (textof inputs) → Appends old new (take count (textof inputs)) →
       ExtentPost which result all inputs count (length (textof inputs)) → Post result
@@ -108,7 +108,7 @@ module _ (origin : OriginModel) (all : MergedInputs) (old new : Option (List ℕ
   inside_has (Err (Run fault)) (inr (inputs, front, (count, header, within, p))) =
       part_of origin Inside all old new (Err (Run fault)) inputs count front within p header
 
--- whatever a run returns, its fault is one of the run or not
+-- the fault of a run is either one of the run itself or not
 run_of : (T X : Type 0) (fault : Fault) → IsOfRun {T = T} (Err fault) → IsOfRun {T = X} (Err fault)
 run_of T X (Capture side fault) run = run
 run_of T X (Run fault) run = run
@@ -161,7 +161,7 @@ module _ {D T : Type 0} (S : Ghosts D) (origin : OriginModel) (inside outside : 
     flushed = p.settled;
   }
 
--- all of it, where the run succeeds
+-- all of the text, if the run succeeds
 pub all_of : (origin : OriginModel) (which : Which) (all : MergedInputs) (old new : Option (List ℕ)) →
     Post origin which all old new (Ok tt) → HasAll origin which all old new
 all_of origin which all old new p = (
@@ -172,7 +172,7 @@ all_of origin which all old new p = (
       p.appended)),
 )
 
--- WHERE THE REPORT FAILS
+-- IF THE REPORT FAILS
 
 module _ (origin : OriginModel) (all : MergedInputs) (old new : Option (List ℕ)) where
   outside_unreported : (fault : Fault) → IsReportFault fault → Post origin Outside all old new (Ok tt) →
@@ -387,7 +387,7 @@ module _ {T : Type 0} (open_gate : Bool) where
         (subst (λ (r : Result T LogRunFault). Logs texts r inside outside (S.contents old) (S.contents new)) is
         gets.gets))
 
--- THE CAPTURES BESIDE IT
+-- THE CAPTURES OF A RUN WITH A LOG
 
 module _ (origin : OriginModel) (which : Which) (all : MergedInputs) (old new : Option (List ℕ)) (fault : WriteFault) where
   outside_halted : Post origin Outside all old new (Err (Run Memory)) →
@@ -495,7 +495,7 @@ pub log_at : {L T : Type 0} {S : Ghosts L} (texts : LogTexts) (inside outside : 
     LogGetsText S texts inside outside result start last
 log_at texts inside outside result old new same gets start last from at = rw (at same, sym from) gets
 
--- where nothing was begun, it has nothing
+-- if nothing was begun, it has nothing
 pub log_unbegun : {L : Type 0} (S : Ghosts L) (texts : LogTexts) (inside outside : Option (List ℕ)) (log : L) →
     SinkPost S texts Log inside outside (Err (Run Memory)) log log
 log_unbegun S texts inside outside log = record {
@@ -512,7 +512,7 @@ log_unbegun S texts inside outside log = record {
   flushed = λ settled. absurd settled;
 }
 
--- WHAT A RUN COMES TO, with what is kept of its log
+-- THE RESULT OF A RUN, with what is kept of its log
 
 pub end_with : (told : Result Totals Fault) (log : LogModel) (result : Result (Totals × LogModel) Fault) →
     result ≡ with_log told log → stream_ended result ≡ stream_ended told

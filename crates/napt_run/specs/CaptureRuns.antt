@@ -17,7 +17,7 @@ use Rattle.napt_run.specs.declared.logging.LoggingFault.TheVariants as log_fault
 
 -- THE OUTPUTS
 
--- the first of these were taken, and the fault came while the others were
+-- the first of these outcomes were taken, and the fault came while the others were
 pub record FailsAfter {W V : Type 0} {S : sink.Ghosts W} {T : sink.Ghosts V} (before : Leaving W V S T)
     (went : List TimedOutcomes) (fault : OutputFault) (after : Leaving W V S T) : Type 0 where
   pub first : List TimedOutcomes
@@ -30,7 +30,7 @@ pub record FailsAfter {W V : Type 0} {S : sink.Ghosts W} {T : sink.Ghosts V} (be
 module _ {A F W V : Type 0} {S : sink.Ghosts W} {T : sink.Ghosts V} (origin : OriginModel)
     (hands : A → List Arrival → A → Type 0) (ends : A → Option F → A → Type 0) (from : A) (before : Leaving W V S T)
     (left : A) (after : Leaving W V S T) where
-  -- the arrivals ended or failed, and what leaves of the inputs before was taken
+  -- the arrivals ended or failed, and the outcomes of the inputs before that were taken
   pub record RunPassesTo (end : Option F) : Type 0 where
     pub inputs : List Arrival
     pub came : InputsCame hands ends from inputs end left
@@ -43,7 +43,7 @@ module _ {A F W V : Type 0} {S : sink.Ghosts W} {T : sink.Ghosts V} (origin : Or
     pub bindings : passed.bindings.items ≡ (ran_by origin whole.inputs).bindings
     pub leaves : GivesState origin whole.inputs passed
 
-  -- an output failed, and what left before is the first of what leaves
+  -- an output failed, and the outcomes that left before are a prefix of all
   pub record RunPassesEarly (fault : OutputFault) : Type 0 where
     pub inputs : List Arrival
     pub went : List TimedOutcomes
@@ -51,7 +51,7 @@ module _ {A F W V : Type 0} {S : sink.Ghosts W} {T : sink.Ghosts V} (origin : Or
     pub front : IsFrontOf went (run_left_of origin inputs)
     pub failed : FailsAfter before went fault after
 
-  -- the run itself failed, or its log. An output may have failed too
+  -- the run itself failed, or its log; an output may have failed too
   pub record RunPassesHalted : Type 0 where
     pub inputs : List Arrival
     pub went : List TimedOutcomes
@@ -69,7 +69,7 @@ module _ {A F W V : Type 0} {S : sink.Ghosts W} {T : sink.Ghosts V} (origin : Or
 module _ {R Q W V : Type 0} {G : source.Ghosts R} {H : source.Ghosts Q} {S : sink.Ghosts W} {T : sink.Ghosts V}
     (open_gate : Bool) (origin : OriginModel) (from : StreamMerger R Q G H) (before : Leaving W V S T)
     (left : StreamMerger R Q G H) (after : Leaving W V S T) where
-  -- all went well, with these totals for the report
+  -- the run succeeded, with these totals for the report
   pub record PassesAll (totals : Totals) : Type 0 where
     pub well : RunPassesWell origin HandsOutInputs MergeEndsWith from before left after totals.passed
     pub counts : totals.counts ≡ after.counts
@@ -93,21 +93,21 @@ module _ {P A F K E : Type 0} (tells : Passage → P) (origin : OriginModel) (ha
     (ends : A → Option F → A → Type 0) (enters : K → List (Legs P) → K → Type 0)
     (fails : K → List (Legs P) → E → K → Type 0) (is_settled : K → Type 0) (from : A) (old : K) (left : A)
     (new : K) where
-  -- the arrivals ended or failed, the log was entered the inputs before, and is settled
+  -- the arrivals ended or failed, the inputs before that were recorded in the log, and it is flushed
   pub record EntersTo (end : Option F) : Type 0 where
     pub inputs : List Arrival
     pub came : InputsCame hands ends from inputs end left
     pub entered : enters old (legs_told tells origin inputs) new
     pub settled : is_settled new
 
-  -- it was entered the first of the inputs that came
+  -- the first of the inputs that came were recorded
   pub record EntersFirst : Type 0 where
     pub first : List Arrival
     pub later : List Arrival
     pub come : HasCome hands ends from (first ++ later) left
     pub entered : enters old (legs_told tells origin first) new
 
-  -- or failed over them
+  -- or the log failed over them
   pub record FailsFirst (fault : E) : Type 0 where
     pub first : List Arrival
     pub later : List Arrival

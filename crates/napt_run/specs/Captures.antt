@@ -44,7 +44,7 @@ texts_made origin captures =
       report = report_text captures.inside.cut captures.outside.cut (ran_by origin arrivals);
     }
 
--- more than a run can count
+-- there are more records than a run can count
 abbrev pub AreTooMany : CaptureFiles → Type 0
 AreTooMany captures = 2 ^ 32 ≤ length captures.inside.records + length captures.outside.records
 
@@ -57,7 +57,7 @@ texts_by origin (Ok captures) =
 abbrev pub texts_from : OriginModel → List ℕ → List ℕ → Result RunTexts Fault
 texts_from origin inside outside = texts_by origin (read_both inside outside)
 
--- from the bindings that a configuration opens with
+-- the texts of a run from the opening list of a configuration
 abbrev pub texts : Rules → List ℕ → List ℕ → Result RunTexts Fault
 texts rules inside outside = texts_from (initial_origin rules) inside outside
 
@@ -75,7 +75,8 @@ pub data OutputShare : Type 0 where
   front : ℕ → OutputShare
   nothing : OutputShare
 
--- to the outside first, then to the inside, then the report; nothing after a fault of a capture or of the run
+-- the outputs to the outside, to the inside and the report are written in this order, and nothing after a fault of a
+-- capture or of the run
 abbrev pub share_of : Which → Result (Unit {0}) Fault → OutputShare
 share_of which (Ok done) = whole
 share_of which (Err (Capture side fault)) = nothing
@@ -90,7 +91,7 @@ share_of Report (Err (Write Report fault)) = front fault.written
 share_of Report (Err (Write other fault)) = nothing
 share_of Log (Err (Write other fault)) = nothing
 
--- a writer with these bytes before and after got this share of a text
+-- a writer that had these bytes before and after got this share of a text
 abbrev pub OutputReceives : OutputShare → List ℕ → Option (List ℕ) → Option (List ℕ) → Type 0
 OutputReceives whole text old new = Appends old new text
 OutputReceives (front written) text old new = (written ≤ length text) × Appends old new (take written text)
@@ -100,7 +101,7 @@ OutputReceives nothing text old new = new ≡ old
 abbrev pub IfKnown : Option (List ℕ) → Option (List ℕ) → (List ℕ → List ℕ → Type 0) → Type 0
 IfKnown inside outside Holds = IfSome inside (λ bytes. IfSome outside (λ others. Holds bytes others))
 
--- it got this share of its text
+-- an output got this share of its text
 abbrev pub GetsFrom : OriginModel → Which → OutputShare → Option (List ℕ) → Option (List ℕ) → Option (List ℕ) →
     Option (List ℕ) →
     Type 0
@@ -130,12 +131,12 @@ Answers all (Err (Run Memory)) = IsOk all
 Answers all (Err (Run (Pool fault))) = IsOk all
 Answers all (Err (Write which fault)) = IsOk all
 
--- and what a fault says of each capture alone, if only its bytes are known: the inside one is read first, and the run
+-- what a fault says of each capture alone, if only its bytes are known: the inside one is read first, and the run
 -- starts once both are read
 abbrev pub IsReadable : Option (List ℕ) → Type 0
 IsReadable known = IfSome known (λ bytes. IsOk (read_whole bytes))
 
--- it reads as its fault, unless the device failed, or memory, which is taken for records alone
+-- reading the bytes gives this fault, unless the device failed or memory was refused, which is taken for records alone
 abbrev pub IsFaultIn : Option (List ℕ) → CaptureFault → Type 0
 IsFaultIn known fault = IsReadFault fault (IfSome known (λ bytes. read_whole bytes ≡ Err fault)) ×
     IsForRecords known fault
@@ -147,7 +148,7 @@ Explains inside outside (Run fault) = IsReadable inside × IsReadable outside
 Explains inside outside (Write Log fault) = ⊥
 Explains inside outside (Write which fault) = IsReadable inside × IsReadable outside
 
--- how many reads of a side's capture failed, and how many writes of an output
+-- the number of failed reads of a side's capture, and of failed writes of an output
 abbrev pub failed_readings : {T : Type 0} → Side → Result T Fault → ℕ
 failed_readings side (Ok done) = 0
 failed_readings sides.Inside (Err (Capture sides.Inside fault)) = let answer : Result CaptureModel CaptureFault =

@@ -10,7 +10,7 @@ use Rattle.napt_run.specs.declared.logged_output_sinks.LeavingWithLog.{LeavingWi
 abbrev pub outcomes_in : {P : Type 0} → List (ℕ × InputResult P) → List TimedOutcomes
 outcomes_in all = map (λ left. (left.0, left.1.outcome)) all
 
--- and what was told of its legs
+-- and the traces of their legs
 abbrev pub legs_in : {P : Type 0} → List (ℕ × InputResult P) → List (Legs P)
 legs_in all = map (λ left. (left.1.now, left.1.first, left.1.second)) all
 
@@ -24,14 +24,14 @@ module _ {W V K : Type 0} {S : Ghosts W} {T : Ghosts V} where
   AreSettled is_settled it = IsSettled it.leaving × is_settled it.log.now
 
 module _ {P W V K : Type 0} {S : Ghosts W} {T : Ghosts V} where
-  -- the log was entered all that left, and the outputs have its records
+  -- all that left was recorded in the log, and the outputs have its records
   pub record TakesBoth (enters : K → List (Legs P) → K → Type 0) (old : LeavingWithLog W V K S T)
       (all : List (ℕ × InputResult P)) (new : LeavingWithLog W V K S T) : Type 0 where
     pub took : SinkTakes old.leaving (outcomes_in all) new.leaving
     pub entered : enters old.log.now (legs_in all) new.log.now
     pub same : IsSameSinkPlace old new
 
-  -- an output failed, and the log was entered all
+  -- an output failed, and everything was recorded in the log
   pub record FailsOutput (enters : K → List (Legs P) → K → Type 0) (old : LeavingWithLog W V K S T)
       (all : List (ℕ × InputResult P)) (fault : OutputFault) (new : LeavingWithLog W V K S T) : Type 0 where
     pub failed : SinkFails old.leaving (outcomes_in all) fault new.leaving

@@ -12,7 +12,7 @@ use Rattle.napt_run.specs.{Outputs.{OutputGrows, Breaks}, declared.output_sinks.
 abbrev pub TimedOutcomes : Type 0
 TimedOutcomes = ℕ × Outcome
 
--- the text of those that go to a side
+-- the text of the records that go to a side
 abbrev pub records_text : Side → List TimedOutcomes → List ℕ
 records_text side all = flat_map record_text (filter_map (λ timed. record_at timed.0 (packet_to side timed.1)) all)
 
@@ -24,14 +24,14 @@ abbrev pub AreTimesSound : {W V : Type 0} {S : Ghosts W} {T : Ghosts V} → Leav
 AreTimesSound leaving = (leaving.to_outside.is_broken ≡ false) × (leaving.to_inside.is_broken ≡ false)
 
 module _ {W V : Type 0} {S : Ghosts W} {T : Ghosts V} where
-  -- these left: each output has their records, and they are counted
+  -- these outcomes left: each output has its records of them, and they are counted
   pub record SinkTakes (old : Leaving W V S T) (all : List TimedOutcomes) (new : Leaving W V S T) : Type 0 where
     pub to_outside : AreTimes all → OutputGrows old.to_outside (records_text sides.Outside all) new.to_outside
     pub to_inside : AreTimes all → OutputGrows old.to_inside (records_text sides.Inside all) new.to_inside
     pub counts : (outcomes : List Outcome) → length (outcomes ++ map (λ timed. timed.1) all) < 2 ^ 64 →
         AreCountsOf outcomes old.counts → AreCountsOf (outcomes ++ map (λ timed. timed.1) all) new.counts
 
-  -- an output failed while these left, and the other one has nothing more, or all of them
+  -- an output failed while these outcomes left, and the other one got none or all of its records of them
   abbrev pub FailsBy : Leaving W V S T → List TimedOutcomes → Which → WriteFault → Leaving W V S T → Type 0
   FailsBy old all Outside fault new =
       Breaks old.to_outside (records_text sides.Outside all) fault new.to_outside
@@ -51,7 +51,7 @@ module _ {W V : Type 0} {S : Ghosts W} {T : Ghosts V} where
     pub to_inside : OutputGrows old.to_inside file_header new.to_inside
     pub counts : new.counts ≡ old.counts
 
-  -- writing a header failed; the one to the outside goes first
+  -- writing a header failed; the one to the outside is written first
   abbrev pub FailsToBegin : Leaving W V S T → Fault → Leaving W V S T → Type 0
   FailsToBegin old (Write Outside fault) new =
       Breaks old.to_outside file_header fault new.to_outside × (new.to_inside ≡ old.to_inside)
@@ -64,7 +64,7 @@ abbrev pub IsSettled : {W V : Type 0} {S : Ghosts W} {T : Ghosts V} → Leaving 
 IsSettled {W} {V} {S} {T} leaving =
     S.is_flushed leaving.to_outside.device.now × T.is_flushed leaving.to_inside.device.now
 
--- an answer of an output, by its name
+-- the answer of an output, with its name in the fault
 abbrev pub named : Which → Result (Unit {0}) WriteFault → Result (Unit {0}) OutputFault
 named which (Ok done) = Ok done
 named which (Err fault) = Err (record { which = which; fault = fault })

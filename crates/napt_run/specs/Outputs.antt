@@ -11,7 +11,7 @@ pub record OutputGrows {W : Type 0} {S : Ghosts W} (old : Output W S) (text : Li
   pub appended : Appends (S.contents old.device.now) (S.contents new.device.now) text
   pub kept : S.failed new.device.now ≡ S.failed old.device.now
 
--- a front of it was written, and a call failed
+-- a prefix of the text was written, and a call failed
 pub record Breaks {W : Type 0} {S : Ghosts W} (old : Output W S) (text : List ℕ) (fault : WriteFault)
     (new : Output W S) : Type 0 where
   pub same : new.device.ghost_name ≡ old.device.ghost_name

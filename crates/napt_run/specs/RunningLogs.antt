@@ -12,7 +12,7 @@ use Rattle.napt_run.specs.{LogOrigins.LoggedOrigin, LogRuns.{Legs, traces_by}, O
 use Rattle.napt_run.specs.declared.running_log.RunningLog.{RunningLog}
 use Rattle.napt_run.specs.declared.logging.LoggingFault.TheVariants as log_faults
 
--- What holds of a log by what the legs of inputs did.
+-- What follows for a log from the effects of the legs of inputs.
 pub record AreLaws (origin : OriginModel) (log : LogModel) : Type 0 where
   pub rows : (each : Option ℕ) (inputs : List Arrival) →
       rows_by origin.rules each None origin.state.clock log (traces_by origin inputs)
@@ -21,31 +21,31 @@ pub record AreLaws (origin : OriginModel) (log : LogModel) : Type 0 where
       log_after log (traces_by origin inputs) ≡ log_on origin.rules origin.state log inputs
   pub come : EffectsComeFrom origin.rules origin.state log
 
--- The time of the last of these; before them it was this.
+-- The time of the last of these traces, or the given time if there are none.
 abbrev pub last_trace_time : ℕ → List Trace → ℕ
 last_trace_time now [] = now
 last_trace_time now (trace ∷ traces) = last_trace_time trace.now traces
 
--- The same, where there may have been none before them.
+-- The same, if there may have been no time before them.
 abbrev pub last_time : Option ℕ → List Trace → Option ℕ
 last_time last [] = last
 last_time last (trace ∷ traces) = last_time (Some trace.now) traces
 
--- where a run fails so, its log is flushed already, or cannot be
+-- after such a fault of a run its log has been flushed already, or cannot be
 abbrev pub IsFlushedAt : LoggingFault LogRunFault → Type 0
 IsFlushedAt (log_faults.Run (faults.Capture side fault)) = Unit {0}
 IsFlushedAt (log_faults.Log fault) = Unit {0}
 IsFlushedAt other = ⊥
 
--- no call of a log failed after this; or one, if none had failed before
+-- no more calls of a log failed, or one did if none had failed before
 abbrev pub FailsMore : Bool → ℕ → ℕ → Type 0
 FailsMore is_broken old new = (new ≡ old) ⊎ ((is_broken ≡ false) × (new ≡ old + 1))
 
--- the traces of inputs whose legs tell their passages
+-- the traces of inputs, from the passages of their legs
 abbrev pub running_log_traces : List (Legs Passage) → List Trace
 running_log_traces all = map (λ legs. record { now = legs.0; first = legs.1; second = legs.2 }) all
 
--- the log after these traces, and the rows of those that come then
+-- the log after these traces, and the rows of the traces that come then
 abbrev pub known_logs : LoggedOrigin → List Trace → LogBuilderModel
 known_logs from traces = record {
   rules = from.origin.rules;
@@ -59,7 +59,7 @@ abbrev pub rows_in : LoggedOrigin → List Trace → List Trace → TimeText
 rows_in from before traces = rows_by from.origin.rules from.each (last_time None before)
     (last_trace_time from.origin.state.clock before) (log_after from.log before) traces
 
--- the rows of what lives at the end, and what is kept then
+-- the rows of the live bindings at the end, and what is kept then
 abbrev pub ending_with : LoggedOrigin → List Trace → TimeText
 ending_with from traces = if from.goes_on then []
     else living_rows from.origin.rules
@@ -68,12 +68,12 @@ ending_with from traces = if from.goes_on then []
 abbrev pub left_with : LoggedOrigin → List Trace → LogModel
 left_with from traces = kept_at (last_trace_time from.origin.state.clock traces) (log_after from.log traces)
 
--- how a piece begins with an input behind these, if one does
+-- the beginning of a piece, if one begins with an input after these
 abbrev pub opening_before : LoggedOrigin → List Trace → ℕ → TimeText
 opening_before from before now =
     piece_opening from.origin.rules from.each (last_time None before) now (left_with from before)
 
--- the rows of an input behind these
+-- the rows of an input after these
 abbrev pub input_rows : LoggedOrigin → List Trace → Trace → TimeText
 input_rows from before trace =
     let log : LogModel = log_after from.log before in
@@ -81,7 +81,7 @@ input_rows from before trace =
     (part_between (last_trace_time from.origin.state.clock before) trace.now log (after_input log trace))
 
 module _ {L : Type 0} {S : Ghosts L} where
-  -- it took these traces, no more than it can count, and goes on
+  -- the log has taken these traces, which are no more than it can count, and has not failed
   pub record LogIsAt (from : LoggedOrigin) (traces : List Trace) (it : RunningLog L S) : Type 0 where
     pub log : it.log ≡ known_logs from traces
     pub few : length traces < 2 ^ 62
@@ -99,13 +99,13 @@ module _ {L : Type 0} {S : Ghosts L} where
     goes_on = it.goes_on;
   }
 
-  -- nothing was entered, and nothing written
+  -- nothing has been recorded or written
   pub record IsReady (origin : OriginModel) (it : RunningLog L S) : Type 0 where
     pub at : LogIsAt (running_log_of origin it) [] it
     pub of : IsLogOf origin.rules origin.state it.log.log
     pub written : it.output.written ≡ 0
 
-  -- it goes on after these traces, and this text was written
+  -- the log has taken these traces too, and this text was written
   pub record LogGoesOnFrom (from : LoggedOrigin) (traces : List Trace) (text : TimeText) (old : Output L S)
       (new : RunningLog L S) : Type 0 where
     pub at : LogIsAt from traces new
@@ -116,7 +116,7 @@ module _ {L : Type 0} {S : Ghosts L} where
   Enters old traces new = (from : LoggedOrigin) (before : List Trace) → LogIsAt from before old →
       LogGoesOnFrom from (before ++ traces) (rows_in from before traces) old.output new
 
-  -- the log failed behind the first of these traces
+  -- the log failed after the first of these traces
   pub record LogHalts (from : LoggedOrigin) (before traces : List Trace) (fault : RunFault) (old new : RunningLog L S) :
       Type 0 where
     pub first : List Trace
@@ -131,12 +131,12 @@ module _ {L : Type 0} {S : Ghosts L} where
   FailsBy from before traces (Run (faults.Run fault)) old new = LogHalts from before traces fault old new
   FailsBy from before traces (Run other) old new = ⊥
 
-  -- entering these traces failed
+  -- recording these traces failed
   abbrev pub LogFails : RunningLog L S → List Trace → LogRunFault → RunningLog L S → Type 0
   LogFails old traces fault new = (from : LoggedOrigin) (before : List Trace) → LogIsAt from before old →
       FailsBy from before traces fault old new
 
-  -- a text was written and flushed, or could not be
+  -- a text was written and flushed
   pub record LogFlushes (from : LoggedOrigin) (traces : List Trace) (text : TimeText) (old : Output L S)
       (new : RunningLog L S) : Type 0 where
     pub on : LogGoesOnFrom from traces text old new
@@ -159,7 +159,7 @@ module _ {L : Type 0} {S : Ghosts L} where
     pub goes_on : new.goes_on ≡ old.goes_on
     pub rows : text ≡ input_rows from before trace
 
-  -- or failed
+  -- or the log did not take it
   abbrev pub EntersNot : LoggedOrigin → List Trace → Trace → RunningLog L S → LogRunFault → RunningLog L S → Type 0
   EntersNot from before trace old (Run (faults.Run fault)) new =
       (new.output ≡ old.output) × IsBuilderFault (known_logs from before) trace fault

@@ -31,37 +31,37 @@ side_of Log = sides.Inside
 abbrev pub HasAll : OriginModel → Which → MergedInputs → Option (List ℕ) → Option (List ℕ) → Type 0
 HasAll origin which all old new = IsOk all.end × Appends old new (capture_text origin (side_of which) all.arrivals)
 
--- all of the text of a front of the inputs
+-- all of the text of a prefix of the inputs
 abbrev pub HasText : OriginModel → Which → MergedInputs → Option (List ℕ) → Option (List ℕ) → Type 0
 HasText origin which all old new =
     (inputs : List Arrival) × IsFrontOf inputs all.arrivals
     × Appends old new (capture_text origin (side_of which) inputs)
 
--- as much of it as the fault says, whose number saturates
+-- as many bytes of such a text as the fault says, whose number saturates
 abbrev pub HasFront : OriginModel → Which → ℕ → MergedInputs → Option (List ℕ) → Option (List ℕ) → Type 0
 HasFront origin which written all old new =
     (inputs : List Arrival) × IsFrontOf inputs all.arrivals × ((count : ℕ) × (written ≡ min count (2 ^ 64 - 1))
     × (count ≤ length (capture_text origin (side_of which) inputs))
     × Appends old new (take count (capture_text origin (side_of which) inputs)))
 
--- the inputs before a fault of a side; a front of them, if its device or memory failed
+-- the inputs before a fault of a side, or a prefix of them if its device or memory failed
 abbrev pub AreTaken : Side → CaptureFault → MergedInputs → List Arrival → Type 0
 AreTaken side fault all inputs =
     IsFrontOf inputs all.arrivals
     × IsReadFault fault (all ≡ record { arrivals = inputs; end = Err (record { side = side; fault = fault }) })
 
--- if the header to the outside could not be written, the one to the inside was not begun
+-- the header to the outside could not be written, and the one to the inside was not begun
 abbrev pub IsUnbegun : ℕ → Option (List ℕ) → Option (List ℕ) → Type 0
 IsUnbegun written old new = (written ≤ length file_header) × (new ≡ old)
 
--- at least the header, and as much of it as a failed write left
+-- at least the header, and as much of such a text as a failed write left
 abbrev pub HasPart : OriginModel → Which → MergedInputs → Option (List ℕ) → Option (List ℕ) → Type 0
 HasPart origin which all old new =
     (inputs : List Arrival) × IsFrontOf inputs all.arrivals × ((count : ℕ) × (length file_header ≤ count)
     × (count ≤ length (capture_text origin (side_of which) inputs))
     × Appends old new (take count (capture_text origin (side_of which) inputs)))
 
--- writing an output failed after so many bytes
+-- what an output has if writing an output failed after this number of bytes
 abbrev pub HasWritten : OriginModel → Which → Which → ℕ → MergedInputs → Option (List ℕ) → Option (List ℕ) → Type 0
 HasWritten origin which Report written all old new = HasAll origin which all old new
 HasWritten origin Outside Outside written all old new = HasFront origin Outside written all old new
@@ -72,7 +72,7 @@ HasWritten origin Report Inside written all old new = HasText origin Report all 
 HasWritten origin Log Inside written all old new = HasText origin Log all old new
 HasWritten origin which Log written all old new = HasText origin which all old new ⊎ HasPart origin which all old new
 
--- by the result of the run
+-- what an output has, by the result of the run
 abbrev pub GetsOf : OriginModel → Which → Result (Unit {0}) Fault → MergedInputs → Option (List ℕ) → Option (List ℕ) →
     Type 0
 GetsOf origin which (Ok done) all old new = HasAll origin which all old new
@@ -144,7 +144,7 @@ IsSettledBy (Err (Capture side fault)) = Unit {0}
 IsSettledBy (Err (Write Report fault)) = Unit {0}
 IsSettledBy other = ⊥
 
--- a result, without its value
+-- a result without its value
 abbrev pub stream_ended : {T : Type 0} → Result T Fault → Result (Unit {0}) Fault
 stream_ended (Ok given) = Ok tt
 stream_ended (Err fault) = Err fault
@@ -157,7 +157,7 @@ IsOfReading (Ok done) = Unit {0}
 IsOfReading (Err (Capture side fault)) = Unit {0}
 IsOfReading other = ⊥
 
--- how reading ended, which a fault of writing a capture does not say
+-- how reading ended; a fault of writing a capture does not say it
 abbrev pub IsReading : {T : Type 0} → Result T Fault → Result (Unit {0}) Fault → Type 0
 IsReading (Ok done) read = read ≡ Ok tt
 IsReading (Err (Write Outside fault)) read = IsOfReading read
@@ -180,7 +180,7 @@ pub record DeviceGetsFrom {D T : Type 0} (S : sink.Ghosts D) (origin : OriginMod
   pub count : (¬ IsOfRun result) → S.failed new ≡ S.failed old + failed_writings which (stream_ended result)
   pub settled : IsSettledBy (stream_ended result) → S.is_flushed new
 
--- and on that of the report
+-- and on the device of the report
 pub record ReportGetsFrom {D : Type 0} (S : sink.Ghosts D) (origin : OriginModel) (inside outside : Option (List ℕ))
     (result : Result (Unit {0}) Fault) (old new : D) : Type 0 where
   pub gets : Reports origin result inside outside (S.contents old) (S.contents new)
@@ -211,7 +211,7 @@ IsHeaderFault side old new (Capture other fault) =
     (λ bytes left. (format_in (take 24 bytes) ≡ Err fault) × (left ≡ drop 24 bytes))))
 IsHeaderFault side old new other = ⊥
 
--- a fault before the report, under a gate that promises yes or one that does not
+-- a fault before the report, under a gate that is always open or any other
 abbrev pub IsStopFault : Bool → Fault → Type 0
 IsStopFault open_gate (Capture side fault) = Unit {0}
 IsStopFault open_gate (Write Outside fault) = Unit {0}

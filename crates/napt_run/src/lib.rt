@@ -4,9 +4,9 @@
 //! run. If both succeed, they write the same bytes ([`streams_write_the_same`]). Each returns a
 //! [`RunEnd`], from which the next run goes on.
 //!
-//! [`merge`] makes the inputs of a run from the records of both captures. [`run_plain`] takes them through the translators of
-//! all external addresses on one thread; [`run_workers`] does so by [`dispatch`], with one worker thread for each address,
-//! and both return the same run.
+//! [`merge`] makes the inputs of a run from the records of both captures. [`run_plain`] translates them with the
+//! translators of all external addresses on one thread; [`run_workers`] does so by [`dispatch`], with one worker thread
+//! for each address, and both return the same run.
 #![tactic(auto)]
 
 mod capture_run;

@@ -13,7 +13,7 @@ use std::alloc::AllocError;
 /// Why a run with a log failed.
 #[derive(Clone, Copy, Debug, PartialEq, Eq)]
 pub(crate) enum LogRunFault {
-    /// The run failed, a capture or an output other than the log, or memory ran out.
+    /// The run failed, or a capture, or an output other than the log, or memory was refused.
     Run(Fault),
     /// The log could not be written.
     Log(WriteFault),

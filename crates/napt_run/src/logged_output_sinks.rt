@@ -7,15 +7,15 @@ use crate::output_sinks::{Leaving, OutputFault, vector_of};
 use napt_capture::Sink;
 use napt_dispatch::{InputResult, OutcomeSink};
 
-/// The captures that a run writes as it goes, and its log. What is told of an input is entered in the log before its packet
-/// is written, and the log is flushed before the captures are.
+/// The captures that a run writes as it goes, and its log. The legs of an input are recorded in the log before its
+/// packet is written, and the log is flushed before the captures are.
 #[derive(Drop)]
 pub(crate) struct LeavingWithLog<'k, 'a, 'b, W: Sink, V: Sink, K> {
     pub(crate) leaving: Leaving<'a, 'b, W, V>,
     pub(crate) log: &'k mut K,
 }
 
-/// Why no more can be written.
+/// Why nothing more can be written.
 #[derive(Drop)]
 pub(crate) enum LeavingFault<F> {
     Output(OutputFault),
@@ -23,7 +23,7 @@ pub(crate) enum LeavingFault<F> {
 }
 
 impl<'k, 'a, 'b, W: Sink, V: Sink, K> LeavingWithLog<'k, 'a, 'b, W, V, K> {
-    /// These captures and this log.
+    /// Returns the captures and the log of a run, before anything is written.
     pub(crate) fn over(
         leaving: Leaving<'a, 'b, W, V>,
         log: &'k mut K,

@@ -29,7 +29,7 @@ fn fault_of(halt: LoggingFault<LogRunFault>) -> LogRunFault
     }
 }
 
-/// By the traces of its inputs a log of a state has their rows.
+/// The log of a run from a state has the rows that follow from the traces of its inputs.
 fn log_laws(start: Start<'_>)
     requires { TakesState start.config.now start.state.now }
     ensures { (log : LogModel) → IsLogOf start.entry.config.now (origin_of start.entry).state log →
@@ -37,7 +37,7 @@ fn log_laws(start: Start<'_>)
 {
     effects_are_the_log();
     effects_have_the_rows();
-    // called for its clause alone: a configuration keeps its rules
+    // called only for its clause: the rules of a configuration are valid
     let _pool = start.config.pool();
 }
 

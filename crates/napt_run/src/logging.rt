@@ -1,34 +1,34 @@
-//! Who keeps the log of a run.
+//! Keeping the log of a run, or none.
 
 ghost use Rattle.std.specs.Prelude.{◌++◌, [], ◌∷◌, ℕ, List, MatchResult};
 
 use napt_records::Fault;
 use napt_sequential::{LegTrace, NoFault, NoTrace};
 
-/// Keeps the log of a run, by what is told of the legs of each input as it leaves.
+/// Keeps the log of a run, given the traces of the legs of each input as its packet leaves.
 pub(crate) trait Logging {
-    /// What has to be told of each leg.
+    /// What has to be recorded of each leg.
     type Told: LegTrace;
 
     /// Why the log cannot be kept.
     type Fault: Drop;
 
-    // In the first state these were entered, in this order, and it came to the second. An entry has the time of an input's
-    // legs and what is told of both.
+    // Recording these legs, in this order, leads from the first state to the second. An element has the time of an
+    // input's legs and the traces of both.
     ghost enters: { Self → List (ℕ × Self.Told × Self.Told) → Self → Type 0 };
 
-    // In the first state entering these ended in this fault, and it came to the second.
+    // Recording these legs in the first state fails with this fault, and leads to the second.
     ghost fails: { Self → List (ℕ × Self.Told × Self.Told) → Self.Fault → Self → Type 0 };
 
-    // What was entered is at its destination.
+    // Everything recorded so far has been flushed.
     ghost is_settled: { Self → Type 0 };
 
-    /// Enters the next input, whose legs were at a time in ns.
+    /// Records the next input, whose legs were at a time, in ns.
     fn enter(&mut self, now: u64, first: Self::Told, second: Self::Told) -> Result<(), Self::Fault>
         ensures { MatchResult result (λ _. enters self.old ((now, first, second) ∷ []) self.new)
             (λ fault. fails self.old ((now, first, second) ∷ []) fault self.new) };
 
-    /// Brings what was entered to its destination: a flush.
+    /// Flushes what was recorded.
     fn settle(&mut self) -> Result<(), Self::Fault>
         ensures { MatchResult result (λ _. enters self.old [] self.new × is_settled self.new)
             (λ fault. fails self.old [] fault self.new) };

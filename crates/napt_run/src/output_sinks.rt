@@ -23,7 +23,7 @@ pub(crate) struct OutputFault {
     pub(crate) fault: WriteFault,
 }
 
-/// An output's answer, with the output's name beside the fault.
+/// Returns the answer of an output, with the name of the output in its fault.
 fn named(which: Which, answer: Result<(), WriteFault>) -> Result<(), OutputFault>
     ensures { result ≡ named which answer }
 {
@@ -33,7 +33,7 @@ fn named(which: Which, answer: Result<(), WriteFault>) -> Result<(), OutputFault
     }
 }
 
-/// The bytes of a packet, fewer than 65,536.
+/// Returns the bytes of a packet, which are fewer than 65,536.
 fn bytes_of(packet: &Packet) -> &[u8]
     ensures value { result.now ≡ packet.now }
     ensures short { length result.now < 2 ^ 16 }
@@ -42,7 +42,7 @@ fn bytes_of(packet: &Packet) -> &[u8]
     bytes
 }
 
-/// The vector of an outcome's packet, to be reused once the packet is written.
+/// Returns the vector of an outcome's packet, to be reused once the packet is written.
 pub(crate) fn vector_of(outcome: Outcome) -> Option<Vec<u8>> {
     match outcome {
         Outcome::ToOutside(packet) | Outcome::ToInside(packet) => Some(packet.into_bytes()),
@@ -55,7 +55,7 @@ impl<'a, 'b, W: Sink, V: Sink> Leaving<'a, 'b, W, V> {
     ghost use Rattle.napt_records.specs.Counts.{AreCountsOf};
     ghost use Rattle.napt_run.specs.OutputSinks.{AreTimesSound, SinkBegins, SinkFails, FailsToBegin, IsSettled, SinkTakes};
 
-    /// Over these outputs, before anything is written.
+    /// Returns both captures over these outputs, before anything is written.
     pub(crate) fn into(to_outside: Output<'a, W>, to_inside: Output<'b, V>) -> Leaving<'a, 'b, W, V>
         ensures to_outside { result.to_outside ≡ to_outside.entry }
         ensures to_inside { result.to_inside ≡ to_inside.entry }

@@ -23,13 +23,13 @@ use std::num::NonZeroU32;
 pub(crate) struct RunningLog<'a, 'b, L: Sink> {
     alloc: Global,
     log: LogBuilder<'a>,
-    /// How its text begins, until that is written.
+    /// The beginning of its text, until that is written.
     opening: String,
-    /// How many seconds each of its pieces has, if it has pieces.
+    /// The number of seconds in each of its pieces, if it has pieces.
     each: Option<NonZeroU32>,
     /// Whether another run goes on with it.
     goes_on: bool,
-    /// What is kept of it, once it is closed.
+    /// What is kept of it, after it has been closed.
     left: OpenLog,
     pub(crate) output: Output<'b, L>,
 }
@@ -37,7 +37,7 @@ pub(crate) struct RunningLog<'a, 'b, L: Sink> {
 impl<'a, 'b, L: Sink> RunningLog<'a, 'b, L> {
     ghost use Rattle.napt_run.specs.RunningLogs.{Adds, EntersNot, EntersWith, FailsMore, LogIsAt, IsFlushedAt, ending_with, left_with, opening_before};
 
-    /// A log before its first input, with nothing written yet.
+    /// Returns a log before its first input, with nothing written yet.
     pub(crate) fn over(
         alloc: Global,
         taken: TakenLog<'a>,
@@ -63,7 +63,7 @@ impl<'a, 'b, L: Sink> RunningLog<'a, 'b, L> {
         }
     }
 
-    /// Takes out what is kept of it.
+    /// Returns what is kept of it, and leaves nothing.
     pub(crate) fn take_left(&mut self) -> OpenLog
         ensures left { result ≡ self.old.left }
         ensures output { self.new.output ≡ self.old.output }
@@ -71,7 +71,7 @@ impl<'a, 'b, L: Sink> RunningLog<'a, 'b, L> {
         mem::replace(&mut self.left, OpenLog::none(self.alloc))
     }
 
-    /// Gives its device back.
+    /// Returns its device.
     pub(crate) fn into_device(self) -> &'b mut L
         ensures name { result.ghost_name ≡ self.entry.output.device.ghost_name }
         ensures value { result.now ≡ self.entry.output.device.now }
@@ -85,7 +85,7 @@ impl<'a, 'b, L: Sink> RunningLog<'a, 'b, L> {
         device
     }
 
-    /// Writes how its text begins, and flushes it.
+    /// Writes the beginning of its text, and flushes it.
     pub(crate) fn open(&mut self) -> Result<(), LogRunFault>
         ensures { (from : LoggedOrigin) → LogIsAt from [] self.old →
             Adds from [] (string_bytes self.old.opening) self.old.output result self.new }
@@ -94,8 +94,8 @@ impl<'a, 'b, L: Sink> RunningLog<'a, 'b, L> {
         self.write(&opening)
     }
 
-    /// Writes the rows of what lives at the end, unless another run goes on with it, and flushes them. Then what is kept of
-    /// it is at hand.
+    /// Writes the rows of the bindings that are live at the end, unless another run goes on with the log, and flushes
+    /// them. `take_left` then returns what is kept of it.
     pub(crate) fn close(&mut self) -> Result<(), LogRunFault>
         ensures text { (from : LoggedOrigin) (all : List Did) → LogIsAt from all self.old →
             Adds from all (ending_with from all) self.old.output result self.new }
@@ -107,7 +107,8 @@ impl<'a, 'b, L: Sink> RunningLog<'a, 'b, L> {
         self.write(&text)
     }
 
-    /// Flushes what was written before a run failed, if that still goes. If a capture failed, it is flushed already.
+    /// Flushes what was written before a run failed, if the log itself did not fail. If a capture failed, this has been
+    /// flushed already.
     pub(crate) fn flush_after(&mut self, halt: &LoggingFault<LogRunFault>)
         ensures same { self.new.output.device.ghost_name ≡ self.old.output.device.ghost_name }
         ensures kept { Appends (L.contents self.old.output.device.now)
@@ -164,7 +165,7 @@ impl<'a, 'b, L: Sink> RunningLog<'a, 'b, L> {
         Ok(text)
     }
 
-    /// How a piece begins, if one does with the next input, at this time; else no text.
+    /// Returns the beginning of a piece, if one begins with the next input, at this time; otherwise an empty text.
     #[inline(always)]
     fn piece_opening(&self, now: u64) -> Result<String, AllocError>
         ensures { (from : LoggedOrigin) (before : List Did) → LogIsAt from before self.now →
@@ -179,7 +180,7 @@ impl<'a, 'b, L: Sink> RunningLog<'a, 'b, L> {
     }
 }
 
-/// Whether the log has no row with an input.
+/// Returns whether the log gets no row from an input.
 #[inline(always)]
 fn is_quiet(part: &InputPart) -> bool
     ensures { result ≡ true → part_in part.now ≡ record { ended = []; made = []; refused = [] } }

@@ -16,7 +16,7 @@ use std::alloc::Global;
 use std::sync::Wait;
 use std::thread::Threads;
 
-/// Both captures, past their headers.
+/// Both captures, after their headers.
 #[derive(Drop)]
 struct BothRecords {
     inside: RecordReader,
@@ -56,7 +56,7 @@ impl<
         self.run_behind_headers(inside, outside, records, both)
     }
 
-    /// Runs over the captures, past their headers.
+    /// Runs over the captures, after their headers.
     fn run_behind_headers<R: Source, Q: Source, W: Sink, V: Sink, K: Logging>(
         self,
         inside: &mut R,

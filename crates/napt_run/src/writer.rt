@@ -15,7 +15,7 @@ use napt_capture::Sink;
 /// rows of the bindings that live at the end come last, before the report.
 #[derive(Drop)]
 pub struct LogWriter<'a, L: Sink> {
-    /// The saved entries from which the log goes on, and how it does.
+    /// What the log goes on from, and how.
     pub start: LogStart<'a>,
     pub device: L,
 }

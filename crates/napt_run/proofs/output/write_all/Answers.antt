@@ -1,4 +1,4 @@
--- What a write takes stands behind what is done.
+-- write_all: the bytes that a write accepts follow those that were written before.
 use Rattle.std.proofs.Common.{◌≡◌, ℕ, zero, suc, nat_eq, false, rules, ◌+◌, ◌-◌, ◌≤◌, List, ◌++◌, length, take, drop, Option, Result, Ok, Err, refl, sym, ap, ◌∙◌, subst, arith, length-drop}
 use Rattle.std.{proofs.lemmas.List.take_rest, specs.{Io.{WritesAtMost, KnownBytes.{Appends, WriteAppends}}, Result.result_unwrap_or}}
 use Rattle.std.proofs.KnownBytes.{Appends-trans}

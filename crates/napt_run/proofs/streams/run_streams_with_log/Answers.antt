@@ -1,3 +1,4 @@
+-- run_streams_with_log: the clauses for each device, as one relation over all devices.
 use Rattle.std.proofs.lemmas.Result.{err_from_is_err_and}
 use Rattle.napt_run.specs.LogLaws.{log_unreported}
 use Rattle.napt_run.proofs.{Endings.{left_told, report_failed, report_unbegun, report_written}, Posts.{inside_after, outside_after, reads_after, report_explained}}

@@ -1,3 +1,4 @@
+-- write: the packet becomes a record of the output on its side, and the outcome is counted.
 use Rattle.napt_run.proofs.Leaves.{leaves_inside, leaves_outside}
 use Rattle.napt_run.proofs.output_sinks.Leaving.write.Goals as goal
 

@@ -1,3 +1,4 @@
+-- open: the text that is written is the beginning that the log had.
 use Rattle.std.proofs.Common.{[], ◌∙◌, ap, string_bytes, subst}
 use Rattle.napt_log_text.specs.Times.{TimeText}
 use Rattle.napt_run.specs.RunningLogs.{Adds}

@@ -1,3 +1,4 @@
+-- write: after a fault of the flush the whole text has been written.
 use Rattle.std.proofs.{Common.{List, ℕ, [], subst, append-nil}, lemmas.Result.err_from_is_err_and}
 use Rattle.napt_run.specs.{OutputSinkLaws.breaks_more, Outputs.{Breaks, OutputGrows}}
 use Rattle.napt_run.proofs.running_log.RunningLog.write.Goals as goal

@@ -1,3 +1,4 @@
+-- enter: the rows of one more trace are written; an input without rows writes nothing.
 use Rattle.std.proofs.{Common.{[], sym, ◌∙◌, eqb-true}, lemmas.{List.nil_from_length, Result.err_from_is_err_and}}
 use Rattle.napt_sequential.specs.declared.passage.Trace.{Trace}
 use Rattle.napt_run.{specs.OutputSinkLaws.grows_none, proofs.Entering.{enter_failed, enter_written}}

@@ -1,3 +1,4 @@
+-- begin_and_run: a fault of the headers is one of the outputs; with the headers the run writes whole captures.
 use Rattle.std.proofs.{Common.{Ok, sym, add-zero}, lemmas.Result.err_from_is_err_and}
 use Rattle.napt_run.{specs.{LogRuns.as_run, declared.capture_run.Totals.Totals}, proofs.{BothPassed.unbegun_logs, Headed.{headed, none_read, unheaded}}}
 use Rattle.napt_run.specs.Origins.{origin_of}

@@ -1,3 +1,4 @@
+-- run_behind_headers: the inputs that came are those of the captures, as far as these were read.
 use Rattle.std.proofs.Common.{◌≡◌, ℕ, ◌+◌, List, Option, None, Some, sym, ◌∙◌, ap, subst}
 use Rattle.napt_records.specs.{NewStreams.{IsMergerNew, IsStreamNew}, StreamMergers.IsMergerLive}
 use Rattle.napt_wire.specs.declared.Side.TheVariants as sides

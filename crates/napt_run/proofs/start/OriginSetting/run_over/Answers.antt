@@ -1,3 +1,4 @@
+-- run_over: a header that is refused, or cannot be read, is the fault; otherwise the run begins after both headers.
 use Rattle.std.proofs.{Common.{ℕ, List, Option, add-zero, sym, refl, Err}, lemmas.Result.err_from_is_err_and}
 use Rattle.napt_wire.specs.declared.Side.TheVariants as sides
 use Rattle.napt_records.specs.declared.Fault.TheVariants.{Capture}

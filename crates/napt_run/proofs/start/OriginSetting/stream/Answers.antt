@@ -1,3 +1,4 @@
+-- stream: the devices of both outputs are left as the outputs leave them, with what the result says.
 use Rattle.std.proofs.Common.{sym, ◌∙◌, ap}
 use Rattle.napt_run.proofs.Streamed.{inside_gets, outside_gets, says}
 use Rattle.napt_run.proofs.start.OriginSetting.stream.Goals as goal

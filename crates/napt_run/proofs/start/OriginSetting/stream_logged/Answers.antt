@@ -1,3 +1,4 @@
+-- stream_logged: each clause, for a log that cannot be opened or closed, and for a run that succeeds or fails.
 use Rattle.std.proofs.{Common.{[], List, ℕ, Option, Ok, Err, rules, inl, inr, refl}, lemmas.Result.err_from_is_err_and}
 use Rattle.napt_records.specs.declared.Which.TheVariants as outputs
 use Rattle.napt_run.specs.{LogOrigins.LoggedOrigin, LogRuns.traces_by, Origins.{OriginModel, origin_of}, RunningLogs.{AreLaws, running_log_of}}
@@ -26,7 +27,7 @@ returns-in_err-open g c =
       readings = λ not_run. absurd (not_run stops);
     })
 
--- or not be closed
+-- or the log could not be closed
 pub returns-in_err-close-in-Ok : goal.returns-in_err-close-in-Ok
 returns-in_err-close-in-Ok g c =
     let residual = c.from_residual-in_err-close-in-Ok in
@@ -57,7 +58,7 @@ returns-in_err-close-in-Ok g c =
       readings = λ not_run. absurd (not_run (text_stops fault text));
     })
 
--- all went well
+-- the run succeeded
 pub returns-in_ok-close-in-Ok : goal.returns-in_ok-close-in-Ok
 returns-in_ok-close-in-Ok g c =
     let origin : OriginModel = origin_of c.args.self.start in

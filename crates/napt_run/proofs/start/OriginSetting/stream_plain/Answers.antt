@@ -1,3 +1,4 @@
+-- stream_plain: the clauses of `stream`, with the entries of a log that is not kept.
 use Rattle.std.proofs.Common.{◌≡◌, ◌∙◌, ap, inl, []}
 use Rattle.napt_run.specs.{LogRuns.as_run, Logs.with_log, Posts.{FaultPost, IsBeforeReport}, Runs.IsToldOf, Streams.{Explains, IsStopFault}}
 use Rattle.napt_run.proofs.{Endings.closed, Posts.{end_with, err_both, err_with, inside_post, kept_with, on_any, outside_post, plain_fault, reads_post, told_with}}

@@ -1,3 +1,4 @@
+-- stream_to: the clauses of `stream_logged`, with what is kept of the log, and those of a log that cannot be begun.
 use Rattle.std.proofs.{Common.{◌≡◌, ◌∙◌, OnOk, ap, rules, subst, sym}, lemmas.Result.err_from_is_err_and}
 use Rattle.napt_run.specs.{LoggedStreams.{LogIsKept, IsLoggedStop, LoggedExplains}, LogOrigins.log_origin, Logs.{unified, with_log}, Origins.origin_of, Posts.{FaultPost, IsBeforeReport, IsDone, SinkPost}, Runs.IsToldOf, Streams.stream_ended}
 use Rattle.napt_records.specs.declared.Which.TheVariants.{Log}
@@ -48,7 +49,7 @@ returns-clause-reads g c = rw (end_with _ _ _ (is g c))
     (unified_reads g.R.Source.failed g.Q.Source.failed _ _ _ _ c.stream_logged-told.result
     c.stream_logged-told.ensures.readings)
 
--- the device of the log is given back as it is left
+-- the device of the log is returned as the log leaves it
 given : (g : Over) (c : After-with_log g) →
     c.stream_logged-told.new.log.output.device.ghost_name ≡ c.over-running.result.output.device.ghost_name →
     c.log-1.given.0 ≡ c.stream_logged-told.new.log.output.device.now
