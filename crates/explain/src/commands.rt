@@ -78,7 +78,8 @@ const RESUMED: &str =
 #[derive(Drop)]
 pub struct CommandTexts {
     pub list: Vec<String>,
-    /// Whether the words named the command. If not, it is `show` with the outputs of `napt` and the log of `stream`.
+    /// Whether the words named the command. If not, the command is `show`, which then also has the options for the
+    /// outputs of `napt` and the log of `stream`.
     is_named: bool,
 }
 

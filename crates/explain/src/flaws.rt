@@ -58,7 +58,7 @@ struct Stamp {
 }
 
 impl StepBack {
-    /// Returns no step, after a state of this time, in ns, which is 0 for a run that begins anew.
+    /// Returns no step, after a state of this time, in ns, which is 0 for a new run.
     pub fn from_state(time: u64) -> StepBack {
         StepBack {
             latest: Stamp { number: 0, time },

@@ -45,7 +45,7 @@ fn main(rt: HostRuntime) -> ExitCode {
     }
 }
 
-/// Runs the command of the command line, under the name of the program in it.
+/// Runs the command of the command line, under the program's name in it.
 fn called(rt: &HostRuntime, streams: StandardStreams) -> Result<(), Exit> {
     let call = ProgramCall::of(rt, streams, OWN.name);
     match call.as_called(rt, INSTALLED.name) {

@@ -36,7 +36,7 @@ pub struct ExplainOptions<'m> {
 }
 
 impl<'m> ExplainOptions<'m> {
-    /// The files of `napt`, with what the option of the outside capture is called here.
+    /// Returns the files of `napt`, with the name that the option of the outside capture has here.
     pub fn named(&self) -> NamedFiles<'_> {
         NamedFiles {
             files: &self.files,
@@ -295,7 +295,7 @@ fn asked_of<'m, R: Eprint>(rt: &R, matches: &'m ArgMatches<'_>) -> Result<Output
     }
 }
 
-/// The files that an argument names.
+/// Returns the files that an argument names.
 fn paths_of(
     alloc: Global,
     matches: &ArgMatches<'_>,
@@ -308,7 +308,7 @@ fn paths_of(
     Ok(paths)
 }
 
-/// The files that the options of `napt` name.
+/// Returns the files that the options of `napt` name.
 fn files_of(
     alloc: Global,
     matches: &ArgMatches<'_>,

@@ -156,7 +156,7 @@ fn start_under<'a, R: Eprint + AllocGlobal>(
     }
 }
 
-/// The same without accounts, once more.
+/// Returns a copy of the contents without accounts.
 fn copied(alloc: Global, saved: &StateFileContents) -> Result<StateFileContents, AllocError>
     ensures { IfOk result HasAccounts }
 {
@@ -190,8 +190,8 @@ fn refuse_shared<R: Eprint + AllocGlobal>(
     )
 }
 
-/// Refuses standard input for more than one of the configurations, the requests and the pieces of a log, or for one if
-/// another file has it, and prints why, with what names such a file.
+/// Refuses standard input for more than one of the configurations, the requests and the pieces of a log, or for one of
+/// them if another file uses it. Prints why, with the option that names such a file.
 fn refuse_more_input<R: Eprint + AllocGlobal>(
     rt: &R,
     options: &ExplainOptions<'_>,

@@ -1,4 +1,4 @@
-//! Who had an external endpoint, and when: what the commands `who`, `log` and `blocks` of `explain` print, from a run,
+//! Who had an external endpoint, and when. The commands `who`, `log` and `blocks` of `explain` print this, from a run,
 //! from a saved log, or from the blocks of a configuration.
 #![tactic(auto)]
 

@@ -1,5 +1,5 @@
-//! A log that `log` wrote, read again. docs/FORMATS.md describes the order of its rows; `napt_log_text` reads each. Only the
-//! entries that are asked about and those without an end are kept.
+//! Reads a log that `log` wrote. docs/FORMATS.md describes the order of its rows, and `napt_log_text` reads each row.
+//! Only the entries that are asked about and those without an end are kept.
 
 use crate::requests::HolderRequest;
 use crate::wanted_endpoints::WantedEndpoints;
@@ -16,12 +16,12 @@ use std::io::{BufReader, ErrorKind, Read};
 use std::rt::Files;
 use std::{fmt, io};
 
-/// What a saved log says of the bindings that are asked about.
+/// What a saved log says about the bindings that are asked about.
 #[derive(Drop)]
 pub struct SavedBindings {
-    /// One for each of them, in the order in which they were made, without its counts and its last use.
+    /// The entry of each of them, in the order in which they were made, without its counts and its last use.
     pub entries: Vec<Entry>,
-    /// The log has every binding from this time on, and until `last`, in ns.
+    /// The time, in ns, from which on the log has every binding, until `last`.
     pub first: u64,
     pub last: u64,
 }
@@ -35,7 +35,7 @@ struct Rows {
     wanted: WantedEndpoints,
     /// The entries without an end, by the numbers of their bindings.
     open: BTreeMap<u64, Entry>,
-    /// The numbers of those that the piece has neither repeated nor ended, by their external endpoints.
+    /// The numbers of the entries that the piece has neither repeated nor ended, by their external endpoints.
     unrepeated: BTreeMap<ExternalEnd, u64>,
     /// The entries with an end that are asked about.
     ended: Vec<LogEntry>,
@@ -85,8 +85,8 @@ impl<T: Drop> From<AllocFailed<T>> for RowFault {
     }
 }
 
-/// Reads of the log whose pieces have these paths, in their order, what is asked about. Why it is refused is reported, and
-/// that the last row of a piece breaks off: that row is left out.
+/// Reads what is asked about from the log whose pieces have these paths, in their order. Prints why the log is refused,
+/// or that the last row of a piece breaks off, in which case that row is ignored.
 pub fn read_saved<R: Files + Input + Eprint + AllocGlobal>(
     rt: &R,
     asked: &[HolderRequest],
@@ -111,7 +111,7 @@ pub fn read_saved<R: Files + Input + Eprint + AllocGlobal>(
 #[derive(Clone, Copy)]
 struct Piece<'p, 'c> {
     path: &'p str,
-    /// The path of the piece before it. Without one, it has to begin with the names of the fields.
+    /// The path of the piece before it. The first piece has to begin with the names of the fields.
     previous: Option<&'p str>,
     /// The configuration of the run, if it is known.
     config: Option<&'c Config>,
@@ -165,7 +165,7 @@ impl Piece<'_, '_> {
         Ok(())
     }
 
-    /// Adds a row after the names, and returns that more may follow.
+    /// Adds a row after the names of the fields, and returns that more may follow.
     fn add_row(self, rows: &mut Rows, row: &LogRow) -> Result<bool, RowFault> {
         match rows.take(row)? {
             Some(made) if self.is_elsewhere(&made) => Err(RowFault::Elsewhere(made)),
@@ -182,7 +182,8 @@ impl Piece<'_, '_> {
         config.is_some_and(|it| it.host_of(address, number) != Some(binding.inside.address))
     }
 
-    /// Prints why the log is refused or the last row left out. Of the former it returns how the program stops.
+    /// Prints why the log is refused, or that the last row is ignored. If the log is refused, returns how the program
+    /// stops.
     fn tell_refused<R: Eprint>(self, rt: &R, refused: &SavedLogRefusal) -> Result<(), Exit> {
         let (path, SavedLogRefusal { row, fault }) = (self.path, refused);
         if let RowFault::Saved(LogFileFault::Unread(error)) = fault
@@ -259,7 +260,7 @@ impl Rows {
     /// Begins a piece with the names of the fields, which has to repeat or end each entry without an end.
     fn begin_piece(&mut self) -> Result<(), RowFault> {
         for (number, entry) in &self.open {
-            // two at one external endpoint: the end of the first one is missing
+            // two bindings at one external endpoint: the end of the first one is missing
             if let Some(first) = self.unrepeated.insert(end_of(&entry.binding), *number)? {
                 return Err(RowFault::Unrepeated(first));
             }
@@ -267,7 +268,7 @@ impl Rows {
         Ok(())
     }
 
-    /// Ends a piece, whose rows are all there.
+    /// Ends a piece after its last row.
     fn end_piece(&mut self) -> Result<(), RowFault> {
         match self.unrepeated.values().min() {
             Some(number) => Err(RowFault::Unrepeated(*number)),
@@ -299,7 +300,7 @@ impl Rows {
         })
     }
 
-    /// Takes a row after the names. Returns the binding that it makes, if it makes one.
+    /// Handles a row after the names of the fields. Returns the binding that it makes, if it makes one.
     fn take(&mut self, row: &LogRow) -> Result<Option<Row>, RowFault> {
         match row.event {
             LogField::Number(8) => {
@@ -343,8 +344,8 @@ impl Rows {
         Ok(at)
     }
 
-    /// Begins the entry of a binding, unless the piece repeats it. One that it replaces, of the same external endpoint, ends:
-    /// of a log that begins new entries in a new file, no row ends the ones before.
+    /// Begins the entry of a binding, unless the piece repeats it. If it replaces an entry of the same external
+    /// endpoint, that one ends: if a log begins new entries in a new file, no row ends the earlier ones.
     fn make(&mut self, row: &LogRow, binding: Row) -> Result<(), RowFault> {
         let unrepeated = match self.unrepeated.is_empty() {
             true => None,
@@ -398,7 +399,7 @@ impl Rows {
         Ok(given)
     }
 
-    /// Takes a binding that is live at the end of the log, with the time at which it ends if no packet arrives. A
+    /// Records a binding that is live at the end of the log, with the time at which it ends if no packet arrives. A
     /// redirect does not end.
     fn live_on(&mut self, row: &LogRow, binding: Row) -> Result<(), RowFault> {
         match row.time {
@@ -423,7 +424,7 @@ impl Rows {
         self.close(number, end)
     }
 
-    /// Ends the entry of a number, and keeps it if it is asked about.
+    /// Ends the entry with a number, and keeps it if it is asked about.
     fn close(&mut self, number: u64, end: u128) -> Result<(), RowFault> {
         if let Some(mut entry) = self.open.remove(&number)
             && self.wanted.has(entry.binding.external)
@@ -434,7 +435,7 @@ impl Rows {
         Ok(())
     }
 
-    /// The entry of a binding, if a row above made it and none ended it, and its number.
+    /// Returns the entry of a binding and its number, if an earlier row made it and none ended it.
     fn open_entry(&self, number: LogField, binding: Row) -> Option<(u64, &Entry)> {
         let LogField::Number(number) = number else {
             return None;
@@ -445,13 +446,13 @@ impl Rows {
     }
 }
 
-/// The protocol and the external endpoint of a binding.
+/// Returns the protocol and the external endpoint of a binding.
 fn end_of(binding: &Row) -> ExternalEnd {
     let Endpoint { address, number } = binding.external;
     (binding.protocol, address, number)
 }
 
-/// Returns the fault of a row that is not one of a log: what was expected.
+/// Returns the fault of a line that is not a row of a log: what was expected.
 fn wrong(why: &'static str) -> RowFault {
     RowFault::Saved(LogFileFault::Wrong(why))
 }

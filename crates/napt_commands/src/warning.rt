@@ -3,8 +3,8 @@
 use crate::loss_counts::LossCounts;
 use crate::outside_capture::OutsideCapture;
 
-/// Prints that the captures are swapped, or that many packets from outside were dropped, what that says of the captures,
-/// and what to do. `under` names the configuration, where there are several.
+/// Prints that the captures are swapped, or that many packets from outside were dropped, what that says about the
+/// captures, and what to do. `under` names the configuration, if there are several.
 pub fn print_warning<R: Eprint>(
     rt: &R,
     outside: OutsideCapture,

@@ -33,8 +33,8 @@ pub fn answer_line(rt: &impl Print, fault: LineFault) -> Result<(), Stop>
     }
 }
 
-/// Prints on standard error that the log lists all bindings of the state anew, at the state's
-/// clock, in ns. Fails only if memory is refused.
+/// Prints on standard error that the log begins a new entry for each binding of the state, at the state's clock, in ns.
+/// Fails only if memory is refused.
 pub fn print_new_entries(
     rt: &impl Eprint,
     alloc: Global,
@@ -122,8 +122,8 @@ impl ProgramCall {
         }
     }
 
-    /// Prints in a line after the fault line why the program stopped, if that is requested, or
-    /// where help is; what a run must not write after in a log is printed in any case.
+    /// Prints in a line after the fault line why the program stopped, if that is requested, or where help is. Why a run
+    /// must not append to a log is printed in any case.
     fn print_reason(self, rt: &impl Eprint, stop: Stop, reason: &StopReason) {
         if !self.is_heard {
             return;
@@ -137,7 +137,7 @@ impl ProgramCall {
         };
     }
 
-    /// Warns that the state's bindings have no accounts, so that the log lists all of them anew, at
+    /// Warns that the state has no accounts of its bindings, so that the log begins a new entry for each of them, at
     /// the state's clock, in ns. Fails only if memory is refused.
     pub fn print_new_entries(
         self,
@@ -173,8 +173,8 @@ impl ProgramCall {
         Ok(())
     }
 
-    /// Prints what the captures show against themselves: that they seem to be swapped, and which
-    /// end inside a record.
+    /// Prints what seems to be wrong with the captures: that they seem to be swapped, and which of them end inside a
+    /// record.
     pub fn print_flaws<S, Q>(
         self,
         rt: &impl Eprint,

@@ -17,7 +17,7 @@ const INPUT: &str = "/dev/stdin";
 
 const OUTPUT: &str = "/dev/stdout";
 
-/// What names the file of a state that is saved, and the new file beside it.
+/// What names the file of a state that is saved, and the new file next to it.
 const SAVE: &str = "--save";
 
 const BY_NEW: &str = "--save, by way of";

@@ -25,7 +25,7 @@ pub struct ResumedState {
     pub state: State,
     /// What the state keeps of its log; nothing if there was no log.
     pub saved: SavedLogState,
-    /// Where its log ends; all is 0 if there was none in a file.
+    /// Where its log ends; every number is 0 if there was none in a file.
     pub log: LogEnd,
 }
 

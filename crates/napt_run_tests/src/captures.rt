@@ -187,7 +187,7 @@ pub(crate) fn push_packet(
     text.extend_from_slice(bytes)
 }
 
-/// Returns those of the thousand inputs that arrive in this range, in microseconds, as a capture of the inside.
+/// Returns the capture of the inside with those of the thousand inputs that arrive in this range, in microseconds.
 pub(crate) fn sent_in(alloc: Global, times: &Range<u32>) -> Result<Vec<u8>, AllocError> {
     let mut text = Vec::from_slice(alloc, &HEADER)?;
     for input in &thousand_inputs(alloc)? {
@@ -199,8 +199,9 @@ pub(crate) fn sent_in(alloc: Global, times: &Range<u32>) -> Result<Vec<u8>, Allo
     Ok(text)
 }
 
-/// Returns those of a hundred replies that arrive in this range, in microseconds. The resolver sends them to the
-/// external endpoints of the thousand inputs in turn, one in each 10 ms, at the times of inside packets.
+/// Returns the capture of the outside with those of a hundred replies that arrive in this range, in microseconds. The
+/// resolver sends them to the external endpoints of the thousand inputs in turn, one every 10 ms, at the times of
+/// inside packets.
 pub(crate) fn replies_in(alloc: Global, times: &Range<u32>) -> Result<Vec<u8>, AllocError> {
     let mut text = Vec::from_slice(alloc, &HEADER)?;
     for k in 0..100u16 {

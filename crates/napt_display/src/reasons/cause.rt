@@ -2,14 +2,14 @@
 
 use napt_wire::Cause;
 
-/// What is said of a cause.
+/// The texts about a cause.
 #[derive(Clone, Copy)]
 pub struct CauseText {
     /// The cause in words.
     pub meaning: &'static str,
     /// What to do if many packets are dropped for it.
     pub advice: Option<&'static str>,
-    /// The same of replies, if that is not what it is for other packets.
+    /// The same for replies, if it differs from that for other packets.
     pub advice_of_replies: Option<&'static str>,
 }
 
@@ -30,7 +30,7 @@ impl CauseText {
         }
     }
 
-    /// What is said of a cause.
+    /// Returns the texts about a cause.
     pub fn of(cause: Cause) -> CauseText {
         match cause {
             Cause::Truncated => CauseText::with(
