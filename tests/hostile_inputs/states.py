@@ -27,9 +27,9 @@ ENTRY = re.compile(rf"entry ({NUMBER}) {ROW} ({NUMBER}) (0|[1-9][0-9]{{0,38}}|ne
 EARLIER_LAST = re.compile(f"end ({NUMBER}) ({NUMBER}) ({NUMBER})")
 MOST, MOST_COUNT, MOST_END = 2**64 - 1, 2**61, 2**128 - 1
 # of a state that has no accounts of its bindings
-BEGUN = "{}: the log lists all bindings of the state anew, at {}: the run before had no log\n"
+BEGUN = "{}: the log begins a new entry for each binding of the state, at {}: the run before had no log\n"
 # of packets that are earlier than the state
-BEFORE = "{}: a packet is of {}, earlier than the state's time, {}: until then packets count as at that time, and no timer ends\n"
+BEFORE = "{}: a packet of {} is earlier than the state's time, {}: until then packets count as if they came at that time, and no timer ends\n"
 
 
 class Refused(Exception):

@@ -72,7 +72,7 @@ const NOT_WRITTEN: &str =
     "Never written: accepted as an option of napt or stream, and refused if that would refuse it";
 
 const RESUMED: &str =
-    "State from which the run goes on, as napt and stream save it [default: the run begins anew]";
+    "State from which the run goes on, as napt and stream save it [default: a new run]";
 
 /// The words of a call: the program's name first, and then always a command.
 #[derive(Drop)]

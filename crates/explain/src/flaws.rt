@@ -95,7 +95,7 @@ impl StepBack {
         self.tell_step(rt);
         if form.asks_times() {
             let _ = eprintln!(rt;
-                "  answers cover that much more time than was asked about, with all who had the endpoint then"
+                "  each answer covers this much more time than was asked about, and names everybody who had the endpoint then"
             );
         }
         if self.far <= SECOND {

@@ -86,8 +86,8 @@ impl<'m> ExplainOptions<'m> {
     /// Returns why a state is refused whatever it contains, if it is.
     fn why_anew(&self) -> Option<&'static str> {
         match (self.form, self.outside) {
-            (OutputForm::Blocks, _) => Some("blocks are of the configuration alone"),
-            (_, OutsideCapture::Replies) => Some("replies follow a run that begins anew"),
+            (OutputForm::Blocks, _) => Some("blocks depend on the configuration alone"),
+            (_, OutsideCapture::Replies) => Some("replies can only follow a new run"),
             _ if self.files.is_stream(FileRole::Resume) => Some(NO_FILE),
             _ => None,
         }

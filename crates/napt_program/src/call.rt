@@ -44,7 +44,7 @@ pub fn print_new_entries(
     let mut date = String::new(alloc);
     TimeStamp(u128::from(clock)).add_date(&mut date)?;
     let _ = eprintln!(rt;
-        "{name}: the log lists all bindings of the state anew, at {date}: the run before had no log"
+        "{name}: the log begins a new entry for each binding of the state, at {date}: the run before had no log"
     );
     Ok(())
 }
@@ -133,7 +133,7 @@ impl ProgramCall {
             (Stop::LogFile(refusal), _) => eprintln!(rt; "  the log {refusal}"),
             _ if !reason.is_requested => Ok(()),
             (_, Some(text)) => eprintln!(rt; "{name}: {text}"),
-            _ => eprintln!(rt; "  {name} --help tells what it takes, and what each line means"),
+            _ => eprintln!(rt; "  {name} --help lists the options and the meaning of each line"),
         };
     }
 
@@ -168,7 +168,7 @@ impl ProgramCall {
         TimeStamp(u128::from(clock)).add_date(&mut dated)?;
         let name = self.name;
         let _ = eprintln!(rt;
-            "{name}: a packet is of {date}, earlier than the state's time, {dated}: until then packets count as at that time, and no timer ends"
+            "{name}: a packet of {date} is earlier than the state's time, {dated}: until then packets count as if they came at that time, and no timer ends"
         );
         Ok(())
     }
@@ -221,10 +221,10 @@ impl fmt::Display for LogRefusal {
     fn fmt<W: fmt::Write>(&self, f: &mut fmt::Formatter<W>) -> fmt::Result {
         match self {
             LogRefusal::Anew => f.write_str(
-                "has text or pieces, and this run begins anew: name a new file, or go on with --resume",
+                "has text or pieces, and this run starts without a state: name a new file, or use --resume",
             ),
             LogRefusal::Untold => f.write_str(
-                "has text, and the state tells of no log in a file: name a new file",
+                "has text, but the state records no log in a file: name a new file",
             ),
             LogRefusal::Another(bytes) => write!(
                 f,
@@ -232,11 +232,11 @@ impl fmt::Display for LogRefusal {
             ),
             LogRefusal::Piece(number) => write!(
                 f,
-                "does not end with piece {number} as the state has it: move later pieces away, or name a new file"
+                "does not end with piece {number} as the state records it: move later pieces away, or name a new file"
             ),
             LogRefusal::Longer(bytes) => write!(
                 f,
-                "goes on behind the {bytes} bytes that the state tells of: cut it there (truncate -s {bytes}), or name a new file"
+                "goes on after the {bytes} bytes that the state records: cut it there (truncate -s {bytes}), or name a new file"
             ),
         }
     }

@@ -109,7 +109,7 @@ fn capture_text(
     fault: CaptureFault,
 ) -> Result<String, AllocError> {
     format!(in alloc;
-        "{name} {path}: {fault}; explain with the same words prints what it is, and what to do"
+        "{name} {path}: {fault}; explain with the same arguments prints what it is and what to do"
     )
 }
 
@@ -160,9 +160,9 @@ pub fn misfit_reason(misfit: Misfit) -> &'static str {
         Misfit::NotInside => "its host is in no prefix of inside",
         Misfit::NotPaired => "the configuration gives its host another external address",
         Misfit::NotItsNumber =>
-            "a number of it is 0, or its external one is not of its host's block",
-        Misfit::UsedLater => "it, or a flow of it, was used after the time of the state",
-        Misfit::FlowsShare => "two of its flows are of one remote endpoint",
+            "one of its numbers is 0, or its external number is not in its host's block",
+        Misfit::UsedLater => "it or one of its flows was used after the state's time",
+        Misfit::FlowsShare => "two of its flows have the same remote endpoint",
         Misfit::Redirected => "a redirect of the configuration has one of these endpoints",
         Misfit::Shared => "another binding of the state has one of these endpoints",
     }

@@ -127,7 +127,7 @@ fn add_form(
         FileForm::Unknown => {
             let command = splitting.command;
             let text = format!(in alloc;
-                "save it as pcap or pcapng; {command} makes of it what napt reads"
+                "save it as pcap or pcapng; {command} then makes the captures that napt reads"
             );
             add(reasons, "do", text)
         }
@@ -178,7 +178,7 @@ fn form_text(alloc: Global, form: FileForm) -> Result<String, AllocError> {
         FileForm::Pcapng => String::from_str(alloc, "pcapng"),
         FileForm::Gzip => String::from_str(alloc, "compressed by gzip"),
         FileForm::Unread => String::from_str(alloc, "a folder, or a file or device that failed"),
-        FileForm::Unknown => String::from_str(alloc, "no capture that is known here"),
+        FileForm::Unknown => String::from_str(alloc, "not a capture of a known form"),
         FileForm::Pcap(spelling, link) => pcap_text(alloc, spelling, link),
     }
 }

@@ -42,7 +42,7 @@ impl CauseText {
                 "IPv6 and ARP are not translated; else link headers or a VLAN tag were left in the capture, or cut twice",
             ),
             Cause::BadHeader => CauseText::with(
-                "a length in a header that cannot be",
+                "an impossible length in a header",
                 "link headers were cut at the wrong place, or the card leaves total lengths 0: switch its offload off",
             ),
             Cause::BadChecksum => CauseText::with(
@@ -57,7 +57,7 @@ impl CauseText {
                 "neither UDP nor TCP, an ICMP message that is not translated, or an echo to the pool",
             ),
             Cause::BadInner => CauseText::new(
-                "an ICMP error that quotes too little, or what nobody here sent",
+                "an ICMP error that quotes too little, or a packet that nobody here sent",
             ),
             Cause::BadPort => CauseText::new("a port 0"),
             Cause::Spoofed => CauseText::with(
