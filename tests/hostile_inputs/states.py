@@ -63,7 +63,7 @@ class Held:
 
 
 def place_of(made, text, piece=0):
-    """Where a log of so many entries ends that has this text."""
+    """Where a log of this number of entries ends that has this text."""
     last = text.splitlines()[-1] if text else b""
     return Place(made, piece, len(text), row_hash(last)) if text else Place(made)
 
@@ -229,7 +229,7 @@ def read(data):
         while not is_last:
             number += 1
             line = lines[number - 1].decode()
-            # what stands behind the last end of a line is no line
+            # what follows the last line feed is not a line
             if number == len(lines):
                 raise ValueError
             if number == 1:
@@ -295,7 +295,7 @@ def misfit(rules, state, kept):
     fixed, behind, found = set(), set(), None
     for protocol, inside, external in rules.redirects:
         fixed |= {(PROTOCOLS[protocol], "inside", inside), (PROTOCOLS[protocol], "external", external)}
-    # each with those behind it
+    # each with those after it
     for it in reversed(kept):
         wrong = [word for word, holds in misfits(rules, it, state.clock, fixed, behind) if holds]
         found = wrong[0] if wrong else found
@@ -342,8 +342,8 @@ def seen(rules, data):
 
 def run(rules, data, inside, outside, log=None, each=None, piece=0):
     """What a run from a state's text, or None, leaves over two captures, by the names of outputs: the captures, the report and the text
-    of the state; of a run beside a log, of whose file this is the text, that of the file, the rows of what lives behind it, and whether
-    entries are begun of all bindings that are there. A log in pieces of so many seconds, the first with the number after that of one
+    of the state; of a run with a log, of whose file this is the text, that of the file, the rows of what lives after it, and whether
+    entries are begun of all bindings that are there. A log in pieces of this number of seconds, the first with the number after that of one
     that is there, leaves those before its last one too."""
     state = read(data) if data is not None else State()
     translator = taken_up(rules, state, Translator if log is None else functools.partial(Logger, each=each))
@@ -363,12 +363,12 @@ def run(rules, data, inside, outside, log=None, each=None, piece=0):
 
 
 def begun_line(name, data):
-    """What a program says where it begins the entries of a state's text anew."""
+    """What a program says if it begins new entries for a state's text."""
     return BEGUN.format(name, dated(read(data).clock))
 
 
 def earlier_line(name, clock, times):
-    """What stream says of the first packets of its captures, which have these times, behind a state of this clock: it reads the inside
+    """What stream says of the first packets of its captures, which have these times, after a state of this clock: it reads the inside
     capture first."""
     early = [time for time in times if time < clock]
     return BEFORE.format(name, dated(early[0]), dated(clock)) if early else ""

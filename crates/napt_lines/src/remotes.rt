@@ -79,8 +79,8 @@ impl Remotes {
     pub fn tell_astray<R: Eprint>(&self, rt: &R) -> Exit {
         let (astray, answers, first) = (self.astray, self.answers, self.first_astray);
         let _ = eprintln!(rt;
-            "explain: these captures are of a gateway with other numbers: {astray} of {answers} answers from outside, packet \
-{first} the first, do not find here who asked for them (--as-napt tells of the run of napt)"
+            "explain: the captured gateway used other numbers: {astray} of {answers} answers from outside, the first of them packet \
+{first}, do not reach the host that asked for them (--as-napt answers from the run of napt)"
         );
         Exit::Others
     }
