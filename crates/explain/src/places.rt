@@ -89,8 +89,7 @@ pub fn refuse_written<R: Files + Eprint + AllocGlobal>(
     }
 }
 
-/// Returns whether a file that `explain` is to write cannot be written, and prints why. A log is not written over a
-/// file that has text.
+/// Returns whether a file that `explain` is to write cannot be written, and prints why. A log never replaces text.
 fn tells_unwritable<R: Files + Eprint + AllocGlobal>(
     rt: &R,
     options: &ExplainOptions<'_>,

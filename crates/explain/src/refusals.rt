@@ -45,8 +45,7 @@ pub fn tell_state<R: Eprint>(rt: &R, path: &str, fault: &StateFault) -> Exit {
     Exit::Told(stop_of_state(fault))
 }
 
-/// Prints which binding of the state at a path the configuration does not accept, and why, and returns how `napt` would
-/// stop.
+/// Prints which binding of the state at a path the configuration refuses, and why, and returns how `napt` would stop.
 pub fn tell_binding<R: Eprint>(rt: &R, path: &str, row: Row, misfit: Misfit) -> Exit {
     let refusal = StateRefusal::Binding(misfit);
     let (name, protocol) = (StateRefusalName(refusal), protocol_name(row.protocol));

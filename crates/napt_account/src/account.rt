@@ -38,8 +38,7 @@ pub struct Account {
 pub struct SavedLogState {
     /// The number of entries that the log has so far.
     pub made: u64,
-    /// The accounts of the bindings of the state, in their order; `None` for a binding without an open entry. Bindings
-    /// past the last account have none.
+    /// The accounts of the state's bindings, in their order; a binding without an open entry has none.
     pub accounts: Vec<Option<Account>>,
 }
 
@@ -84,8 +83,7 @@ impl Account {
         }
     }
 
-    /// Returns whether its number is from 1 to `made`, its binding was made by a time, in ns, and its counts may be
-    /// saved.
+    /// Returns whether its number is from 1 to `made`, it was made by a time, in ns, and its counts may be saved.
     fn is_within(self, made: u64, clock: u64) -> bool
         ensures { result ≡ starts.is_account made clock self }
     {
@@ -105,8 +103,7 @@ impl SavedLogState {
         }
     }
 
-    /// Returns whether a binding of a state, not a redirect, is live under a configuration, while no binding has an
-    /// account.
+    /// Returns whether no binding of a state has an account, although one other than a redirect is live.
     pub fn lacks_all(&self, config: &Config, state: &State) -> bool {
         let (timers, now) = (config.timers(), u128::from(state.clock));
         let mut lives = false;

@@ -20,8 +20,7 @@ use napt_table::TimedRow;
 use std::alloc::{AllocError, Global};
 use std::collections::HashSet;
 
-/// The greatest number of bindings with which a log begins. No state has more, since its external endpoints are
-/// distinct.
+/// The greatest number of bindings with which a log begins. No state has more, as external endpoints are distinct.
 const MOST_BINDINGS: usize = 2_305_843_009_213_693_952;
 
 /// A log that begins at a state, and what this adds to its text before the first input.

@@ -89,8 +89,7 @@ fn end_key(numbered: LogEntry) -> EndKey
     }
 }
 
-/// Returns when an entry with this end is checked next, in ns: at `was`, the time at which it is queued, or at its end
-/// if that is sooner.
+/// Returns when an entry with this end is checked next, in ns: at its time `was` in the queue, or at an earlier end.
 fn due_by(was: Option<u64>, end: Option<u128>) -> Option<u64>
     ensures early { (time : ℕ) → time < unwrap_or result (2 ^ 64) → is_before time end ≡ true }
     ensures first { was ≡ None → (time : ℕ) → is_before time end ≡ true →

@@ -182,8 +182,7 @@ impl Piece<'_, '_> {
         config.is_some_and(|it| it.host_of(address, number) != Some(binding.inside.address))
     }
 
-    /// Prints why the log is refused, or that the last row is ignored. If the log is refused, returns how the program
-    /// stops.
+    /// Prints why the log is refused, or that the last row is ignored. If it is refused, returns how the program stops.
     fn tell_refused<R: Eprint>(self, rt: &R, refused: &SavedLogRefusal) -> Result<(), Exit> {
         let (path, SavedLogRefusal { row, fault }) = (self.path, refused);
         if let RowFault::Saved(LogFileFault::Unread(error)) = fault

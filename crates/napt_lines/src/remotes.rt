@@ -1,5 +1,5 @@
-//! Finds packets from outside that answer packets which left just before. Only the remotes of the last minutes are
-//! kept, and those of live bindings.
+//! Finds packets from outside that answer packets which left just before. Only the remotes of the last minutes and
+//! those of live bindings are kept.
 
 use napt_account::LogNote;
 use napt_commands::{Exit, LossCounts, RunPacket, destination_of, source_of};
@@ -41,8 +41,7 @@ pub struct Remotes {
     of_bindings: BTreeMap<u64, Vec<Remote>>,
     /// The number of answers among the packets that found no binding or were not for the gateway.
     unmet_answers: u64,
-    /// The number of answers for an address of the gateway, and how many of them found no binding, or one that had not
-    /// asked.
+    /// The number of answers for the gateway, and how many of them found no binding, or one that had not asked.
     answers: u64,
     astray: u64,
     /// The number of the first packet that `astray` counts, or 0.

@@ -21,8 +21,7 @@ pub fn add_opening(config: &Config, log: &OpenLog, text: &mut String) -> Result<
     add_made(config, &log.entries, text)
 }
 
-/// Appends the rows that a log gets before the first input: those of entries that end, and of new ones. Fails only if
-/// memory is refused.
+/// Appends the rows of entries that end, and of new ones, before the first input. Fails only if memory is refused.
 pub fn add_first(
     config: &Config,
     ended: &[LogEntry],
@@ -48,9 +47,8 @@ pub fn add_part(config: &Config, part: &InputPart, text: &mut String) -> Result<
     add_refused(config, &part.refused, text)
 }
 
-/// Whether a log in pieces of `each` seconds begins a new piece with an input: the clock, in ns, passes a multiple of
-/// them from `last` to `now`. A log in one piece begins none, and neither does the first input of a run, which has no
-/// `last`.
+/// Whether a log in pieces of `each` seconds begins a new piece with an input: from `last` to `now`, in ns, the clock
+/// passes a multiple of them. A log in one piece begins none, nor does the first input of a run, which has no `last`.
 #[inline(always)]
 pub fn begins_piece(each: Option<NonZeroU32>, last: Option<u64>, now: u64) -> bool
     ensures { result ≡ logs.begins_piece (option_map non_zero_u32_get each) last now }
@@ -62,8 +60,7 @@ pub fn begins_piece(each: Option<NonZeroU32>, last: Option<u64>, now: u64) -> bo
     last / length < now / length
 }
 
-/// Appends the end of a log: a row without an event for each binding that is live then. Fails only if memory is
-/// refused.
+/// Appends the end of a log: a row without an event for each live binding. Fails only if memory is refused.
 pub fn add_living(config: &Config, living: &[LogEntry], text: &mut String) -> Result<(), AllocError>
     ensures { OnOk result (string_bytes text.new ≡ string_bytes text.old
         ++ logs.living_rows config.now living.now) }

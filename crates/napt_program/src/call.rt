@@ -173,8 +173,7 @@ impl ProgramCall {
         Ok(())
     }
 
-    /// Prints what seems to be wrong with the captures: that they seem to be swapped, and which of them end inside a
-    /// record.
+    /// Prints that the captures seem to be swapped, and which of them end inside a record.
     pub fn print_flaws<S, Q>(
         self,
         rt: &impl Eprint,

@@ -78,8 +78,7 @@ impl KeptTexts {
 
     /// Writes all bytes, and flushes them. It takes no memory.
     ///
-    /// Fails if a write fails or accepts nothing, or a flush fails. Exactly the first `written` bytes have then been
-    /// written.
+    /// Fails if a write fails or accepts nothing, or a flush fails. Exactly the first `written` bytes are then written.
     pub(crate) fn write_to<W: Sink>(&self, device: &mut W) -> Result<(), WriteFault>
         ensures ok { OnOk result
             (Appends (W.contents device.old) (W.contents device.new) self.now) }

@@ -22,7 +22,7 @@ pub struct LogStart<'a> {
     /// In either case the rows of entries that the configuration ends follow, and those of new entries.
     pub is_new: bool,
     /// The number of seconds of the run's clock in each piece of the log, if it has pieces. When the clock passes a
-    /// multiple of them, a new piece begins as a new log does: its header and a row for each open binding are in one
+    /// multiple of them, a new piece begins like a new log: with the header and a row for each open binding, in one
     /// write.
     pub each: Option<NonZeroU32>,
     /// Whether another run goes on with the log. It then ends without the rows of live bindings.

@@ -160,8 +160,7 @@ fn write_all<W: Sink>(device: &mut W, bytes: &[u8]) -> Result<(), WriteFault>
     Ok(())
 }
 
-/// Returns a fault in a part of the text, with the bytes counted from the start of the text: `before` bytes precede the
-/// part.
+/// Returns a fault in a part of the text, counted from the start of the text, of which `before` bytes precede the part.
 fn behind(before: u64, fault: WriteFault) -> WriteFault
     ensures { result.written ≡ min (before + fault.written) (2 ^ 64 - 1) }
 {

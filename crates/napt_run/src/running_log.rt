@@ -107,8 +107,7 @@ impl<'a, 'b, L: Sink> RunningLog<'a, 'b, L> {
         self.write(&text)
     }
 
-    /// Flushes what was written before a run failed, if the log itself did not fail. If a capture failed, this has been
-    /// flushed already.
+    /// Flushes what was written before a run failed, unless the log failed. If a capture failed, this has been done.
     pub(crate) fn flush_after(&mut self, halt: &LoggingFault<LogRunFault>)
         ensures same { self.new.output.device.ghost_name ≡ self.old.output.device.ghost_name }
         ensures kept { Appends (L.contents self.old.output.device.now)

@@ -200,8 +200,7 @@ pub(crate) fn sent_in(alloc: Global, times: &Range<u32>) -> Result<Vec<u8>, Allo
 }
 
 /// Returns the capture of the outside with those of a hundred replies that arrive in this range, in microseconds. The
-/// resolver sends them to the external endpoints of the thousand inputs in turn, one every 10 ms, at the times of
-/// inside packets.
+/// resolver sends them to the external endpoints of the thousand inputs in turn, one every 10 ms, with inside packets.
 pub(crate) fn replies_in(alloc: Global, times: &Range<u32>) -> Result<Vec<u8>, AllocError> {
     let mut text = Vec::from_slice(alloc, &HEADER)?;
     for k in 0..100u16 {

@@ -26,8 +26,7 @@ pub(crate) enum StateLine {
     Held(Row, u64),
     /// The last line.
     End(LineCounts),
-    /// The number of entries of a log, and the number of bytes of its file, in the form of earlier versions. Its
-    /// entries follow.
+    /// The numbers of entries of a log and of bytes of its file, in the form of earlier versions. Its entries follow.
     EarlierLog(u64, u64),
     /// An entry of a log in the form of earlier versions.
     EarlierEntry(LogEntry),
@@ -40,7 +39,7 @@ pub struct LogPosition {
     pub end: LogEnd,
 }
 
-/// Where the text of a log ends. All is 0 if it went to no file.
+/// Where the text of a log ends. Every number is 0 if it went to no file.
 #[derive(Clone, Copy, Debug, Default, PartialEq, Eq)]
 pub struct LogEnd {
     /// The number of its last piece; 0 if it is one file.

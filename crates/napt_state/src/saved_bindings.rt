@@ -231,8 +231,7 @@ fn timer_of(protocol: Protocol, config: &Config) -> u64
     }
 }
 
-/// Returns one flow that was used at a time, in ns, if the protocol is TCP, and otherwise none. Fails only if memory is
-/// refused.
+/// Returns one flow that was used at a time, in ns, for TCP, and otherwise none. Fails only if memory is refused.
 fn one_flow(alloc: Global, protocol: Protocol, last: u64) -> Result<Vec<Flow>, AllocError>
     ensures { IfOk result (λ flows. flows.items ≡ saved.one_flow protocol last) }
 {

@@ -67,8 +67,7 @@ fn is_used_after(config: &Config, clock: u64, binding: &StateBinding) -> bool
     clock < binding.last || has_later(clock, &binding.flows)
 }
 
-/// Whether two of the flows of a binding that stand at a time, in ns, have the same remote. Fails only if memory is
-/// refused.
+/// Whether two flows of a binding that stand at a time, in ns, share a remote. Fails only if memory is refused.
 fn flows_share(
     alloc: Global,
     config: &Config,

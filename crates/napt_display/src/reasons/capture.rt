@@ -95,9 +95,8 @@ fn link_name(link: u32) -> Option<&'static str> {
     }
 }
 
-/// Returns why `read_capture` refuses some bytes with this fault: the fault in words, what the bytes seem to be, and
-/// what to do if that is known, with this call of split. There are at least two reasons. Fails only if memory is
-/// refused.
+/// Returns why `read_capture` refuses some bytes with this fault, in at least two reasons: the fault in words, what the
+/// bytes seem to be, and what to do if that is known, with this call of split. Fails only if memory is refused.
 pub fn capture_reasons(
     alloc: Global,
     bytes: &[u8],
@@ -145,8 +144,7 @@ fn add_form(
     }
 }
 
-/// Adds the command that makes napt's two captures from this one. If the capture has no path, the command has a name to
-/// be replaced.
+/// Adds the command that makes napt's two captures from this one, or from `other` if this one has no path.
 fn add_split(
     alloc: Global,
     reasons: &mut Vec<Reason>,
