@@ -10,7 +10,7 @@ use Rattle.napt_sequential.{specs.{Traces.{trace_of, traces_of}, declared.passag
 use Rattle.napt_account.specs.{declared.log.{Entry.Entry, LogEntry.LogEntry}, Effects.{CanCome, EffectsCome, IsNext}, ResumedLogRuns.{IsLogOf, LogsAreOfTheirStates, left_of, timed_by}, Log.{LogModel, after_record, log_on, unnumbered}, LogParts.{IsNumbered, is_open, kept_at}}
 use Rattle.napt_account.proofs.{Effects.{acts_come, step_turn}, Entries.{Tells, apart_differ, hold, hold_of, living, purge_holds, tells_later, told_turn}, GoingOn.{each_kept, filter_again, numbered_all}, Lists.{each_mapped, each_shown, filter_seen, map_twice}, Plain.{logged, plain_acts}, Reordered.reordered}
 
--- the row and the end in what a table returns of a binding
+-- The row and the end in what a table returns of a binding.
 abbrev hold_by : TimedRow → Row × Option ℕ
 hold_by told = (told.row, told.end)
 
@@ -184,7 +184,7 @@ module _ (alike_go_on : AlikeStatesGoOn) (rules : Rules) (keeps : RulesInvariant
     numbered_left = each_kept (λ n. n.number ≤ grown.made) (is_open was) grown.entries
         (numbered_all timers (effect_from rules state before).acts log is.numbered)
 
-    -- and of each state that is alike
+    -- And of each state that is alike.
     left_is_of : (then : State) → then.clock ≡ was → AreAlike timers was (next_state rules state before).list
         (live_and_held timers then.clock then.list) → IsLogOf rules then left
     left_is_of then clock alike = record {

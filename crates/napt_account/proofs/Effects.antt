@@ -27,7 +27,7 @@ module _ (rules : Rules) where
       InTurn rules now list course.acts now course.list)
   step_turn number now input le list = grind (arith, common_steps, nat_tests, append-nil, run_turn)
 
-  -- an input has at most two legs, both at its time
+  -- An input has at most two legs, both at its time.
   acts_are : (now : ℕ) (list : List Binding) (acts : List LegAct) (new : List Binding) → length acts ≤ 2 →
       InTurn rules now list acts now new → (log : LogModel) →
       after_input log (effects_by now acts) ≡ fold (after_record rules.timers) log acts

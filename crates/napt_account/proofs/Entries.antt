@@ -200,7 +200,7 @@ module _ (ends : EndsAreFirst) (rules : Rules) (t : AreTimers rules.timers) (add
   abbrev own : List Binding
   own = purge rules.timers leg.now list
 
-  -- the open entries, compared with the live bindings
+  -- The open entries, compared with the live bindings.
   abbrev Now : List Entry → Option BindingUse → List Binding → Type 0
   Now entries went left =
       Each (λ e. e.made ≤ leg.now) (logged_by rules.timers leg went entries)

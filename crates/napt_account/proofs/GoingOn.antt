@@ -23,7 +23,7 @@ pub drop_more : {X : Type 0} (front xs ys : List X) → drop (length (front ++ x
 drop_more [] xs ys = refl
 drop_more (x ∷ front) xs ys = drop_more front xs ys
 
--- if a change keeps what does not pass, what passes after it is the change of what passed before
+-- If a change keeps what does not pass, what passes after it is the change of what passed before.
 changed_among : {X : Type 0} (p : X → Bool) (g : X → X) → ((x : X) → p x ≡ false → g x ≡ x) → (xs : List X) →
     filter p (map g xs) ≡ filter p (map g (filter p xs))
 changed_among p g stays [] = refl
@@ -45,7 +45,7 @@ none_behind made (x ∷ xs) h =
 
 -- NUMBERS
 
--- after a leg the numbers are still among those that were given, which are no fewer
+-- After a leg the numbers are still among those that were given, which are no fewer.
 pub numbered_leg : (now : ℕ) (p : Passage) (log : LogModel) → IsNumbered log → IsNumbered (after_leg now p log)
 numbered_leg now Nothing log h = h
 numbered_leg now (Made timed) log h =
@@ -121,7 +121,7 @@ module _ (now made : ℕ) (front : List Shortage) (one other : LogModel) (same :
     abbrev change : LogEntry → LogEntry
     change = use_entry way now timed
 
-    -- an entry that has ended stays as it is
+    -- An entry that has ended stays as it is.
     stays : (n : LogEntry) → is_open now n ≡ false → change n ≡ n
     stays n ended =
         let same : entry_through now timed.row (counted way now timed.end) n.entry ≡ n.entry =
@@ -174,7 +174,7 @@ each_kept P p [] h = tt
 each_kept P p (x ∷ xs) h = elim (p x) as (λ v. Each P (cond v (x ∷ filter p xs) (filter p xs)))
     [ true ↦ (h.0, each_kept P p xs h.1) | false ↦ each_kept P p xs h.1 ]
 
--- a log and what is kept of it
+-- A log and what is kept of it.
 pub kept_same : (now : ℕ) (log : LogModel) → IsNumbered log → AreSame now log.made log.shortages log (kept_at now log)
 kept_same now log numbered = record {
   many = refl;

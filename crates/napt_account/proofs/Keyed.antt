@@ -18,7 +18,7 @@ share_flip a b = external_flip (entry_key a) (entry_key b)
 pub keyed_moved : (xs ys : List Row) → IsPermutation xs ys → AreKeyed ys → AreKeyed xs
 keyed_moved xs ys moves = IsDistinct-IsPermutation share share_flip ys xs (IsPermutation-sym xs ys moves)
 
--- an earlier row and a later one have different keys
+-- An earlier row and a later one have different keys.
 pub keyed_before : {X : Type 0} (row : X → Row) (xs : List X) → AreKeyed (map row xs) → (k : ℕ) (d : X) →
     k < length xs → (x : X) → Has (take k xs) x → share (row x) (row (get_or xs k d)) ≡ false
 unfolding IsDistinct
@@ -66,7 +66,7 @@ live_keyed rules keeps state takes =
     subst AreKeyed (sym (map_twice (λ (t : TimedRow). t.row) (timed_row rules.timers) live))
     (differ_keyed (map row live) differ)
 
--- and therefore the entries of a log of it
+-- And therefore the entries of a log of it.
 pub log_keyed : (rules : Rules) → RulesInvariant rules → (state : State) → TakesState rules state →
     (log : LogModel) →
     IsLogOf rules (with_redirects rules state) log → AreKeyed (map (λ l. l.entry.binding) log.entries)
@@ -75,7 +75,7 @@ log_keyed rules keeps state takes log is =
     (keyed_moved (map (λ t. t.row) (map timed_by log.entries)) _
     (IsPermutation-map (λ (t : TimedRow). t.row) _ _ is.rows) (live_keyed rules keeps state takes))
 
--- the keys of a list stand apart along it
+-- The keys of a list stand apart along it.
 pub keyed_along : {X : Type 0} (row : X → Row) (xs : List X) → AreKeyed (map row xs) →
     Along (λ x y. share (row x) (row y) ≡ false) xs
 unfolding IsDistinct

@@ -8,7 +8,7 @@ use Rattle.napt_laws.proofs.{FreshBindings.{IsFresh, fresh_purged}, Lists.find_p
 use Rattle.napt_sequential.specs.{declared.passage.Passage.{Passage, TheVariants.{Made, Out, In}}, Traces.{passage_by, passage_of}}
 use Rattle.napt_account.proofs.Moves.{of_moves}
 
--- the binding of a leg has an end in the future
+-- The binding of a leg has an end in the future.
 abbrev pub LeavesOpen : ℕ → Passage → Type 0
 LeavesOpen now (Made timed) = is_before now timed.end ≡ true
 LeavesOpen now (Out timed) = is_before now timed.end ≡ true

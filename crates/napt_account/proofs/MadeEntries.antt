@@ -69,7 +69,7 @@ module _ (now made : ℕ) where
       new (map (use_entry way now timed) ns) ≡ map (use_entry way now timed) (new ns)
   used_new way timed ns = filter_seen (is_behind made) (use_entry way now timed) ns
 
-  -- an entry that a leg makes is open after the leg
+  -- An entry that a leg makes is open after the leg.
   made_open : (timed : TimedRow) (x : LogModel) → CanCome now x (Made timed) →
       open_of now timed.row (after_leg now (Made timed) x)
       ≡ Some (record { number = x.made + 1; entry = made_by now timed })
@@ -91,7 +91,7 @@ module _ (now made : ℕ) where
 
   -- A SECOND LEG AFTER IT
 
-  -- what the first leg made is open before the second
+  -- What the first leg made is open before the second.
   abbrev IsThere : Passage → LogModel → Type 0
   IsThere (Made timed) x = (n : LogEntry) × (open_of now timed.row x ≡ Some n)
   IsThere _ x = Unit {0}

@@ -41,7 +41,7 @@ differ_moved xs ys moves h = of_distinct ys (IsDistinct-IsPermutation same same_
 
 -- A LOG
 
--- in any order, put in order of number
+-- In any order, put in order of number.
 pub sorted_entries : (entries told xs : List LogEntry) → Rises 1 entries → IsPermutation told entries →
     IsPermutation told xs → IsSortedByKey (λ l. l.number) nat_cmp xs → xs ≡ entries
 sorted_entries entries told xs rises all sorts sorted =
@@ -51,7 +51,7 @@ sorted_entries entries told xs rises all sorts sorted =
     (λ l h. has_moved told entries all l (has_back told xs sorts l h))
     (λ l h. has_moved told xs sorts l (has_back told entries all l h))
 
--- the first numbers are among those that were given
+-- The first numbers are among those that were given.
 pub within_from : (n most : ℕ) (es : List Entry) → n + length es ≤ most + 1 →
     Each (λ l. l.number ≤ most) (numbered_from n es)
 within_from n most [] h = tt

@@ -15,7 +15,7 @@ is_under x numbered = external_eq (entry_key numbered.entry.binding) x
 abbrev account_under : EntryKey → List LogEntry → Option Account
 account_under x entries = option_map account_of_entry (find (is_under x) entries)
 
--- a map has the account of the first entry of each endpoint
+-- A map has the account of the first entry of each endpoint.
 abbrev pub IsMap : {S : Type 0} → List LogEntry → HashMap EntryKey Account S → Type 0
 IsMap entries all = (x : EntryKey) → hash.get external_eq all x ≡ account_under x entries
 
@@ -77,7 +77,7 @@ find_agrees p q [] h = refl
 find_agrees p q (x ∷ xs) h = ap (λ v. cond v (Some x) (find p xs)) h.0
     ∙ ap (cond (q x) (Some x)) (find_agrees p q xs h.1)
 
--- and therefore the account of each open entry
+-- And therefore the account of each open entry.
 pub account_is : {S : Type 0} (log : LogModel) (all : HashMap EntryKey Account S) → IsMap log.entries all → (now : ℕ) →
     kept_at now log ≡ log → (row : Row) → hash.get external_eq all (entry_key row) ≡ account_at now log row
 account_is log all is now kept row = is (entry_key row) ∙ ap (option_map account_of_entry)

@@ -13,7 +13,7 @@ use Rattle.napt_sequential.specs.Traces.{gone_through, loss_of, passage_by}
 use Rattle.napt_account.specs.{declared.log.{Entry.Entry, LogEntry.LogEntry}, Log.{LogModel, first_entry, begun_behind, counted, entry_through, unnumbered, use_entry, with_use, after_leg, after_record, log_of, log_on, numbered_from}}
 use Rattle.napt_account.proofs.{Lists.{map_joined, map_twice}, Moves.of_moves}
 
--- the entries after a leg: the binding that it made gets one, and that of the binding that it found changes
+-- The entries after a leg: the binding that it made gets one, and that of the binding that it found changes.
 abbrev pub logged_by : Timers → Leg → Option BindingUse → List Entry → List Entry
 logged_by timers leg None entries = entries
 logged_by timers leg (Some went) entries =
@@ -50,7 +50,7 @@ plain_none now (Some protocol) host (ToInside packet) log = refl
 plain_none now (Some protocol) host (Onward place packet) log = refl
 plain_none now (Some protocol) host (Dropped cause) log = refl
 
--- a leg goes out through the binding that it makes
+-- A leg goes out through the binding that it makes.
 abbrev pub MadeOut : Way → Option BindingUse → Type 0
 MadeOut way went = (t : BindingUse) → went ≡ Some t → t.made ≡ true → way ≡ Outgoing
 
@@ -106,7 +106,7 @@ plain_begun rules =
     unnumbered_from (0 + 1) (map (first_entry rules.timers 0) (purge rules.timers 0 (opening rules)))
     ∙ ap (map (first_entry rules.timers 0)) (redirects_stay rules.timers (pair_of rules) rules.redirects)
 
--- a run's log
+-- A run's log.
 pub plain_log : (rules : Rules) → AreTimers rules.timers → (inputs : List Arrival) → unnumbered (log_of rules inputs)
     ≡ fold (logged rules.timers) (map (first_entry rules.timers 0) (opening rules)) (run rules inputs (opening rules)).acts
 unfolding log_on

@@ -18,7 +18,7 @@ rises_above n [] h = tt
 rises_above n (l ∷ ls) h =
     (h.0, rises_above n ls (rises_less n (l.number + 1) (let first = h.0 in omega (arith, first)) ls h.1))
 
--- the entries that pass a test
+-- The entries that pass a test.
 pub rises_filter : (p : LogEntry → Bool) (n : ℕ) (ls : List LogEntry) → Rises n ls → Rises n (filter p ls)
 rises_filter p n [] h = tt
 rises_filter p n (l ∷ ls) h = elim (p l) as (λ v. Rises n (cond v (l ∷ filter p ls) (filter p ls))) [
@@ -27,13 +27,13 @@ rises_filter p n (l ∷ ls) h = elim (p l) as (λ v. Rises n (cond v (l ∷ filt
       (rises_filter p (l.number + 1) ls h.1)
 ]
 
--- one more entry after all others
+-- One more entry after all others.
 pub rises_pushed : (n : ℕ) (ls : List LogEntry) (l : LogEntry) → Rises n ls →
     Each (λ m. m.number + 1 ≤ l.number) ls → n ≤ l.number → Rises n (ls ++ l ∷ [])
 rises_pushed n [] l h behind first = (first, tt)
 rises_pushed n (m ∷ ls) l h behind first = (h.0, rises_pushed (m.number + 1) ls l h.1 behind.1 behind.0)
 
--- changed entries that keep their numbers
+-- Changed entries that keep their numbers.
 pub rises_mapped : (f : LogEntry → LogEntry) → ((l : LogEntry) → (f l).number ≡ l.number) → (n : ℕ)
     (ls : List LogEntry) → Rises n ls → Rises n (map f ls)
 rises_mapped f same n [] h = tt
@@ -42,7 +42,7 @@ rises_mapped f same n (l ∷ ls) h = (
   subst (λ (k : ℕ). Rises (k + 1) (map f ls)) (sym (same l)) (rises_mapped f same (l.number + 1) ls h.1),
 )
 
--- no two entries have the same number
+-- No two entries have the same number.
 pub rises_differ : (n : ℕ) (ls : List LogEntry) → Rises n ls → Differ ls
 rises_differ n [] h = tt
 rises_differ n (l ∷ ls) h = (
@@ -100,7 +100,7 @@ rising_turn n (x ∷ xs) h = (
   rising_turn (x.number + 1) xs h.1,
 )
 
--- two ascending lists with the same elements are the same
+-- Two ascending lists with the same elements are the same.
 pub rises_same : (n : ℕ) (xs ys : List LogEntry) → Rises n xs → Rises n ys → ((l : LogEntry) → Has xs l → Has ys l) →
     ((l : LogEntry) → Has ys l → Has xs l) → xs ≡ ys
 rises_same n xs ys rises other = same_turn before (λ x y h k. grind (arith, nat_tests)) xs ys (rising_turn n xs rises)

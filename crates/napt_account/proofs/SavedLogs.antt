@@ -33,7 +33,7 @@ filter_none p [] h = refl
 filter_none p (x ∷ xs) h =
     ap (λ v. cond (not v) (x ∷ filter (λ y. not (p y)) xs) (filter (λ y. not (p y)) xs)) h.0 ∙ filter_none p xs h.1
 
--- the images of elements that are apart, given that each is in the list
+-- The images of elements that are apart, given that each is in the list.
 along_with : {X Y : Type 0} (R : X → X → Type 0) (S : Y → Y → Type 0) (f : X → Y) (xs : List X) →
     ((x y : X) → Has xs x → Has xs y → R x y → S (f x) (f y)) → Along R xs → Along S (map f xs)
 along_with R S f [] g h = tt
@@ -61,7 +61,7 @@ module _ (rules : Rules) (keeps : RulesInvariant rules) (saved : State) (left : 
   left_open n h = (filter_has (is_open now) left.entries n
       (subst (λ (l : LogModel). Has l.entries n) (sym is.kept) h)).1
 
-  -- the binding of an entry that was left
+  -- The binding of an entry that was left.
   record IsOrigin (n : LogEntry) : Type 0 where
     pub b : Binding
     pub has : Has saved.list b
@@ -85,7 +85,7 @@ module _ (rules : Rules) (keeps : RulesInvariant rules) (saved : State) (left : 
   shared : (r s : Row) → shares r s ≡ true → share r s ≡ true
   shared r s h = ap (external_eq (entry_key r)) (sym (key_shares r s h)) ∙ external_itself (entry_key r)
 
-  -- two entries of one endpoint are the same
+  -- Two entries of one endpoint are the same.
   one_entry : (n m : LogEntry) → Has left.entries n → Has left.entries m →
       share n.entry.binding m.entry.binding ≡ true → n ≡ m
   one_entry n m h g same = only_one (λ x y. share x.entry.binding y.entry.binding ≡ false) left.entries
@@ -93,7 +93,7 @@ module _ (rules : Rules) (keeps : RulesInvariant rules) (saved : State) (left : 
       (λ apart. true≢false (sym same ∙ apart))
       (λ apart. true≢false (sym same ∙ (share_flip n.entry.binding m.entry.binding ∙ apart)))
 
-  -- and so are two such bindings of the state
+  -- And so are two such bindings of the state.
   one_binding : (b d : Binding) → Has saved.list b → Has saved.list d → share b.row d.row ≡ true → b ≡ d
   one_binding b d h g same = only_one (λ x y. share x.row y.row ≡ false) saved.list (keyed_along row saved.list apart) b d
       h g (λ apart. true≢false (sym same ∙ apart)) (λ apart. true≢false (sym same ∙ (share_flip b.row d.row ∙ apart)))
@@ -101,7 +101,7 @@ module _ (rules : Rules) (keeps : RulesInvariant rules) (saved : State) (left : 
   ends_itself : (r : Row) → has_ends r.protocol r.inside r.external r ≡ true
   ends_itself r = and_from _ _ (same_itself r.protocol) (and_from _ _ (end_itself r.inside) (end_itself r.external))
 
-  -- a redirect that has an entry is one of the configuration
+  -- A redirect that has an entry is one of the configuration.
   redirect_there : (n : LogEntry) → Has left.entries n → (r : Row) → r ≡ n.entry.binding → r.fixed ≡ true →
       has_redirect rules r ≡ true
   redirect_there n h r same fixed =
@@ -124,7 +124,7 @@ module _ (rules : Rules) (keeps : RulesInvariant rules) (saved : State) (left : 
             absurd (true≢false (sym loose ∙ ap not (ap (λ (s : Row). s.fixed) its ∙ fixed)))
       ]
 
-  -- the binding of an entry gets that entry again from its account
+  -- The binding of an entry gets that entry again from its account.
   entry_again : (b : Binding) → Has saved.list b → (n : LogEntry) → Has left.entries n →
       shares b.row n.entry.binding ≡ true → resumed_entry rules now (b, account_of_entry n) ≡ n
   entry_again b h n there shares_row =
@@ -196,7 +196,7 @@ module _ (rules : Rules) (keeps : RulesInvariant rules) (saved : State) (left : 
         | Some other ↦ inr (has_kept list b a there e)
       ]
 
-  -- what an account contributes to the entries that go on
+  -- What an account contributes to the entries that go on.
   record IsAgain (k : Kept) : Type 0 where
     pub n : LogEntry
     pub has : Has left.entries n

@@ -53,7 +53,7 @@ counted_open : (way : Way) (now : ℕ) (end : Option ℕ) → is_before now end 
 counted_open Outgoing now end opened e = opened
 counted_open Incoming now end opened e = opened
 
--- a leg does not change an entry that has ended, and what it makes or changes has not ended
+-- A leg does not change an entry that has ended, and what it makes or changes has not ended.
 module _ (way : Way) (now : ℕ) (timed : TimedRow) (opens : is_before now timed.end ≡ true) where
   abbrev change : LogEntry → LogEntry
   change = use_entry way now timed
@@ -87,7 +87,7 @@ module _ (rules : Rules) (t : AreTimers rules.timers) where
       let rest = turn_on a.leg.now (act rules a.address a.leg list).list acts last new turn.1 in
       omega (arith, turn.0.later, rest)
 
-  -- acts at one time do not change the entries that have ended by then
+  -- Acts at one time do not change the entries that have ended by then.
   acts_closed : (now clock : ℕ) → now ≤ clock → (list : List Binding) (acts : List LegAct) (new : List Binding) →
       InTurn rules clock list acts now new → (log : LogModel) →
       closed now (fold (after_record rules.timers) log acts).entries ≡ closed now log.entries
@@ -106,7 +106,7 @@ module _ (rules : Rules) (t : AreTimers rules.timers) where
 abbrev Origin : Type 0
 Origin = ℕ × (Row × ℕ)
 
--- a later log has the origins of an earlier one, and after them those with later numbers; and likewise its shortages
+-- A later log has the origins of an earlier one, and after them those with later numbers; and likewise its shortages.
 record Grown (one other : LogModel) : Type 0 where
   pub origins : map origin other.entries ≡ map origin one.entries ++ map origin (filter (is_behind one.made) other.entries)
   pub more : one.made ≤ other.made
@@ -184,7 +184,7 @@ grown_acts rules one (a ∷ acts) log grown =
 
 -- WHAT WAS ADDED
 
--- the entries that have ended by a time are those that had ended by an earlier one, and those that ended since
+-- The entries that have ended by a time are those that had ended by an earlier one, and those that ended since.
 closed_since : (was now : ℕ) → was ≤ now → (xs : List LogEntry) →
     IsPermutation (filter (is_closed was) xs ++ filter (ends_within was now) xs) (filter (is_closed now) xs)
 closed_since was now le xs =
@@ -240,7 +240,7 @@ module _ (rules : Rules) (keeps : RulesInvariant rules) (state : State) (log : L
       (grown_acts rules (at before) (next before input).acts (at before)
       (grown_none (at before) (all_numbered before)))
 
-  -- an entry that has ended by the clock of an input was there before it
+  -- An entry that has ended by the clock of an input was there before it.
   closed_next : (before : List Arrival) (input : Arrival) → (let now : ℕ = max (clock before) input.clock in
       closed now (at (before ++ input ∷ [])).entries ≡ closed now (at before).entries)
   closed_next before input =
@@ -288,7 +288,7 @@ module _ (rules : Rules) (keeps : RulesInvariant rules) (state : State) (log : L
       (subst (Tells ((before ++ input ∷ []) ++ inputs)) (append_assoc told ended rest)
       (tells_all (before ++ input ∷ []) inputs (told ++ ended) (tells_next before input told tells)))
 
-  -- what each input adds, joined in order, is what the log of all inputs has
+  -- What each input adds, joined in order, is what the log of all inputs has.
   joins_all : {X : Type 0} (of_log : LogModel → List X) (of_part : LogDelta → List X) →
       ((before : List Arrival) (input : Arrival) →
       of_log (at (before ++ input ∷ [])) ≡ of_log (at before) ++ of_part (part before input)) →

@@ -14,14 +14,14 @@ abbrev pub tally_used : Way → LogNote → ℕ → BindingTally
 tally_used Outgoing note number = record { note = note; out = Some number; into = None }
 tally_used Incoming note number = record { note = note; out = None; into = Some number }
 
--- the open entry of a row
+-- The open entry of a row.
 abbrev pub open_of : ℕ → Row → LogModel → Option LogEntry
 open_of now wanted log = find (λ numbered. entry_is_of now wanted numbered.entry) log.entries
 
 abbrev pub noted : Entry → LogNote
 noted entry = cond entry.binding.fixed notes.Redirect notes.Found
 
--- what a leg did that found this entry, if there is one
+-- What a leg did that found this entry, if there is one.
 abbrev pub use_found : Way → Option LogEntry → BindingTally
 use_found way None = no_use
 use_found way (Some numbered) = tally_used way (noted numbered.entry) numbered.number

@@ -8,8 +8,8 @@ use Rattle.napt_account.specs.{Log.{LogModel, after_input, after_leg, entry_is_o
 abbrev pub log_after : LogModel → List Trace → LogModel
 log_after log effects = fold after_input log effects
 
--- whether a leg can have an effect at a time, after this log: the end of its binding is in the future, and the external
--- endpoint of a binding that it makes has no open entry
+-- Whether a leg can have an effect at a time, after this log: the end of its binding is in the future, and the external
+-- endpoint of a binding that it makes has no open entry.
 abbrev pub CanCome : ℕ → LogModel → Passage → Type 0
 CanCome now log (Made timed) = (is_before now timed.end ≡ true)
     × (list_any (λ numbered. entry_is_of now timed.row numbered.entry) log.entries ≡ false)
@@ -17,7 +17,7 @@ CanCome now log (Out timed) = is_before now timed.end ≡ true
 CanCome now log (In timed) = is_before now timed.end ≡ true
 CanCome now log _ = Unit {0}
 
--- whether the legs of the next input can have these effects
+-- Whether the legs of the next input can have these effects.
 pub record IsNext (was : ℕ) (log : LogModel) (effects : Trace) : Type 0 where
   pub later : was ≤ effects.now
   pub first : CanCome effects.now log effects.first

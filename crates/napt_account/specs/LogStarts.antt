@@ -13,9 +13,9 @@ use Rattle.napt_account.specs.{Attribution.has_ends, BindingTallies.open_of, Log
 
 -- What a state keeps of a log.
 pub record SavedLogStateModel : Type 0 where
-  -- the number of entries that the log has so far
+  -- The number of entries that the log has so far.
   pub made : ℕ
-  -- for each binding of the state, in its order, the account of its entry, if it has one that has not ended
+  -- For each binding of the state, in its order, the account of its entry, if it has one that has not ended.
   pub accounts : List (Option Account)
 
 -- What a state of a run without a log keeps.

@@ -7,11 +7,11 @@ use Rattle.napt_account.specs.{declared.logged_run.LogStep.LogStep, BindingTalli
 
 pub record LoggedRunModel : Type 0 where
   pub rules : Rules
-  -- the state from which the run goes on, as its configuration takes it up, and the log there
+  -- The state from which the run goes on, as its configuration takes it up, and the log there.
   pub state : State
   pub log : LogModel
   pub inputs : List Arrival
-  -- whether a step failed
+  -- Whether a step failed.
   pub is_stopped : Bool
 
 -- The only value in a ghost log, or a default if it has none.

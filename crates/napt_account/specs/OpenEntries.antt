@@ -44,7 +44,7 @@ due_cmp a b = ordering_then (nat_cmp a.at b.at) (external_cmp a.key b.key)
 abbrev pub open_at : OpenEntries → EntryKey → Option Open
 open_at all x = hash.get external_eq all.by_external x
 
--- the entry of an endpoint, and when it is looked at next
+-- The entry of an endpoint, and when it is looked at next.
 abbrev pub entry_at : OpenEntries → EntryKey → Option LogEntry
 entry_at all x = option_map (λ (o : Open). o.numbered) (open_at all x)
 
@@ -82,16 +82,16 @@ pub record IsIndexedBut (key : EntryKey) (at : Option ℕ) (all : OpenEntries) :
   pub queued : (due : DueEntry) → is_queued all due
       ≡ entry_is_at (cond (external_eq key due.key) at (due_at all due.key)) due.at
 
--- it is in the list
+-- It is in the list.
 abbrev pub Has : {X : Type 0} → List X → X → Type 0
 Has [] x = ⊥
 Has (y ∷ ys) x = (y ≡ x) ⊎ Has ys x
 
--- no two rows have one protocol and external endpoint
+-- No two rows have one protocol and external endpoint.
 abbrev pub AreKeyed : List Row → Type 0
 AreKeyed rows = IsDistinct (λ a b. external_eq (entry_key a) (entry_key b)) rows
 
--- the entries are those of a log that have not ended by a time, and none counts more than `most` packets either way
+-- The entries are those of a log that have not ended by a time, and none counts more than `most` packets either way.
 pub record OpenEntriesShow (now most : ℕ) (log : LogModel) (all : OpenEntries) : Type 0 where
   pub indexed : IsIndexed all
   pub made : all.made ≡ log.made

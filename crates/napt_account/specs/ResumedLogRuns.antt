@@ -5,7 +5,7 @@ use Rattle.napt_rules.specs.Prelude.{Arrival, Each, last_clock, State, next_stat
 use Rattle.napt_table.specs.{declared.TimedRow.TimedRow, TimedRows.timed_row}
 use Rattle.napt_account.specs.{declared.log.LogEntry.LogEntry, Log.{LogModel, log_on, begun_behind}, LogParts.{LogDelta, IsNumbered, kept_at, part_between}}
 
--- what an input adds after others, and what is kept after them
+-- What an input adds after others, and what is kept after them.
 abbrev pub part_of : Rules → State → LogModel → List Arrival → Arrival → LogDelta
 part_of rules state log before input =
     let was : ℕ = last_clock state.clock before in
@@ -25,7 +25,7 @@ abbrev pub LogsGoOn : Type 0
 LogsGoOn = (rules : Rules) (state : State) (log : LogModel) → IsNumbered log → (first rest : List Arrival) →
     LogGoesOn rules state (next_state rules state first) log first rest
 
--- the same from the state as it was saved and taken up
+-- The same from the state as it was saved and taken up.
 abbrev pub SavedLogsGoOn : Type 0
 SavedLogsGoOn = (rules : Rules) → RulesInvariant rules → (state saved : State) → TakesState rules state → (log : LogModel) →
     IsNumbered log → (first rest : List Arrival) → IsStateInOrder rules (next_state rules (with_redirects rules state) first) saved →
@@ -36,7 +36,7 @@ SavedLogsGoOn = (rules : Rules) → RulesInvariant rules → (state saved : Stat
 abbrev pub timed_by : LogEntry → TimedRow
 timed_by numbered = record { row = numbered.entry.binding; end = numbered.entry.end }
 
--- whether a log is that of a state: its entries are those of the live bindings, each with its row and its end
+-- Whether a log is that of a state: its entries are those of the live bindings, each with its row and its end.
 pub record IsLogOf (rules : Rules) (state : State) (log : LogModel) : Type 0 where
   pub kept : kept_at state.clock log ≡ log
   pub numbered : IsNumbered log

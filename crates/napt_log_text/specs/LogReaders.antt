@@ -9,7 +9,7 @@ use Rattle.napt_log_text.specs.{Logs.{log_anew, log_text}, Rows.{csv_row, csv_he
 abbrev pub part_events : LogDelta → List LogEvent
 part_events part = map Ended part.ended ++ (map Made part.made ++ map Refused part.refused)
 
--- the events of the inputs that come after the given ones, in order
+-- The events of the inputs that come after the given ones, in order.
 abbrev pub events_after : Rules → State → LogModel → List Arrival → List Arrival → List LogEvent
 events_after rules state log before [] = []
 events_after rules state log before (input ∷ inputs) =

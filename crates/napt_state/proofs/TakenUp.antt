@@ -51,7 +51,7 @@ module _ (timers : Timers) (clock : ℕ) (seen : List SavedBinding) (x : SavedBi
         accounts_are = so_far.accounts_are ∙ sym (ap (map (λ (it : Taken). it.1)) same);
       }
 
--- one more item of a list is yielded
+-- One more item of a list is yielded.
 pub split_next : {X : Type 0} (seen : List X) (x : X) (rest old all : List X) → seen ++ old ≡ all → old ≡ x ∷ rest →
     (seen ++ x ∷ []) ++ rest ≡ all
 split_next seen x rest old all split is =
@@ -66,7 +66,7 @@ held_none : (is : Bool) (b : Binding) (others : List Taken) →
 held_none true b others = refl
 held_none false b others = refl
 
--- the bindings that are taken have the accounts that were saved
+-- The bindings that are taken have the accounts that were saved.
 accounts_taken : (timers : Timers) (clock : ℕ) (list : List SavedBinding) →
     accounted (map (λ it. it.0) (taken_in timers clock list)) (map (λ it. it.1) (taken_in timers clock list))
     ≡ accounted_in list

@@ -56,7 +56,7 @@ text_parts s = ap (λ l. line_text (clock s.clock) ++ l)
     ∙ ap (λ l. flat_map line_text (log_lines s.log) ++ l) (bindings_text s.bindings))
     ∙ append_assoc (flat_map line_text (log_lines s.log)) _ _)
 
--- the clock and the log, then the bindings so far
+-- The clock and the log, then the bindings so far.
 pub written_saved : (s : StateFileModel) (counts : LineCounts) (n : ℕ) (a b d e : Option StateTextBytes) →
     length s.bindings ≤ n →
     counts ≡ counts_of s →

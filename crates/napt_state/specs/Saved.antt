@@ -20,7 +20,7 @@ abbrev pub saved_binding : Timers → ℕ → Binding → Option Account → Sav
 saved_binding timers clock b account = cond (is_live timers clock b) (bindings.Live b account)
     (bindings.Ended b.row (end_by_protocol b.row.protocol timers b))
 
--- bindings past the last account have none
+-- Bindings past the last account have none.
 abbrev pub saved_bindings : Timers → ℕ → List Binding → List (Option Account) → List SavedBinding
 saved_bindings timers clock [] accounts = []
 saved_bindings timers clock (b ∷ list) [] = saved_binding timers clock b None ∷ saved_bindings timers clock list []
@@ -53,7 +53,7 @@ abbrev pub made_so_far : Option LogPosition → ℕ
 made_so_far (Some position) = position.made
 made_so_far None = 0
 
--- where the text of the log ends; every number is 0 if there is no text
+-- Where the text of the log ends; every number is 0 if there is no text.
 abbrev pub log_end : Option LogPosition → LogEnd
 log_end (Some position) = position.end
 log_end None = record { piece = 0; length = 0; row = 0 }
@@ -75,7 +75,7 @@ IsSaved saved = Each IsStateLine (saved_lines saved) × HasAccounts saved
 
 -- WHAT IS TAKEN UP under these timers
 
--- the timer of a binding; under TCP that of a flow that is not established
+-- The timer of a binding; under TCP that of a flow that is not established.
 abbrev pub timer_of : Protocol → Timers → ℕ
 timer_of Icmp timers = timers.icmp
 timer_of Tcp timers = timers.transitory
@@ -85,13 +85,13 @@ abbrev pub one_flow : Protocol → ℕ → List Flow
 one_flow Tcp last = record { remote = record { address = 0; number = 0 }; last = last; marks = no_marks } ∷ []
 one_flow _ last = []
 
--- a binding that was last used so that it ends at the given time
+-- A binding that was last used so that it ends at the given time.
 abbrev pub binding_until : Timers → Row → ℕ → Binding
 binding_until timers row end =
     let last : ℕ = end - timer_of row.protocol timers * ns_per_second in
     record { row = row; last = last; flows = one_flow row.protocol last }
 
--- none if the end is earlier than the timer after the time 0, so that the binding would live at the clock
+-- None if the end is earlier than the timer after the time 0, so that the binding would live at the clock.
 abbrev pub taken_binding : Timers → ℕ → SavedBinding → List (Binding × Option Account)
 taken_binding timers clock (bindings.Live b account) = (b, account) ∷ []
 taken_binding timers clock (bindings.Ended row end) =
@@ -115,7 +115,7 @@ log_taken timers saved =
 abbrev pub taken_of : Timers → StateFileModel → TakenState
 taken_of timers saved = record { state = state_taken timers saved; log = log_taken timers saved }
 
--- a state is taken if its bindings fit, and a log can begin with its accounts if they are valid
+-- A state is taken if its bindings fit, and a log can begin with its accounts if they are valid.
 pub record IsTakenFrom (rules : Rules) (saved : StateFileModel) (taken : TakenState) : Type 0 where
   pub state : taken.state ≡ state_taken rules.timers saved
   pub log : taken.log ≡ log_taken rules.timers saved

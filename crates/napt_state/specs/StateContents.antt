@@ -29,7 +29,7 @@ UnlessFailed (Err fault) fact = unless_for fault.reason fact
 abbrev pub IsFirstLine : StateLine → List ℕ → Option (List ℕ) → Type 0
 IsFirstLine entry all left = (rest : List ℕ) × (all ≡ line_text entry ++ rest) × (left ≡ Some rest)
 
--- the contents after the line of the clock alone
+-- The contents after the line of the clock alone.
 abbrev pub empty_contents : ℕ → StateFileModel
 empty_contents clock = record { clock = clock; log = None; bindings = [] }
 
@@ -38,7 +38,7 @@ pub record IsAdded (line : StateLine) (old new : StateFileModel) : Type 0 where
   pub clock : new.clock ≡ old.clock
   pub lines : lines_between new ≡ lines_between old ++ line ∷ []
 
--- the last binding gets one more flow
+-- The last binding gets one more flow.
 pub record IsAddedFlow (flow : Flow) (old new : List SavedBinding) : Type 0 where
   pub before : List SavedBinding
   pub last : Binding
@@ -46,16 +46,16 @@ pub record IsAddedFlow (flow : Flow) (old new : List SavedBinding) : Type 0 wher
   pub is : old ≡ before ++ bindings.Live last account ∷ []
   pub now : new ≡ before ++ bindings.Live (record last { flows = last.flows ++ flow ∷ [] }) account ∷ []
 
--- no live binding is the last
+-- No live binding is the last.
 abbrev pub HasNoLast : List SavedBinding → Type 0
 HasNoLast list = (before : List SavedBinding) (last : Binding) (account : Option Account) →
     ¬ (list ≡ before ++ bindings.Live last account ∷ [])
 
--- a text that has the log of a state in the form of earlier versions
+-- A text that has the log of a state in the form of earlier versions.
 abbrev pub IsEarlier : List ℕ → Type 0
 IsEarlier text = (front rest : List ℕ) × (made length : ℕ) × (text ≡ front ++ (line_text (earlier_log made length) ++ rest))
 
--- the text is that of what was read, unless an earlier version wrote it
+-- The text is that of what was read, unless an earlier version wrote it.
 abbrev pub IsReadAs : List ℕ → StateFileModel → Type 0
 IsReadAs text saved = (text ≡ saved_text saved) ⊎ IsEarlier text
 

@@ -91,7 +91,7 @@ flow_words flow = codes "flow" ∷ endpoint_words flow.remote (decimal flow.last
 abbrev pub log_words : LogPosition → List StateTextBytes
 log_words log = codes "log" ∷ decimal log.made ∷ decimal log.end.piece ∷ decimal log.end.length ∷ decimal log.end.row ∷ []
 
--- in the form of earlier versions
+-- In the form of earlier versions.
 abbrev pub earlier_log_words : ℕ → ℕ → List StateTextBytes
 earlier_log_words made length = codes "log" ∷ decimal made ∷ decimal length ∷ []
 
