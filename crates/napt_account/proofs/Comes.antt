@@ -184,7 +184,7 @@ module _ (alike_go_on : AlikeStatesGoOn) (rules : Rules) (keeps : RulesInvariant
     numbered_left = each_kept (λ n. n.number ≤ grown.made) (is_open was) grown.entries
         (numbered_all timers (effect_from rules state before).acts log is.numbered)
 
-    -- And of each state that is alike.
+    -- The same for each state that is alike.
     left_is_of : (then : State) → then.clock ≡ was → AreAlike timers was (next_state rules state before).list
         (live_and_held timers then.clock then.list) → IsLogOf rules then left
     left_is_of then clock alike = record {

@@ -66,7 +66,7 @@ live_keyed rules keeps state takes =
     subst AreKeyed (sym (map_twice (λ (t : TimedRow). t.row) (timed_row rules.timers) live))
     (differ_keyed (map row live) differ)
 
--- And therefore the entries of a log of it.
+-- The entries of a log of such a state have distinct keys, too.
 pub log_keyed : (rules : Rules) → RulesInvariant rules → (state : State) → TakesState rules state →
     (log : LogModel) →
     IsLogOf rules (with_redirects rules state) log → AreKeyed (map (λ l. l.entry.binding) log.entries)
@@ -75,7 +75,7 @@ log_keyed rules keeps state takes log is =
     (keyed_moved (map (λ t. t.row) (map timed_by log.entries)) _
     (IsPermutation-map (λ (t : TimedRow). t.row) _ _ is.rows) (live_keyed rules keeps state takes))
 
--- The keys of a list stand apart along it.
+-- The keys of a list are apart.
 pub keyed_along : {X : Type 0} (row : X → Row) (xs : List X) → AreKeyed (map row xs) →
     Along (λ x y. share (row x) (row y) ≡ false) xs
 unfolding IsDistinct

@@ -17,7 +17,7 @@ module _ (are : EffectsAreTheLog) (rules : Rules) (state : State) (log : LogMode
       ∙ (sym (fold_joined after_input (traces_of rules state before) (effects ∷ []) log)
       ∙ (ap (log_after log) (sym more) ∙ are rules state log (before ++ input ∷ [])))
 
-  -- And what the input adds.
+  -- The part that the input adds.
   pub part_next : effects.now ≡ last_clock state.clock (before ++ input ∷ []) →
       part_between (last_clock state.clock before) effects.now (log_on rules state log before)
       (after_input (log_on rules state log before) effects) ≡ part_of rules state log before input

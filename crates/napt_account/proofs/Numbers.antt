@@ -41,7 +41,7 @@ differ_moved xs ys moves h = of_distinct ys (IsDistinct-IsPermutation same same_
 
 -- A LOG
 
--- In any order, put in order of number.
+-- The entries of a log in any order, sorted by number, are the log's.
 pub sorted_entries : (entries told xs : List LogEntry) → Rises 1 entries → IsPermutation told entries →
     IsPermutation told xs → IsSortedByKey (λ l. l.number) nat_cmp xs → xs ≡ entries
 sorted_entries entries told xs rises all sorts sorted =

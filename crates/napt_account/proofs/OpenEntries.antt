@@ -81,7 +81,7 @@ has_last [] x = inl refl
 has_last (y ∷ ys) x = inr (has_last ys x)
 
 module _ {X : Type 0} (p : X → Bool) where
-  -- Of elements of which none passes.
+  -- If no element passes, none is found.
   pub find_nothing : (xs : List X) → ((x : X) → Has xs x → p x ≡ false) → find p xs ≡ None
   find_nothing [] never = refl
   find_nothing (x ∷ xs) never = ap (λ v. cond v (Some x) (find p xs)) (never x (inl refl))
@@ -98,7 +98,7 @@ module _ {X : Type 0} (p : X → Bool) where
   any_has (y ∷ ys) x (inr h) passed = elim (p y) as (λ v. (v || list_any p ys) ≡ true)
       [ true ↦ refl | false ↦ any_has ys x h passed ]
 
-  -- Of elements of which one passes.
+  -- If a single element passes, it is found.
   pub find_only : (xs : List X) (x : X) → Has xs x → p x ≡ true → ((y : X) → Has xs y → p y ≡ true → y ≡ x) →
       find p xs ≡ Some x
   find_only [] x h passed only = absurd h
@@ -257,7 +257,7 @@ module _ (now most : ℕ) (all : OpenEntries) (log : LogModel) (shows : OpenEntr
     pub open_is : open_of now r log ≡ Some l
     open_is = find_only test log.entries l (shows.there (entry_key r) l at) row_of row_only
 
--- Where no open entry has its endpoint, nothing is there.
+-- If no open entry has the endpoint, there is nothing at it.
 pub row_free : (now most : ℕ) (all : OpenEntries) (log : LogModel) → OpenEntriesShow now most log all → (r : Row) →
     list_any (λ n. entry_is_of now r n.entry) log.entries ≡ false → open_at all (entry_key r) ≡ None
 row_free now most all log shows r none = go (open_at all (entry_key r)) refl
@@ -281,7 +281,7 @@ module _ (way : Way) (now most : ℕ) (old : OpenEntries) (log : LogModel) (show
   unused_here none = sym (ap (use_found way) (open_none now most old log shows timed.row
       (ap (entry_at old) (sym is) ∙ ap (option_map (λ (o : Open). o.numbered)) none)))
 
-  -- And nothing changes.
+  -- Without an open entry nothing changes.
   pub unused_same : open_at old key ≡ None → with_use way now timed log ≡ log
   unused_same none =
       let free : entry_at old (entry_key timed.row) ≡ None =

@@ -77,7 +77,7 @@ find_agrees p q [] h = refl
 find_agrees p q (x ∷ xs) h = ap (λ v. cond v (Some x) (find p xs)) h.0
     ∙ ap (cond (q x) (Some x)) (find_agrees p q xs h.1)
 
--- And therefore the account of each open entry.
+-- A map therefore has the account of each open entry.
 pub account_is : {S : Type 0} (log : LogModel) (all : HashMap EntryKey Account S) → IsMap log.entries all → (now : ℕ) →
     kept_at now log ≡ log → (row : Row) → hash.get external_eq all (entry_key row) ≡ account_at now log row
 account_is log all is now kept row = is (entry_key row) ∙ ap (option_map account_of_entry)

@@ -93,7 +93,7 @@ module _ (rules : Rules) (keeps : RulesInvariant rules) (saved : State) (left : 
       (λ apart. true≢false (sym same ∙ apart))
       (λ apart. true≢false (sym same ∙ (share_flip n.entry.binding m.entry.binding ∙ apart)))
 
-  -- And so are two such bindings of the state.
+  -- Two bindings of the state with one endpoint are the same.
   one_binding : (b d : Binding) → Has saved.list b → Has saved.list d → share b.row d.row ≡ true → b ≡ d
   one_binding b d h g same = only_one (λ x y. share x.row y.row ≡ false) saved.list (keyed_along row saved.list apart) b d
       h g (λ apart. true≢false (sym same ∙ apart)) (λ apart. true≢false (sym same ∙ (share_flip b.row d.row ∙ apart)))

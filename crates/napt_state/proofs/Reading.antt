@@ -72,7 +72,7 @@ module _ (whole so_far : StateFileModel) (old new : Option StateTextBytes) where
         },
       )
 
-  -- Or there was none.
+  -- There was no next line.
   pub none_next : (Q : Type 0) (reason : StateReason) → Reads (Err reason) old new → IsAhead whole so_far old →
       unless_for reason Q
   none_next Q reason reads ([], ahead) = absurd (one_follows so_far whole ahead.split)
