@@ -24,7 +24,7 @@ use Rattle.napt_run.proofs.{Begun.{ReadBy, read_somehow, read_to_fault, read_wel
 
 -- WHAT IS KNOWN OF THE CAPTURES
 
--- if the bytes of the captures are known, this follows for their inputs
+-- If the bytes of the captures are known, this follows for their inputs.
 pub IfHeld-by : (P : MergedInputs → Type 0) (inside outside : Option (List ℕ))
     → ((bytes others : List ℕ) → inside ≡ Some bytes → outside ≡ Some others →
     P (files_until bytes others)) → IfHeld inside outside P
@@ -45,7 +45,7 @@ fault_told : (side : Side) (fault : CaptureFault) (all : MergedInputs) (inputs :
     IsStreamFaultOf side fault all
 fault_told side fault all inputs never stops = grind (arith, common_steps, nat_tests, ended_is)
 
--- the inputs that were taken before a fault, which is the fault of the files
+-- The inputs that were taken before a fault, which is the fault of the files.
 pub record Refuses (side : Side) (fault : CaptureFault) (all : MergedInputs) (inputs : List Arrival) : Type 0 where
   pub taken : AreTaken side fault all inputs
   pub is_fault : IsStreamFaultOf side fault all
@@ -98,7 +98,7 @@ module _ {R Q W V : Type 0} {G : source.Ghosts R} {H : source.Ghosts Q} {S : sin
       AreCountsOf (ran_by origin inputs).outcomes new.counts
   counted inputs few took = all_counted origin inputs old new counts few took
 
-  -- the inputs are all inputs of the captures
+  -- The inputs are all inputs of the captures.
   pub whole_is : (inputs : List Arrival) (cuts : CutFlags) →
       InputsCame HandsOutInputs MergeEndsWith begin inputs None end →
       cuts.inside ≡ cut_of end.inside → cuts.outside ≡ cut_of end.outside →
@@ -134,7 +134,7 @@ module _ {R Q W V : Type 0} {G : source.Ghosts R} {H : source.Ghosts Q} {S : sin
       is same) (StopsBy-then fault (λ stops. of_files ∙ stops) (came_fault begin end b o
       inputs (record { side = side; fault = fault }) (begun b o is same) came))
 
-  -- the inputs are all those before the fault
+  -- The inputs are all those before the fault.
   pub taken_is : (side : Side) (fault : CaptureFault) (inputs : List Arrival) →
       InputsCame HandsOutInputs MergeEndsWith begin inputs (Some (record { side = side; fault = fault })) end →
       IfHeld bytes others (λ all. AreTaken side fault all inputs)
@@ -155,7 +155,7 @@ module _ {R Q W V : Type 0} {G : source.Ghosts R} {H : source.Ghosts Q} {S : sin
             (λ b o is same. (refused side fault p.inputs p.came b o is same).is_fault);
       }
 
-  -- an output failed
+  -- An output failed.
   came_somehow : (inputs : List Arrival) → HasCome HandsOutInputs MergeEndsWith begin inputs end →
       (mid : StreamMerger R Q G H) × HandsOutInputs begin inputs mid
   came_somehow inputs (inl handed) = (end, handed)
@@ -176,7 +176,7 @@ module _ {R Q W V : Type 0} {G : source.Ghosts R} {H : source.Ghosts Q} {S : sin
     took_inside : OutputGrows old.to_inside (records_text sides.Inside first) middle.to_inside
     failed : FailsBy middle later which fault new
 
-  -- the run itself failed, and no output did
+  -- The run itself failed, and no output did.
   halted : (inputs : List Arrival) (went : List TimedOutcomes) → HasCome HandsOutInputs MergeEndsWith begin inputs end →
       IsFrontOf went (run_left_of origin inputs) → SinkTakes old went new →
       RunHalts open_gate origin bytes others [] old new
@@ -234,7 +234,7 @@ module _ {R Q W V : Type 0} {G : source.Ghosts R} {H : source.Ghosts Q} {S : sin
         failed = p.failed.failed (outside_grew.sound sound.0, inside_grew.sound sound.1) later_times;
       }
 
-  -- the text of both parts
+  -- The text of both parts.
   text_of_both : (side : Side) (first later : List TimedOutcomes) (inputs : List Arrival) →
       first ++ later ≡ run_left_of origin inputs →
       records_text side first ++ records_text side later ≡ records_text side (run_left_of origin inputs)
@@ -273,7 +273,7 @@ module _ {R Q W V : Type 0} {G : source.Ghosts R} {H : source.Ghosts Q} {S : sin
         (breaks_more old.to_inside e.middle.to_inside new.to_inside _ _ fault e.took_inside e.failed.1);
   }
 
-  -- or an output failed before
+  -- An output failed before.
   failed : (which : Which) (fault : WriteFault) → Early which fault → RunHalts open_gate origin bytes others [] old new
   failed Outside fault e = let f = fails_outside fault e in
       record {
@@ -319,7 +319,7 @@ module _ {R Q W V : Type 0} {G : source.Ghosts R} {H : source.Ghosts Q} {S : sin
   runs_to (Err (Write Log fault)) p = (early Log fault p).failed
   runs_to (Err (Run fault)) p = (p.0, halts p.1)
 
-  -- and the number of reads that failed
+  -- The number of reads that failed.
   pub reads_of : (result : Result Totals Fault) → PassesOr open_gate origin begin old end new result →
       (¬ IsOfRun result) → (read : Result (Unit {0}) Fault) × IsReading result read × ReadBy begin end live read
   reads_of (Ok totals) p not_run = grind (arith, common_steps, nat_tests, read_well, well)

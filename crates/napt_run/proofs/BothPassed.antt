@@ -115,7 +115,7 @@ module _ {P A F W V K E : Type 0} {S : sink.Ghosts W} {T : sink.Ghosts V} (tells
     failed = f.failed.failed;
   }
 
-  -- if the log failed, the outputs have what left before
+  -- If the log failed, the outputs have what left before.
   log_failed : (inputs : List Arrival) (went : List (ℕ × InputResult P)) → HasCome hands ends from inputs left →
       IsFrontOf went (Goes tells origin inputs) → (fault : E) → Failed went (Log fault) →
       RunPassesHalted origin hands ends from before.leaving left after.leaving
@@ -198,7 +198,7 @@ module _ {P A F W V K E : Type 0} {S : sink.Ghosts W} {T : sink.Ghosts V} (tells
         entered = subst (λ (l : List (Legs P)). enters before.log.now l after.log.now) f.went_is entered;
       }
 
-  -- if an output failed, everything was recorded in the log
+  -- If an output failed, everything was recorded in the log.
   output_entered : (went : List (ℕ × InputResult P)) (fault : OutputFault) → Failed went (Output fault) →
       enters before.log.now (legs_in went) after.log.now
   output_entered went fault f = grind (arith, common_steps, nat_tests, legs_join)
@@ -301,13 +301,13 @@ module _ {R Q W V P K E : Type 0} {G : source.Ghosts R} {H : source.Ghosts Q} {S
 module _ {P K E : Type 0} (tells : Passage → P) (origin : OriginModel) (enters : K → List (Legs P) → K → Type 0)
     (fails : K → List (Legs P) → E → K → Type 0) (is_settled : K → Type 0) (inside outside : Option (List ℕ)) (it : K)
     (none : enters it [] it) where
-  -- the headers of the outputs could not be written
+  -- The headers of the outputs could not be written.
   pub unbegun_logs : {W V : Type 0} {S : sink.Ghosts W} {T : sink.Ghosts V} (old new : Leaving W V S T)
       (fault : Fault) → FailsToBegin old fault new →
       LogsTo tells origin enters fails is_settled inside outside it it (Err (log_faults.Run fault))
   unbegun_logs old new fault p = grind (arith, common_steps, nat_tests, front, IfHeld-by)
 
-  -- a header of a capture was refused
+  -- A header of a capture was refused.
   pub unread_logs : is_settled it → (side : Side) (fault : CaptureFault) →
       IfHeld inside outside (λ all. AreTaken side fault all []) →
       LogsTo tells origin enters fails is_settled inside outside it it (Err (log_faults.Run (Capture side fault)))

@@ -9,7 +9,7 @@ module _ {W : Type 0} {S : Ghosts W} where
   unfolding breaks_more
   first_within x y z first second fault one two = omega arith
 
-  -- a flush failed after a text
+  -- A flush failed after a text.
   pub flush_breaks : (x y z : Output W S) (text : List ℕ) (r : Result (Unit {0}) WriteFault) →
       OutputGrows x text y → IfErr r (λ fault. y.is_broken ≡ false → Breaks y [] fault z) →
       IfErr r (λ fault. x.is_broken ≡ false → Breaks x text fault z)

@@ -12,7 +12,7 @@ use Rattle.napt_run.specs.Streams.{GetsReport, HasAll, HasPart, HasText, IsRepor
 use Rattle.napt_run.{specs.declared.capture_run.Totals.Totals, proofs.Streamed.{IfHeld-all, IfHeld-map}}
 use Rattle.napt_sequential.specs.declared.fault.RunFault.TheVariants as faults
 
--- all of the text, although no report could be made
+-- All of the text, although no report could be made.
 pub all_left : (origin : OriginModel) (which : Which) (inside outside : Option (List ℕ)) (old new : Option (List ℕ)) →
     IfHeld inside outside (λ all. HasAll origin which all old new) →
     IfHeld inside outside (λ all. HasText origin which all old new ⊎ HasPart origin which all old new)
@@ -72,7 +72,7 @@ none_written : (fault : Fault) → IsBeforeReport fault →
 none_written fault p = grind (arith, common_steps, nat_tests)
 
 module _ {U : Type 0} (S : Ghosts U) (origin : OriginModel) (inside outside : Option (List ℕ)) where
-  -- the report was not begun
+  -- The report was not begun.
   pub report_unbegun : (report : U) (fault : Fault) → IsBeforeReport fault →
       ReportGetsFrom S origin inside outside (Err fault) report report
   report_unbegun report fault stop = record {
@@ -82,7 +82,7 @@ module _ {U : Type 0} (S : Ghosts U) (origin : OriginModel) (inside outside : Op
   }
 
   module _ (old new : U) (totals : Totals) (told : IsToldOf origin inside outside totals) where
-    -- the report could not be made or written
+    -- The report could not be made or written.
     pub report_failed : (fault : Fault) → IsReportFault fault →
         Written totals (Err fault) (S.contents old) (S.contents new) →
         (let r : Result (Unit {0}) Fault = Err fault in S.failed new ≡ S.failed old + failed_writings Report r) →
@@ -93,7 +93,7 @@ module _ {U : Type 0} (S : Ghosts U) (origin : OriginModel) (inside outside : Op
       settled = tt;
     }
 
-    -- the report was written
+    -- The report was written.
     pub report_written : Written totals (Ok tt) (S.contents old) (S.contents new) → S.failed new ≡ S.failed old + 0 →
         S.is_flushed new → ReportGetsFrom S origin inside outside (Ok tt) old new
     report_written written counted flushed = record {
@@ -102,7 +102,7 @@ module _ {U : Type 0} (S : Ghosts U) (origin : OriginModel) (inside outside : Op
       settled = flushed;
     }
 
--- the value that gives the state that is left
+-- The value that gives the state that is left.
 pub left_told : (origin : OriginModel) (inside outside : Option (List ℕ)) (totals : Totals) →
     IsToldOf origin inside outside totals → LeavesInTheEnd origin inside outside totals.passed
 left_told origin inside outside totals told = grind (arith, common_steps, nat_tests, IfHeld-map)

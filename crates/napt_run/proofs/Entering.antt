@@ -18,7 +18,7 @@ some_if : (none : Bool) (last : Option ℕ) → (none ≡ true → ⊥) → cond
 some_if true last some = absurd (some refl)
 some_if false last some = refl
 
--- there is a last input, if the log took any
+-- There is a last input, if the log took any.
 pub last_is : (clock : ℕ) (traces : List Trace) →
     cond (length traces == 0) None (Some (last_trace_time clock traces)) ≡ last_time None traces
 last_is clock [] = refl
@@ -51,7 +51,7 @@ module _ (from : LoggedOrigin) (before : List Trace) (trace : Trace) (old : LogB
   pub few_more : old.taken + 1 < 2 ^ 62 → length before + 1 < 2 ^ 62
   few_more few = subst (λ (l : LogBuilderModel). l.taken + 1 < 2 ^ 62) was few
 
-  -- what the input adds to it
+  -- What the input adds to it.
   pub part_is : (part : LogDelta) → part ≡ part_between old.clock trace.now old.log (after_input old.log trace) →
       part ≡ part_between (last_trace_time from.origin.state.clock before) trace.now (log_after from.log before)
       (after_input (log_after from.log before) trace)

@@ -101,7 +101,7 @@ pub same_front : {X : Type 0} (a b x y : List X) → length a ≡ length b → a
 same_front a b x y n e = sym (take-append_seam a x) ∙ ap (take (length a)) e ∙ ap (λ k. take k (b ++ y)) n
     ∙ take-append_seam b y
 
--- the inputs whose outcomes left
+-- The inputs whose outcomes left.
 pub record Front (origin : OriginModel) (inputs : List Arrival) (went : List TimedOutcomes) : Type 0 where
   pub first : List Arrival
   pub later : List Arrival

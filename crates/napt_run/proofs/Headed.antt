@@ -15,7 +15,7 @@ use Rattle.napt_run.{specs.declared.{output_sinks.Leaving.Leaving, output.Output
 none_held : (inside outside : Option (List ℕ)) → IfHeld inside outside (λ all. IsFrontOf [] all.arrivals)
 none_held inside outside = grind (arith, common_steps, nat_tests, IfHeld-by)
 
--- an output whose header was written before
+-- An output whose header was written before.
 left_behind : {D : Type 0} {S : Ghosts D} (origin : OriginModel) (inside outside : Option (List ℕ)) (side : Side)
     (old mid new : Output D S) → OutputGrows old file_header mid → (inputs : List Arrival) →
     IfHeld inside outside (λ all. IsFrontOf inputs all.arrivals) →
@@ -113,7 +113,7 @@ module _ {W V : Type 0} {S : Ghosts W} {T : Ghosts V} (open_gate : Bool) (origin
     headed (Err (Write Log fault)) p = absurd p
     headed (Err (Run fault)) p = (p.0, halts p.1)
 
-  -- or the headers could not be written
+  -- The headers could not be written.
   pub unheaded : (old new : Leaving W V S T) → old.to_outside.written ≡ 0 → (fault : Fault) →
       FailsToBegin old fault new → To file_header old new (Err fault)
   unheaded old new none (Write Outside fault) (broke, same) =

@@ -10,16 +10,16 @@ use Rattle.napt_run.specs.{Files.{files_until, unless_bad, unless_refused}, Outp
 use Rattle.napt_run.{specs.{Streams.{AreTaken, IsStreamFaultOf, IsHeaderFault}, declared.output_sinks.Leaving.Leaving}, proofs.Behind.{IfHeld-by, refuses}}
 use Rattle.napt_run.proofs.Files.{spelled}
 
--- reading a header of these bytes had this answer
+-- Reading a header of these bytes had this answer.
 abbrev pub Heads : Option (List ℕ) → Option (List ℕ) → Result CaptureFormat CaptureFault → Type 0
 Heads known left r = LeavesBytes known left (λ bytes left. (format_in (take 24 bytes) ≡ r) × (left ≡ drop 24 bytes))
 
--- the header has this fault, unless the device or memory failed
+-- The header has this fault, unless the device or memory failed.
 abbrev pub HeadsBadly : Option (List ℕ) → Option (List ℕ) → CaptureFault → Type 0
 HeadsBadly known left fault = let answer : Result RecordReader CaptureFault = Err fault in
     IsReadResult answer (Heads known left (Err fault))
 
--- no input is handed out of the files, if both are known
+-- No input is handed out of the files, if both are known.
 abbrev pub EndsAtHeader : Side → CaptureFault → Option (List ℕ) → Option (List ℕ) → Type 0
 EndsAtHeader side fault inside outside = (b o : List ℕ) → inside ≡ Some b → outside ≡ Some o →
     IsReadFault fault (files_until b o ≡ at_fault side fault)
@@ -34,7 +34,7 @@ inside_refused inside left outside fault heads b o is same =
     ap (λ r. unless_bad sides.Inside r (unless_refused sides.Outside o (all_of b o))) (spelled b left (Err fault) p))
     (subst (λ (k : Option (List ℕ)). HeadsBadly k left fault) is heads)
 
--- the header of the inside capture is then right
+-- The header of the inside capture is then right.
 pub outside_refused : (inside left known other : Option (List ℕ)) (spelling : CaptureFormat) (fault : CaptureFault) →
     Heads inside left (Ok spelling) → HeadsBadly known other fault → EndsAtHeader sides.Outside fault inside known
 outside_refused inside left known other spelling fault good bad b o is same =
@@ -79,6 +79,6 @@ header_of side (Capture other fault) old new is = (fault, ap (λ (s : Side). Cap
 header_of side (Run fault) old new is = absurd is
 header_of side (Write which fault) old new is = absurd is
 
--- after a header that was read
+-- The failed reads after a header that was read.
 pub more_after : (old mid new more : ℕ) → mid ≡ old + 0 → new ≡ mid + more → new ≡ old + more
 more_after old mid new more none is = omega (arith, none, is)

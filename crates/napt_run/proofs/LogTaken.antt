@@ -17,7 +17,7 @@ module _ (rules : Rules) where
   texts_at state origin =
       record { so_far = log_so_far rules state origin None; whole = log_text rules state origin None false }
 
-  -- a log without entries, which gets the redirects first
+  -- A log without entries, which gets the redirects first.
   abbrev told_anew : LogModel → LogOrigin
   told_anew log =
       let none : LogModel = record { made = 0; entries = []; shortages = [] } in
@@ -91,7 +91,7 @@ module _ {L : Type 0} {S : Ghosts L} (start : Start) (log_start : LogStart) (tak
     written = written;
   }
 
-  -- its texts are those of the contracts
+  -- Its texts are those of the contracts.
   pub texts_taken : (it : RunningLog L S) → it.log ≡ taken.log → string_bytes it.opening ≡ string_bytes taken.opening →
       it.each ≡ log_start.each → it.goes_on ≡ log_start.goes_on →
       texts_of (running_log_of (origin_of start) it) ≡ texts_from start log_start

@@ -43,7 +43,7 @@ text_is : (from : LoggedOrigin) (inputs : List Arrival) →
 unfolding whole_text
 text_is from inputs = refl
 
--- a prefix of the text so far is one of the whole text
+-- A prefix of the text so far is one of the whole text.
 cut_is : (from : LoggedOrigin) (inputs : List Arrival) (count : ℕ) → count ≤ length (text_so_far from inputs) →
     take count (text_so_far from inputs) ≡ take count (whole_text from inputs)
 cut_is from inputs count within =
@@ -78,7 +78,7 @@ module _ {L : Type 0} {S : Ghosts L} (from : LoggedOrigin) (inside outside : Opt
       HasBytes (texts_of from) count all Before After
   bytes_of inputs count within appended all front = grind (arith, common_steps, nat_tests, cut_within, cut_is)
 
-  -- writing the rows failed
+  -- Writing the rows failed.
   pub broken : (inputs : List Arrival) (fault : WriteFault) → Breaks old (text_so_far from inputs) fault new →
       Held (λ all. IsFrontOf inputs all.arrivals) →
       Held (λ all. HasWritten (texts_of from) fault.written all Before After)
@@ -90,7 +90,7 @@ module _ {L : Type 0} {S : Ghosts L} (from : LoggedOrigin) (inside outside : Opt
         bytes_of inputs p.count p.within p.appended all front,
       ))
 
-  -- or writing the rows of live bindings failed
+  -- Writing the rows of live bindings failed.
   broken_end : (inputs : List Arrival) (fault : WriteFault) → Breaks old (whole_text from inputs) fault new →
       Held (λ all. IsFrontOf inputs all.arrivals) →
       Held (λ all. HasWritten (texts_of from) fault.written all Before After)
@@ -129,13 +129,13 @@ front_first : (inside outside : Option (List ℕ)) (inputs first others : List A
 front_first inside outside inputs first others both front =
     grind (arith, common_steps, nat_tests, IfHeld-map, append_assoc)
 
--- no call of the log failed, or one did, and none after it
+-- No call of the log failed, or one did, and none after it.
 abbrev FailsThen : {L : Type 0} {S : Ghosts L} (old new : Output L S) → Type 0
 FailsThen {L} {S} old new =
     (S.failed new.device.now ≡ S.failed old.device.now)
     ⊎ ((new.is_broken ≡ true) × (S.failed new.device.now ≡ S.failed old.device.now + 1))
 
--- the log has a part of the rows
+-- The log has a part of the rows.
 record LeavesPart {L : Type 0} {S : Ghosts L} (from : LoggedOrigin) (inside outside : Option (List ℕ))
     (old new : Output L S) : Type 0 where
   same : new.device.ghost_name ≡ old.device.ghost_name
@@ -151,7 +151,7 @@ once_more : (broken : Bool) (old mid new : ℕ) → (mid ≡ old) ⊎ ((broken �
     FailsMore broken mid new → FailsAtMostOnce old new
 once_more broken old mid new first more = grind (arith, common_steps, nat_tests)
 
--- and it has a part of the text at the end
+-- The log has a part of the text at the end.
 record EndsPart {L : Type 0} {S : Ghosts L} (from : LoggedOrigin) (inside outside : Option (List ℕ))
     (old new : Output L S) : Type 0 where
   same : new.device.ghost_name ≡ old.device.ghost_name
@@ -165,14 +165,14 @@ traces_back : (all : List Trace) → running_log_traces (map (λ trace. (trace.n
 traces_back [] = refl
 traces_back (trace ∷ all) = ap (λ (l : List Trace). trace ∷ l) (traces_back all)
 
--- the traces of the legs of these inputs
+-- The traces of the legs of these inputs.
 abbrev pub told_traces : OriginModel → List Arrival → List Trace
 told_traces origin inputs = running_log_traces (legs_told (λ (p : Passage). p) origin inputs)
 
 pub traces_told : (origin : OriginModel) (inputs : List Arrival) → told_traces origin inputs ≡ traces_by origin inputs
 traces_told origin inputs = traces_back (traces_by origin inputs)
 
--- the time of the last trace is that of the last input
+-- The time of the last trace is that of the last input.
 time_from : (rules : Rules) (number clock : ℕ) (inputs : List Arrival) (list : List Binding) →
     last_trace_time clock (traces_from rules number clock inputs list) ≡ last_clock clock inputs
 time_from rules number clock [] list = refl
@@ -222,7 +222,7 @@ module _ {L : Type 0} {S : Ghosts L} (from : LoggedOrigin) (laws : AreLaws from.
   broke inputs fault p = subst (λ (l : TimeText). Breaks old.output l fault after.output) (so_far_is from inputs)
       (breaks_more old.output mid.output after.output _ _ fault begun.wrote p)
 
-  -- what these inputs did was recorded in the log
+  -- What these inputs did was recorded in the log.
   entered : (inputs : List Arrival) → Enters mid (told_traces from.origin inputs) after →
       LogGoesOnFrom from (traces_by from.origin inputs) (rows_on from inputs) mid.output after
   entered inputs enters =
@@ -255,7 +255,7 @@ module _ {L : Type 0} {S : Ghosts L} (from : LoggedOrigin) (laws : AreLaws from.
       Breaks old.output (text_so_far from inputs) fault after.output
   broken_over inputs fault p = grind (arith, common_steps, nat_tests, broke, laws.rows from.each)
 
-  -- the input whose trace was not taken
+  -- The input whose trace was not taken.
   next_of : (inputs : List Arrival) (fault : RunFault)
       (p : LogHalts from [] (traces_by from.origin inputs) fault mid after) →
       NextInput (from.origin) inputs p.first p.next
@@ -319,7 +319,7 @@ module _ {L : Type 0} {S : Ghosts L} (from : LoggedOrigin) (laws : AreLaws from.
   failed_at (Run (faults.Capture side fault)) inputs front p = absurd p
   failed_at (Run (faults.Write which fault)) inputs front p = absurd p
 
-  -- what the log has if the run failed, whether or not the log is flushed after that
+  -- What the log has if the run failed, whether or not the log is flushed after that.
   module _ (last : Output L S) (same : last.device.ghost_name ≡ after.output.device.ghost_name)
       (kept : Appends (S.contents after.output.device.now) (S.contents last.device.now) [])
       (more : FailsMore after.output.is_broken (S.failed after.output.device.now) (S.failed last.device.now)) where
@@ -373,7 +373,7 @@ module _ {L : Type 0} {S : Ghosts L} (from : LoggedOrigin) (laws : AreLaws from.
         subst (Gets (log_faults.Log fault)) (sym (flushed tt))
         (failed_at fault f.inputs f.front (failed_over f.inputs fault f.failed))
 
-  -- or the run did not fail, and the rows of live bindings were written
+  -- The run did not fail, and the rows of live bindings were written.
   module _ (last : RunningLog L S) (totals : Totals)
       (s : EntersAll (λ (p : Passage). p) (from.origin) EntersLegs FailsLegs Settled inside outside mid after
       totals.cuts) where
@@ -403,7 +403,7 @@ module _ {L : Type 0} {S : Ghosts L} (from : LoggedOrigin) (laws : AreLaws from.
     closed_at closed p =
         subst (λ (l : TimeText). Adds from (traces_by from.origin s.inputs) l after.output closed last) ending_at p
 
-    -- and it is known what is kept of the log
+    -- What is kept of the log is known.
     pub kept_at_end : last.left ≡ left_with from (traces_by from.origin s.inputs) →
         LogIsKept from.origin from.log inside outside last.left
     kept_at_end is = IfHeld-map (λ all. all ≡ record { arrivals = s.inputs; end = Ok totals.cuts })
@@ -461,7 +461,7 @@ module _ {L : Type 0} {S : Ghosts L} (from : LoggedOrigin) (laws : AreLaws from.
     ended_badly (Run (faults.Capture side fault)) p = absurd p
     ended_badly (Run (faults.Write which fault)) p = absurd p
 
--- or the log could not be opened
+-- The log could not be opened.
 module _ {L : Type 0} {S : Ghosts L} (from : LoggedOrigin) (inside outside : Option (List ℕ))
     (old last : RunningLog L S) (none : old.output.written ≡ 0) where
   pub unopened : (fault : LogRunFault) → Adds from [] from.opening old.output (Err fault) last →
@@ -493,7 +493,7 @@ module _ {L : Type 0} {S : Ghosts L} (from : LoggedOrigin) (inside outside : Opt
 
 -- A FAULT OF THE LOG
 
--- a text of the log could not be made or written
+-- A text of the log could not be made or written.
 abbrev pub IsOfText : LogRunFault → Type 0
 IsOfText (Log fault) = Unit {0}
 IsOfText (Run (faults.Run reasons.Memory)) = Unit {0}
@@ -517,7 +517,7 @@ module _ {D : Type 0} (S : Ghosts D) (origin : OriginModel) (inside outside : Op
   abbrev Device : Which → Result Totals Fault → Type 0
   Device which result = DeviceGetsFrom S origin which inside outside result old new
 
-  -- if the run failed, whatever its fault
+  -- The outputs if the run failed, whatever its fault.
   of_run : (which : Which) (result : Result Totals Fault) → IsOfRun result →
       Device which (Err (faults.Run reasons.Memory)) → Device which result
   of_run which (Ok totals) run p = absurd run
@@ -551,7 +551,7 @@ module _ {D : Type 0} (S : Ghosts D) (origin : OriginModel) (inside outside : Op
   of_run which (Err (faults.Write outputs.Inside fault)) run p = absurd run
   of_run which (Err (faults.Write outputs.Report fault)) run p = absurd run
 
-  -- if the run reached its end, but the rows of live bindings could not be written
+  -- The outputs if the run reached its end, but the rows of live bindings could not be written.
   pub device_after : (which : Which) (totals : Totals) (fault : LogRunFault) → IsOfText fault →
       Device which (Ok totals) → Device which (besides_log (Err fault))
   device_after which totals fault text p =
@@ -575,7 +575,7 @@ module _ {L : Type 0} {S : Ghosts L} (open_gate : Bool) (from : LoggedOrigin) (l
   abbrev Halted : LoggingFault LogRunFault → Type 0
   Halted halt = Watched from laws inside outside old mid after none begun (Err halt)
 
-  -- it is a fault of the run or of the log, or as the run returned it
+  -- It is a fault of the run or of the log, or as the run returned it.
   pub halt_is : (halt : LoggingFault LogRunFault) → Halted halt →
       IsOfRun (besides_log {T = Totals} (Err (logged_fault_of halt))) ⊎ (as_run {T = Totals} (Err halt)
       ≡ besides_log (Err (logged_fault_of halt)))
@@ -590,19 +590,19 @@ module _ {L : Type 0} {S : Ghosts L} (open_gate : Bool) (from : LoggedOrigin) (l
       IfHeld inside outside (λ all. 2 ^ 62 ≤ length all.arrivals)
   too_many inputs many front = grind (arith, common_steps, nat_tests, IfHeld-map, length-append)
 
-  -- the fault of the log, among those of a run with a log
+  -- The fault of the log, among those of a run with a log.
   halt_at : (inputs : List Arrival) (fault : RunFault) →
       LogFails mid (told_traces from.origin inputs) (Run (faults.Run fault)) after →
       LogHalts from [] (traces_by from.origin inputs) fault mid after
   halt_at inputs fault fails = failed_over from laws inside outside old mid after none begun inputs
       (Run (faults.Run fault)) fails
 
-  -- there were too many inputs
+  -- There were too many inputs.
   too_many_at : (inputs : List Arrival) → LogHalts from [] (traces_by from.origin inputs) reasons.TooMany mid after →
       2 ^ 62 ≤ length inputs
   too_many_at inputs p = grind (arith, common_steps, nat_tests, traces_long, length-append)
 
-  -- the next trace of a run is always possible
+  -- The next trace of a run is always possible.
   never_refused : (inputs : List Arrival) (first : List Trace) (next : Trace) →
       NextInput from.origin inputs first next →
       (¬ IsNext (last_trace_time from.origin.state.clock first) (log_after from.log first) next) → ⊥

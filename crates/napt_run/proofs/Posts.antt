@@ -34,7 +34,7 @@ module _ (origin : OriginModel) (which : Which) (all : MergedInputs) (old new : 
   same_text (Err (Run fault)) inputs = refl
   same_text (Err (Write other fault)) inputs = refl
 
-  -- this number of bytes
+  -- This number of bytes.
   part_of : (result : Result (Unit {0}) Fault) (inputs : List Arrival) (count : ℕ) → IsFrontOf inputs all.arrivals →
       count ≤ length (textof inputs) → Appends old new (take count (textof inputs)) →
       ExtentPost which result all inputs count (length (textof inputs)) → Post result
@@ -48,7 +48,7 @@ module _ (origin : OriginModel) (which : Which) (all : MergedInputs) (old new : 
         extent = subst (λ (l : List ℕ). ExtentPost which result all inputs count (length l)) is extent;
       }
 
-  -- all bytes
+  -- All bytes.
   whole_of : (result : Result (Unit {0}) Fault) (inputs : List Arrival) → IsFrontOf inputs all.arrivals →
       Appends old new (textof inputs) →
       ExtentPost which result all inputs (length (textof inputs)) (length (textof inputs)) → Post result
@@ -108,7 +108,7 @@ module _ (origin : OriginModel) (all : MergedInputs) (old new : Option (List ℕ
   inside_has (Err (Run fault)) (inr (inputs, front, (count, header, within, p))) =
       part_of origin Inside all old new (Err (Run fault)) inputs count front within p header
 
--- the fault of a run is either one of the run itself or not
+-- The fault of a run is either one of the run itself or not.
 run_of : (T X : Type 0) (fault : Fault) → IsOfRun {T = T} (Err fault) → IsOfRun {T = X} (Err fault)
 run_of T X (Capture side fault) run = run
 run_of T X (Run fault) run = run
@@ -161,7 +161,7 @@ module _ {D T : Type 0} (S : Ghosts D) (origin : OriginModel) (inside outside : 
     flushed = p.settled;
   }
 
--- all of the text, if the run succeeds
+-- All of the text, if the run succeeds.
 pub all_of : (origin : OriginModel) (which : Which) (all : MergedInputs) (old new : Option (List ℕ)) →
     Post origin which all old new (Ok tt) → HasAll origin which all old new
 all_of origin which all old new p = (
@@ -293,7 +293,7 @@ plain_fault open_gate inside outside fault explained stop = record {
 
 -- THE LOG
 
--- a fault of a run with a log, as one of the run
+-- A fault of a run with a log, as one of the run.
 module _ (texts : LogTexts) (all : MergedInputs) (old new : Option (List ℕ)) where
   abbrev LogHas : Result (Unit {0}) Fault → Type 0
   LogHas result = OutputPost texts Log result all old new
@@ -495,7 +495,7 @@ pub log_at : {L T : Type 0} {S : Ghosts L} (texts : LogTexts) (inside outside : 
     LogGetsText S texts inside outside result start last
 log_at texts inside outside result old new same gets start last from at = rw (at same, sym from) gets
 
--- if nothing was begun, it has nothing
+-- If nothing was begun, the device has nothing.
 pub log_unbegun : {L : Type 0} (S : Ghosts L) (texts : LogTexts) (inside outside : Option (List ℕ)) (log : L) →
     SinkPost S texts Log inside outside (Err (Run Memory)) log log
 log_unbegun S texts inside outside log = record {
@@ -541,7 +541,7 @@ pub kept_with : (P : LogModel → Type 0) (told : Result Totals Fault) (log : Lo
 kept_with P (Ok totals) log result is p = rw is p
 kept_with P (Err fault) log result is p = rw is tt
 
--- a fault of the log among those of the run
+-- A fault of the log among those of the run.
 
 pub unified_fault : (P : Fault → Type 0) (told : Result Totals LogRunFault) →
     IfErr told (λ fault. P (fault_of_logged_run fault)) → IfErr (unified told) P
@@ -566,7 +566,7 @@ unified_reads of if old new other last (Err (logged.Run fault)) reads none =
     let told : Result Totals Fault = Err fault in reads_post of if old new other last told reads none
 unified_reads of if old new other last (Err (logged.Log fault)) reads none = absurd (none tt)
 
--- the report is not written yet
+-- The report is not written yet.
 pub unified_before : (open_gate : Bool) (fault : LogRunFault) → IsLoggedStop open_gate fault →
     IsBeforeReport (fault_of_logged_run fault)
 unified_before open_gate (logged.Log fault) stop = tt
@@ -591,7 +591,7 @@ pub on_any : {T F : Type 0} (result : Result T F) (P : Type 0) → P → OnOk re
 on_any (Ok given) P p = p
 on_any (Err fault) P p = tt
 
--- a fault of the report says nothing of the captures
+-- A fault of the report says nothing of the captures.
 pub report_explained : (is_kept open_gate : Bool) (inside outside : Option (List ℕ)) (fault : Fault) →
     IsReportFault fault → FaultPost is_kept open_gate inside outside fault
 report_explained is_kept open_gate inside outside (Write Report fault) report =

@@ -24,12 +24,12 @@ IfHeld-all P inside outside all = IfHeld-by P inside outside (λ b o is same. al
 
 -- ONE OUTPUT
 
--- its text
+-- Its text.
 grown_text : (origin : OriginModel) (side : Side) (inputs : List Arrival) (old new : Option (List ℕ)) →
     Appends old new (text_behind file_header origin side inputs) → Appends old new (capture_text origin side inputs)
 grown_text origin side inputs old new grown = grind (arith, common_steps, nat_tests, ℕ, capture_is)
 
--- or a prefix of it
+-- A prefix of the text.
 broken_text : {W : Type 0} {S : Ghosts W} (origin : OriginModel) (side : Side) (inputs : List Arrival)
     (old new : Output W S) (fault : WriteFault) → old.written ≡ 0 →
     Breaks old (text_behind file_header origin side inputs) fault new →
@@ -43,7 +43,7 @@ broken_text {W} {S} origin side inputs old new fault none p = (
       (capture_is origin side inputs) p.appended,
 )
 
--- the device is the same, and this number of further calls of it failed
+-- The device is the same, and this number of further calls of it failed.
 pub record Counted {W : Type 0} {S : Ghosts W} (old new : Output W S) (more : ℕ) : Type 0 where
   pub same : new.device.ghost_name ≡ old.device.ghost_name
   pub count : S.failed new.device.now ≡ S.failed old.device.now + more
@@ -78,7 +78,7 @@ module _ {W V : Type 0} {S : Ghosts W} {T : Ghosts V} (open_gate : Bool) (origin
 
 -- WHAT AN OUTPUT GOT
 
--- given the output before and after
+-- What the device of an output has, given the output before and after.
 record At {D : Type 0} {S : Ghosts D} (origin : OriginModel) (which : Which) (inside outside : Option (List ℕ))
     (result : Result Totals Fault) (old new : Output D S) : Type 0 where
   gets : Streams origin which (stream_ended result) inside outside (S.contents old.device.now)
@@ -98,7 +98,7 @@ module _ {D : Type 0} {S : Ghosts D} (origin : OriginModel) (which : Which) (ins
   abbrev CountsNone : Fault → Type 0
   CountsNone fault = failed_writings which (Err fault) ≡ 0
 
-  -- it has all records of these inputs
+  -- It has all records of these inputs.
   at_end : (totals : Totals) (inputs : List Arrival) → failed_writings which (Ok tt) ≡ 0 →
       IfHeld inside outside (λ all. all ≡ record { arrivals = inputs; end = Ok totals.cuts }) → Grew inputs →
       S.is_flushed new.device.now → Was (Ok totals)
@@ -122,7 +122,7 @@ module _ {D : Type 0} {S : Ghosts D} (origin : OriginModel) (which : Which) (ins
       (S.contents new.device.now))
   has_front inputs fault none front broke = grind (arith, common_steps, nat_tests, IfHeld-map, broken_text)
 
-  -- the run itself failed
+  -- The run itself failed.
   has_part : (inputs : List Arrival) (fault : WriteFault) →
       IfHeld inside outside (λ all. IsFrontOf inputs all.arrivals) →
       (broke : Breaks old (text_behind file_header origin (side_of which) inputs) fault new) →
@@ -165,7 +165,7 @@ module _ {W V : Type 0} {S : Ghosts W} {T : Ghosts V} (open_gate : Bool) (origin
   abbrev Runs : Result Totals Fault → Type 0
   Runs result = RunsTo open_gate origin inside outside file_header old new result
 
-  -- what an output has after a fault of the run itself
+  -- What an output has after a fault of the run itself.
   at_outside : old.to_outside.written ≡ 0 → (result : Result Totals Fault) → Runs result → IsAtOutside result
   at_outside none (Ok totals) p = grind (arith, common_steps, nat_tests, at_end)
   at_outside none (Err (Capture side fault)) p = grind (arith, common_steps, nat_tests, at_fault)
@@ -186,7 +186,7 @@ module _ {W V : Type 0} {S : Ghosts W} {T : Ghosts V} (open_gate : Bool) (origin
   at_outside none (Err (Write Log fault)) p = absurd p
   at_outside none (Err (Run fault)) p = grind (arith, common_steps, nat_tests, at_halt)
 
-  -- if the output to the outside failed, the one to the inside may not have been begun
+  -- If the output to the outside failed, the one to the inside may not have been begun.
   kept : (fault : WriteFault) (p : FailsOutside open_gate origin inside outside file_header old new fault) →
       OutputGrows old.to_inside (text_behind file_header origin sides.Inside p.before) new.to_inside
       ⊎ ((fault.written ≤ length file_header) × (new.to_inside ≡ old.to_inside)) →
@@ -220,7 +220,7 @@ module _ {W V : Type 0} {S : Ghosts W} {T : Ghosts V} (open_gate : Bool) (origin
 
 -- WHERE THE DEVICES ARE LEFT
 
--- the device of an output, which is left as the output leaves it
+-- The device of an output, which is left as the output leaves it.
 done : {D : Type 0} {S : Ghosts D} (origin : OriginModel) (which : Which) (inside outside : Option (List ℕ))
     (result : Result Totals Fault) (old new : Output D S) →
     At origin which inside outside result old new → (start last : D) → old.device.now ≡ start →

@@ -11,7 +11,7 @@ module _ {X : Type 0} (of : Trace → X) (origin : OriginModel) where
   long inputs = length-map (traces_by origin inputs) of ∙ traces_long origin.rules 0 origin.state.clock inputs
       origin.state.list
 
-  -- the inputs to which these traces belong
+  -- The inputs to which these traces belong.
   pub record TraceFront (inputs : List Arrival) (went : List X) : Type 0 where
     pub first : List Arrival
     pub later : List Arrival
@@ -57,7 +57,7 @@ same_last [] (w ∷ ys) x y long e = absurd (omega (arith, long))
 same_last (z ∷ xs) [] x y long e = absurd (omega (arith, long))
 same_last (z ∷ xs) (w ∷ ys) x y long e = same_last xs ys x y (omega (arith, long)) (cc (e))
 
--- the inputs before the one to which the next trace belongs
+-- The inputs before the one to which the next trace belongs.
 pub record NextInput (origin : OriginModel) (inputs : List Arrival) (first : List Trace) (next : Trace) : Type 0 where
   pub before : List Arrival
   pub input : Arrival

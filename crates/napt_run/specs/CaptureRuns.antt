@@ -17,7 +17,7 @@ use Rattle.napt_run.specs.declared.logging.LoggingFault.TheVariants as log_fault
 
 -- THE OUTPUTS
 
--- the first of these outcomes were taken, and the fault came while the others were
+-- The first of these outcomes were taken, and the fault came while the others were.
 pub record FailsAfter {W V : Type 0} {S : sink.Ghosts W} {T : sink.Ghosts V} (before : Leaving W V S T)
     (went : List TimedOutcomes) (fault : OutputFault) (after : Leaving W V S T) : Type 0 where
   pub first : List TimedOutcomes
@@ -30,7 +30,7 @@ pub record FailsAfter {W V : Type 0} {S : sink.Ghosts W} {T : sink.Ghosts V} (be
 module _ {A F W V : Type 0} {S : sink.Ghosts W} {T : sink.Ghosts V} (origin : OriginModel)
     (hands : A → List Arrival → A → Type 0) (ends : A → Option F → A → Type 0) (from : A) (before : Leaving W V S T)
     (left : A) (after : Leaving W V S T) where
-  -- the arrivals ended or failed, and the outcomes of the inputs before that were taken
+  -- The arrivals ended or failed, and the outcomes of the inputs before that were taken.
   pub record RunPassesTo (end : Option F) : Type 0 where
     pub inputs : List Arrival
     pub came : InputsCame hands ends from inputs end left
@@ -43,7 +43,7 @@ module _ {A F W V : Type 0} {S : sink.Ghosts W} {T : sink.Ghosts V} (origin : Or
     pub bindings : passed.bindings.items ≡ (ran_by origin whole.inputs).bindings
     pub leaves : GivesState origin whole.inputs passed
 
-  -- an output failed, and the outcomes that left before are a prefix of all
+  -- An output failed, and the outcomes that left before are a prefix of all.
   pub record RunPassesEarly (fault : OutputFault) : Type 0 where
     pub inputs : List Arrival
     pub went : List TimedOutcomes
@@ -51,7 +51,7 @@ module _ {A F W V : Type 0} {S : sink.Ghosts W} {T : sink.Ghosts V} (origin : Or
     pub front : IsFrontOf went (run_left_of origin inputs)
     pub failed : FailsAfter before went fault after
 
-  -- the run itself failed, or its log; an output may have failed too
+  -- The run itself failed, or its log; an output may have failed too.
   pub record RunPassesHalted : Type 0 where
     pub inputs : List Arrival
     pub went : List TimedOutcomes
@@ -69,7 +69,7 @@ module _ {A F W V : Type 0} {S : sink.Ghosts W} {T : sink.Ghosts V} (origin : Or
 module _ {R Q W V : Type 0} {G : source.Ghosts R} {H : source.Ghosts Q} {S : sink.Ghosts W} {T : sink.Ghosts V}
     (open_gate : Bool) (origin : OriginModel) (from : StreamMerger R Q G H) (before : Leaving W V S T)
     (left : StreamMerger R Q G H) (after : Leaving W V S T) where
-  -- the run succeeded, with these totals for the report
+  -- The run succeeded, with these totals for the report.
   pub record PassesAll (totals : Totals) : Type 0 where
     pub well : RunPassesWell origin HandsOutInputs MergeEndsWith from before left after totals.passed
     pub counts : totals.counts ≡ after.counts
@@ -93,21 +93,21 @@ module _ {P A F K E : Type 0} (tells : Passage → P) (origin : OriginModel) (ha
     (ends : A → Option F → A → Type 0) (enters : K → List (Legs P) → K → Type 0)
     (fails : K → List (Legs P) → E → K → Type 0) (is_settled : K → Type 0) (from : A) (old : K) (left : A)
     (new : K) where
-  -- the arrivals ended or failed, the inputs before that were recorded in the log, and it is flushed
+  -- The arrivals ended or failed, the inputs before that were recorded in the log, and it is flushed.
   pub record EntersTo (end : Option F) : Type 0 where
     pub inputs : List Arrival
     pub came : InputsCame hands ends from inputs end left
     pub entered : enters old (legs_told tells origin inputs) new
     pub settled : is_settled new
 
-  -- the first of the inputs that came were recorded
+  -- The first of the inputs that came were recorded.
   pub record EntersFirst : Type 0 where
     pub first : List Arrival
     pub later : List Arrival
     pub come : HasCome hands ends from (first ++ later) left
     pub entered : enters old (legs_told tells origin first) new
 
-  -- or the log failed over them
+  -- The log failed over the first of the inputs that came.
   pub record FailsFirst (fault : E) : Type 0 where
     pub first : List Arrival
     pub later : List Arrival
@@ -121,7 +121,7 @@ module _ {P A F K E : Type 0} (tells : Passage → P) (origin : OriginModel) (ha
   EntersBy (Err (pass_faults.Departure (Log fault))) = FailsFirst fault
   EntersBy (Err (pass_faults.Run fault)) = EntersFirst ⊎ ((fault : E) × FailsFirst fault)
 
--- as a run over captures ends, so does the run from their arrivals
+-- As a run over captures ends, so does the run from their arrivals.
 abbrev pub passed_as : {E : Type 0} → Result Totals (LoggingFault E) →
     Result RunSummary (PassFault SideFault (LeavingFault E))
 passed_as (Ok totals) = Ok totals.passed

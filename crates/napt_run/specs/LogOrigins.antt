@@ -6,12 +6,12 @@ use Rattle.napt_log_text.specs.{Logs.{LogOrigin, first_part, first_text, living_
 use Rattle.napt_rules.specs.Prelude.{Arrival, State, initial_state, with_redirects}
 use Rattle.napt_run.specs.{Origins.{OriginModel, origin_of}, declared.{start.Start.Start, log_start.{LogStart.LogStart, TakenLog.TakenLog}}}
 
--- the text of a log after these inputs, and at the end of the run over them
+-- The text of a log after these inputs, and at the end of the run over them.
 pub record LogTexts : Type 0 where
   pub so_far : List Arrival → TimeText
   pub whole : List Arrival → TimeText
 
--- the texts of a run from the state before any input
+-- The texts of a run from the state before any input.
 abbrev pub texts_anew : Rules → LogTexts
 texts_anew rules = record {
   so_far = log_so_far rules (initial_state rules) (log_anew rules) None;
@@ -74,7 +74,7 @@ pub record IsTakenAs (start : Start) (log_start : LogStart) (taken : TakenLog) :
   }
   pub opening : string_bytes taken.opening ≡ first_text start.config.now (log_origin start log_start)
 
--- a run whose log goes on: the beginning of its text, the log, the seconds in a piece, and whether another run goes on
+-- A run whose log goes on: the beginning of its text, the log, the seconds in a piece, and whether another run goes on.
 pub record LoggedOrigin : Type 0 where
   pub origin : OriginModel
   pub opening : TimeText
@@ -86,7 +86,7 @@ unfoldable pub text_so_far : LoggedOrigin → List Arrival → TimeText
 text_so_far from inputs =
     from.opening ++ rows_from from.origin.rules from.origin.state from.each from.log inputs
 
--- the rows of the live bindings, unless another run goes on
+-- The rows of the live bindings, unless another run goes on.
 unfoldable pub ending : LoggedOrigin → List Arrival → TimeText
 ending from inputs = if from.goes_on then []
     else living_rows from.origin.rules

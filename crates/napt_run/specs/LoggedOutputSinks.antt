@@ -6,39 +6,39 @@ use Rattle.napt_run.specs.{OutputSinks.{SinkFails, IsSettled, SinkTakes, TimedOu
 use Rattle.napt_run.specs.declared.{output_sinks.OutputFault.OutputFault, logged_output_sinks.LeavingFault.{LeavingFault, TheVariants.{Output, Log}}}
 use Rattle.napt_run.specs.declared.logged_output_sinks.LeavingWithLog.{LeavingWithLog}
 
--- the outcomes of what left, with the arrival times of their inputs
+-- The outcomes of what left, with the arrival times of their inputs.
 abbrev pub outcomes_in : {P : Type 0} → List (ℕ × InputResult P) → List TimedOutcomes
 outcomes_in all = map (λ left. (left.0, left.1.outcome)) all
 
--- and the traces of their legs
+-- The traces of the legs of what left.
 abbrev pub legs_in : {P : Type 0} → List (ℕ × InputResult P) → List (Legs P)
 legs_in all = map (λ left. (left.1.now, left.1.first, left.1.second)) all
 
 module _ {W V K : Type 0} {S : Ghosts W} {T : Ghosts V} where
-  -- its log is at the same place
+  -- Its log is at the same place.
   abbrev pub IsSameSinkPlace : LeavingWithLog W V K S T → LeavingWithLog W V K S T → Type 0
   IsSameSinkPlace old new = new.log.ghost_name ≡ old.log.ghost_name
 
-  -- all that left is flushed, the log too
+  -- All that left is flushed, the log too.
   abbrev pub AreSettled : (K → Type 0) → LeavingWithLog W V K S T → Type 0
   AreSettled is_settled it = IsSettled it.leaving × is_settled it.log.now
 
 module _ {P W V K : Type 0} {S : Ghosts W} {T : Ghosts V} where
-  -- all that left was recorded in the log, and the outputs have its records
+  -- All that left was recorded in the log, and the outputs have its records.
   pub record TakesBoth (enters : K → List (Legs P) → K → Type 0) (old : LeavingWithLog W V K S T)
       (all : List (ℕ × InputResult P)) (new : LeavingWithLog W V K S T) : Type 0 where
     pub took : SinkTakes old.leaving (outcomes_in all) new.leaving
     pub entered : enters old.log.now (legs_in all) new.log.now
     pub same : IsSameSinkPlace old new
 
-  -- an output failed, and everything was recorded in the log
+  -- An output failed, and everything was recorded in the log.
   pub record FailsOutput (enters : K → List (Legs P) → K → Type 0) (old : LeavingWithLog W V K S T)
       (all : List (ℕ × InputResult P)) (fault : OutputFault) (new : LeavingWithLog W V K S T) : Type 0 where
     pub failed : SinkFails old.leaving (outcomes_in all) fault new.leaving
     pub entered : enters old.log.now (legs_in all) new.log.now
     pub same : IsSameSinkPlace old new
 
-  -- the log failed, and no output has more than before
+  -- The log failed, and no output has more than before.
   pub record FailsLog {E : Type 0} (fails : K → List (Legs P) → E → K → Type 0) (old : LeavingWithLog W V K S T)
       (all : List (ℕ × InputResult P)) (fault : E) (new : LeavingWithLog W V K S T) : Type 0 where
     pub kept : new.leaving ≡ old.leaving

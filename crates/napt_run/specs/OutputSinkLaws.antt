@@ -58,7 +58,7 @@ module _ {W : Type 0} {S : Ghosts W} where
     kept = two.kept ∙ one.kept;
   }
 
--- a fault after what was written
+-- A fault after what was written.
 module _ {W : Type 0} {S : Ghosts W} where
   unfoldable pub breaks_more : (x y z : Output W S) (first second : List ℕ) (fault : WriteFault) →
       OutputGrows x first y →

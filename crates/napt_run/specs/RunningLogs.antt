@@ -31,21 +31,21 @@ abbrev pub last_time : Option ℕ → List Trace → Option ℕ
 last_time last [] = last
 last_time last (trace ∷ traces) = last_time (Some trace.now) traces
 
--- after such a fault of a run its log has been flushed already, or cannot be
+-- After such a fault of a run its log has been flushed already, or cannot be.
 abbrev pub IsFlushedAt : LoggingFault LogRunFault → Type 0
 IsFlushedAt (log_faults.Run (faults.Capture side fault)) = Unit {0}
 IsFlushedAt (log_faults.Log fault) = Unit {0}
 IsFlushedAt other = ⊥
 
--- no more calls of a log failed, or one did if none had failed before
+-- No more calls of a log failed, or one did if none had failed before.
 abbrev pub FailsMore : Bool → ℕ → ℕ → Type 0
 FailsMore is_broken old new = (new ≡ old) ⊎ ((is_broken ≡ false) × (new ≡ old + 1))
 
--- the traces of inputs, from the passages of their legs
+-- The traces of inputs, from the passages of their legs.
 abbrev pub running_log_traces : List (Legs Passage) → List Trace
 running_log_traces all = map (λ legs. record { now = legs.0; first = legs.1; second = legs.2 }) all
 
--- the log after these traces, and the rows of the traces that come then
+-- The log after these traces, and the rows of the traces that come then.
 abbrev pub known_logs : LoggedOrigin → List Trace → LogBuilderModel
 known_logs from traces = record {
   rules = from.origin.rules;
@@ -59,7 +59,7 @@ abbrev pub rows_in : LoggedOrigin → List Trace → List Trace → TimeText
 rows_in from before traces = rows_by from.origin.rules from.each (last_time None before)
     (last_trace_time from.origin.state.clock before) (log_after from.log before) traces
 
--- the rows of the live bindings at the end, and what is kept then
+-- The rows of the live bindings at the end, and what is kept then.
 abbrev pub ending_with : LoggedOrigin → List Trace → TimeText
 ending_with from traces = if from.goes_on then []
     else living_rows from.origin.rules
@@ -68,12 +68,12 @@ ending_with from traces = if from.goes_on then []
 abbrev pub left_with : LoggedOrigin → List Trace → LogModel
 left_with from traces = kept_at (last_trace_time from.origin.state.clock traces) (log_after from.log traces)
 
--- the beginning of a piece, if one begins with an input after these
+-- The beginning of a piece, if one begins with an input after these.
 abbrev pub opening_before : LoggedOrigin → List Trace → ℕ → TimeText
 opening_before from before now =
     piece_opening from.origin.rules from.each (last_time None before) now (left_with from before)
 
--- the rows of an input after these
+-- The rows of an input after these.
 abbrev pub input_rows : LoggedOrigin → List Trace → Trace → TimeText
 input_rows from before trace =
     let log : LogModel = log_after from.log before in
@@ -81,7 +81,7 @@ input_rows from before trace =
     (part_between (last_trace_time from.origin.state.clock before) trace.now log (after_input log trace))
 
 module _ {L : Type 0} {S : Ghosts L} where
-  -- the log has taken these traces, which are no more than it can count, and has not failed
+  -- The log has taken these traces, which are no more than it can count, and has not failed.
   pub record LogIsAt (from : LoggedOrigin) (traces : List Trace) (it : RunningLog L S) : Type 0 where
     pub log : it.log ≡ known_logs from traces
     pub few : length traces < 2 ^ 62
@@ -89,7 +89,7 @@ module _ {L : Type 0} {S : Ghosts L} where
     pub each : option_map non_zero_u32_get it.each ≡ from.each
     pub goes_on : it.goes_on ≡ from.goes_on
 
-  -- a log as it is taken up, over a state
+  -- A log as it is taken up, over a state.
   abbrev pub running_log_of : OriginModel → RunningLog L S → LoggedOrigin
   running_log_of origin it = record {
     origin = origin;
@@ -99,24 +99,24 @@ module _ {L : Type 0} {S : Ghosts L} where
     goes_on = it.goes_on;
   }
 
-  -- nothing has been recorded or written
+  -- Nothing has been recorded or written.
   pub record IsReady (origin : OriginModel) (it : RunningLog L S) : Type 0 where
     pub at : LogIsAt (running_log_of origin it) [] it
     pub of : IsLogOf origin.rules origin.state it.log.log
     pub written : it.output.written ≡ 0
 
-  -- the log has taken these traces too, and this text was written
+  -- The log has taken these traces too, and this text was written.
   pub record LogGoesOnFrom (from : LoggedOrigin) (traces : List Trace) (text : TimeText) (old : Output L S)
       (new : RunningLog L S) : Type 0 where
     pub at : LogIsAt from traces new
     pub wrote : OutputGrows old text new.output
 
-  -- the rows of these traces were written
+  -- The rows of these traces were written.
   abbrev pub Enters : RunningLog L S → List Trace → RunningLog L S → Type 0
   Enters old traces new = (from : LoggedOrigin) (before : List Trace) → LogIsAt from before old →
       LogGoesOnFrom from (before ++ traces) (rows_in from before traces) old.output new
 
-  -- the log failed after the first of these traces
+  -- The log failed after the first of these traces.
   pub record LogHalts (from : LoggedOrigin) (before traces : List Trace) (fault : RunFault) (old new : RunningLog L S) :
       Type 0 where
     pub first : List Trace
@@ -131,12 +131,12 @@ module _ {L : Type 0} {S : Ghosts L} where
   FailsBy from before traces (Run (faults.Run fault)) old new = LogHalts from before traces fault old new
   FailsBy from before traces (Run other) old new = ⊥
 
-  -- recording these traces failed
+  -- Recording these traces failed.
   abbrev pub LogFails : RunningLog L S → List Trace → LogRunFault → RunningLog L S → Type 0
   LogFails old traces fault new = (from : LoggedOrigin) (before : List Trace) → LogIsAt from before old →
       FailsBy from before traces fault old new
 
-  -- a text was written and flushed
+  -- A text was written and flushed.
   pub record LogFlushes (from : LoggedOrigin) (traces : List Trace) (text : TimeText) (old : Output L S)
       (new : RunningLog L S) : Type 0 where
     pub on : LogGoesOnFrom from traces text old new
@@ -149,7 +149,7 @@ module _ {L : Type 0} {S : Ghosts L} where
   Adds from traces text old (Err (Run (faults.Run reasons.Memory))) new = OutputGrows old [] new.output
   Adds from traces text old (Err other) new = ⊥
 
-  -- the log took the next trace, and these are its rows
+  -- The log took the next trace, and these are its rows.
   pub record EntersWith (from : LoggedOrigin) (before : List Trace) (trace : Trace) (old new : RunningLog L S)
       (text : TimeText) : Type 0 where
     pub log : new.log ≡ known_logs from (before ++ trace ∷ [])
@@ -159,7 +159,7 @@ module _ {L : Type 0} {S : Ghosts L} where
     pub goes_on : new.goes_on ≡ old.goes_on
     pub rows : text ≡ input_rows from before trace
 
-  -- or the log did not take it
+  -- The log did not take the next trace.
   abbrev pub EntersNot : LoggedOrigin → List Trace → Trace → RunningLog L S → LogRunFault → RunningLog L S → Type 0
   EntersNot from before trace old (Run (faults.Run fault)) new =
       (new.output ≡ old.output) × IsBuilderFault (known_logs from before) trace fault

@@ -13,19 +13,19 @@ use Rattle.napt_run.specs.{Streams.{AreTaken, Explains, IsStreamFaultOf, IsStopF
 use Rattle.napt_run.specs.declared.capture_run.Totals.{Totals}
 use Rattle.napt_rules.specs.Prelude.{Arrival}
 
--- this holds of the inputs of the captures, if their bytes are known
+-- This holds of the inputs of the captures, if their bytes are known.
 abbrev pub IfHeld : Option (List ℕ) → Option (List ℕ) → (MergedInputs → Type 0) → Type 0
 IfHeld inside outside Holds = IfKnown inside outside (λ bytes others. Holds (files_until bytes others))
 
--- the outcomes of these inputs, with their times
+-- The outcomes of these inputs, with their times.
 abbrev pub run_left_of : OriginModel → List Arrival → List TimedOutcomes
 run_left_of origin inputs = timed_results inputs (ran_by origin inputs).outcomes
 
--- the text of the records that go to a side, after a text that is already there
+-- The text of the records that go to a side, after a text that is already there.
 abbrev pub text_behind : List ℕ → OriginModel → Side → List Arrival → List ℕ
 text_behind front origin side inputs = front ++ records_text side (run_left_of origin inputs)
 
--- an output has the records of a prefix of the inputs or, if writing them failed, a part of these
+-- An output has the records of a prefix of the inputs or, if writing them failed, a part of these.
 pub record IsLeft {D : Type 0} {S : Ghosts D} (origin : OriginModel) (inside outside : Option (List ℕ)) (front : List ℕ)
     (side : Side) (old new : Output D S) : Type 0 where
   pub inputs : List Arrival
@@ -36,13 +36,13 @@ pub record IsLeft {D : Type 0} {S : Ghosts D} (origin : OriginModel) (inside out
 
 module _ {W V : Type 0} {S : Ghosts W} {T : Ghosts V} (open_gate : Bool) (origin : OriginModel)
     (inside outside : Option (List ℕ)) (front : List ℕ) (old new : Leaving W V S T) where
-  -- both outputs have all records of these inputs, and they are flushed
+  -- Both outputs have all records of these inputs, and they are flushed.
   pub record Writes (inputs : List Arrival) : Type 0 where
     pub to_outside : OutputGrows old.to_outside (text_behind front origin sides.Outside inputs) new.to_outside
     pub to_inside : OutputGrows old.to_inside (text_behind front origin sides.Inside inputs) new.to_inside
     pub settled : IsSettled new
 
-  -- the run reached its end
+  -- The run reached its end.
   pub record RunsWell (totals : Totals) : Type 0 where
     pub inputs : List Arrival
     pub wrote : Writes inputs
@@ -51,15 +51,15 @@ module _ {W V : Type 0} {S : Ghosts W} {T : Ghosts V} (open_gate : Bool) (origin
     pub bindings : totals.passed.bindings.items ≡ (ran_by origin inputs).bindings
     pub leaves : GivesState origin inputs totals.passed
 
-  -- a capture had a fault
+  -- A capture had a fault.
   pub record RunsToFault (side : Side) (fault : CaptureFault) : Type 0 where
     pub inputs : List Arrival
     pub wrote : Writes inputs
     pub taken : IfHeld inside outside (λ all. AreTaken side fault all inputs)
     pub is_fault : IfHeld inside outside (IsStreamFaultOf side fault)
 
-  -- the output to the outside failed, and the one to the inside has the text of a prefix of the inputs, or was not
-  -- begun
+  -- The output to the outside failed, and the one to the inside has the text of a prefix of the inputs, or was not
+  -- begun.
   pub record FailsOutside (fault : WriteFault) : Type 0 where
     pub inputs : List Arrival
     pub front_of_all : IfHeld inside outside (λ all. IsFrontOf inputs all.arrivals)
@@ -69,14 +69,14 @@ module _ {W V : Type 0} {S : Ghosts W} {T : Ghosts V} (open_gate : Bool) (origin
     pub kept : OutputGrows old.to_inside (text_behind front origin sides.Inside before) new.to_inside
         ⊎ ((fault.written ≤ length front) × (new.to_inside ≡ old.to_inside))
 
-  -- the output to the inside failed
+  -- The output to the inside failed.
   pub record FailsInside (fault : WriteFault) : Type 0 where
     pub inputs : List Arrival
     pub front_of_all : IfHeld inside outside (λ all. IsFrontOf inputs all.arrivals)
     pub wrote : OutputGrows old.to_outside (text_behind front origin sides.Outside inputs) new.to_outside
     pub broke : Breaks old.to_inside (text_behind front origin sides.Inside inputs) fault new.to_inside
 
-  -- the run itself failed
+  -- The run itself failed.
   pub record RunHalts : Type 0 where
     pub to_outside : IsLeft origin inside outside front sides.Outside old.to_outside new.to_outside
     pub to_inside : IsLeft origin inside outside front sides.Inside old.to_inside new.to_inside
@@ -90,7 +90,7 @@ module _ {W V : Type 0} {S : Ghosts W} {T : Ghosts V} (open_gate : Bool) (origin
   RunsTo (Err (Write Log fault)) = ⊥
   RunsTo (Err (Run fault)) = IsFaultUnder open_gate fault × RunHalts
 
--- what the report says of all inputs
+-- What the report says of all inputs.
 pub record IsToldOf (origin : OriginModel) (inside outside : Option (List ℕ)) (totals : Totals) : Type 0 where
   pub inputs : List Arrival
   pub all : IfHeld inside outside (λ all. all ≡ record { arrivals = inputs; end = Ok totals.cuts })
@@ -98,7 +98,7 @@ pub record IsToldOf (origin : OriginModel) (inside outside : Option (List ℕ)) 
   pub bindings : totals.passed.bindings.items ≡ (ran_by origin inputs).bindings
   pub leaves : GivesState origin inputs totals.passed
 
--- what the result of a run says of the captures, under a gate that is always open or any other
+-- What the result of a run says of the captures, under a gate that is always open or any other.
 pub record ResultSays (open_gate : Bool) (origin : OriginModel) (inside outside : Option (List ℕ))
     (result : Result Totals Fault) : Type 0 where
   pub told : IfOk result (IsToldOf origin inside outside)

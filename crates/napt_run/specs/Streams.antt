@@ -17,7 +17,7 @@ use Rattle.napt_sequential.specs.declared.fault.RunFault.TheVariants as faults
 
 -- WHAT IS WRITTEN
 
--- the text of a capture that a run over these inputs writes
+-- The text of a capture that a run over these inputs writes.
 abbrev pub capture_text : OriginModel → Side → List Arrival → List ℕ
 capture_text origin side inputs = text (records_to side inputs (ran_by origin inputs).outcomes)
 
@@ -27,41 +27,41 @@ side_of Inside = sides.Inside
 side_of Report = sides.Inside
 side_of Log = sides.Inside
 
--- all of the text
+-- All of the text.
 abbrev pub HasAll : OriginModel → Which → MergedInputs → Option (List ℕ) → Option (List ℕ) → Type 0
 HasAll origin which all old new = IsOk all.end × Appends old new (capture_text origin (side_of which) all.arrivals)
 
--- all of the text of a prefix of the inputs
+-- All of the text of a prefix of the inputs.
 abbrev pub HasText : OriginModel → Which → MergedInputs → Option (List ℕ) → Option (List ℕ) → Type 0
 HasText origin which all old new =
     (inputs : List Arrival) × IsFrontOf inputs all.arrivals
     × Appends old new (capture_text origin (side_of which) inputs)
 
--- as many bytes of such a text as the fault says, whose number saturates
+-- As many bytes of such a text as the fault says, whose number saturates.
 abbrev pub HasFront : OriginModel → Which → ℕ → MergedInputs → Option (List ℕ) → Option (List ℕ) → Type 0
 HasFront origin which written all old new =
     (inputs : List Arrival) × IsFrontOf inputs all.arrivals × ((count : ℕ) × (written ≡ min count (2 ^ 64 - 1))
     × (count ≤ length (capture_text origin (side_of which) inputs))
     × Appends old new (take count (capture_text origin (side_of which) inputs)))
 
--- the inputs before a fault of a side, or a prefix of them if its device or memory failed
+-- The inputs before a fault of a side, or a prefix of them if its device or memory failed.
 abbrev pub AreTaken : Side → CaptureFault → MergedInputs → List Arrival → Type 0
 AreTaken side fault all inputs =
     IsFrontOf inputs all.arrivals
     × IsReadFault fault (all ≡ record { arrivals = inputs; end = Err (record { side = side; fault = fault }) })
 
--- the header to the outside could not be written, and the one to the inside was not begun
+-- The header to the outside could not be written, and the one to the inside was not begun.
 abbrev pub IsUnbegun : ℕ → Option (List ℕ) → Option (List ℕ) → Type 0
 IsUnbegun written old new = (written ≤ length file_header) × (new ≡ old)
 
--- at least the header, and as much of such a text as a failed write left
+-- At least the header, and as much of such a text as a failed write left.
 abbrev pub HasPart : OriginModel → Which → MergedInputs → Option (List ℕ) → Option (List ℕ) → Type 0
 HasPart origin which all old new =
     (inputs : List Arrival) × IsFrontOf inputs all.arrivals × ((count : ℕ) × (length file_header ≤ count)
     × (count ≤ length (capture_text origin (side_of which) inputs))
     × Appends old new (take count (capture_text origin (side_of which) inputs)))
 
--- what an output has if writing an output failed after this number of bytes
+-- What an output has if writing an output failed after this number of bytes.
 abbrev pub HasWritten : OriginModel → Which → Which → ℕ → MergedInputs → Option (List ℕ) → Option (List ℕ) → Type 0
 HasWritten origin which Report written all old new = HasAll origin which all old new
 HasWritten origin Outside Outside written all old new = HasFront origin Outside written all old new
@@ -72,7 +72,7 @@ HasWritten origin Report Inside written all old new = HasText origin Report all 
 HasWritten origin Log Inside written all old new = HasText origin Log all old new
 HasWritten origin which Log written all old new = HasText origin which all old new ⊎ HasPart origin which all old new
 
--- what an output has, by the result of the run
+-- What an output has, by the result of the run.
 abbrev pub GetsOf : OriginModel → Which → Result (Unit {0}) Fault → MergedInputs → Option (List ℕ) → Option (List ℕ) →
     Type 0
 GetsOf origin which (Ok done) all old new = HasAll origin which all old new
@@ -90,7 +90,7 @@ Streams origin which result inside outside old new =
 
 -- THE REPORT
 
--- what an output gets of a report
+-- What an output gets of a report.
 abbrev pub GetsReport : List ℕ → Result (Unit {0}) Fault → Option (List ℕ) → Option (List ℕ) → Type 0
 GetsReport report (Ok done) old new = Appends old new report
 GetsReport report (Err (Write Report fault)) old new =
@@ -115,7 +115,7 @@ Reports origin result inside outside old new =
 
 -- THE FAULT
 
--- a fault in a capture is one of its bytes, and no capture is too large
+-- A fault in a capture is one of its bytes, and no capture is too large.
 abbrev pub IsStreamFaultOf : Side → CaptureFault → MergedInputs → Type 0
 IsStreamFaultOf side Read all = Unit {0}
 IsStreamFaultOf side Memory all = Unit {0}
@@ -131,40 +131,40 @@ ExplainsOf all (Write which fault) = Unit {0}
 abbrev pub Explains : Option (List ℕ) → Option (List ℕ) → Fault → Type 0
 Explains inside outside fault = IfKnown inside outside (λ bytes others. ExplainsOf (files_until bytes others) fault)
 
--- a fault of the run itself, or of its log
+-- A fault of the run itself, or of its log.
 abbrev pub IsOfRun : {T : Type 0} → Result T Fault → Type 0
 IsOfRun (Err (Run fault)) = Unit {0}
 IsOfRun (Err (Write Log fault)) = Unit {0}
 IsOfRun other = ⊥
 
--- all that left is flushed
+-- All that left is flushed.
 abbrev pub IsSettledBy : Result (Unit {0}) Fault → Type 0
 IsSettledBy (Ok done) = Unit {0}
 IsSettledBy (Err (Capture side fault)) = Unit {0}
 IsSettledBy (Err (Write Report fault)) = Unit {0}
 IsSettledBy other = ⊥
 
--- a result without its value
+-- A result without its value.
 abbrev pub stream_ended : {T : Type 0} → Result T Fault → Result (Unit {0}) Fault
 stream_ended (Ok given) = Ok tt
 stream_ended (Err fault) = Err fault
 
 -- FAILED READS
 
--- reading succeeded, or ended with a fault
+-- Reading succeeded, or ended with a fault.
 abbrev pub IsOfReading : Result (Unit {0}) Fault → Type 0
 IsOfReading (Ok done) = Unit {0}
 IsOfReading (Err (Capture side fault)) = Unit {0}
 IsOfReading other = ⊥
 
--- how reading ended; a fault of writing a capture does not say it
+-- How reading ended; a fault of writing a capture does not say it.
 abbrev pub IsReading : {T : Type 0} → Result T Fault → Result (Unit {0}) Fault → Type 0
 IsReading (Ok done) read = read ≡ Ok tt
 IsReading (Err (Write Outside fault)) read = IsOfReading read
 IsReading (Err (Write Inside fault)) read = IsOfReading read
 IsReading (Err fault) read = read ≡ Err fault
 
--- the failed reads are those of how reading ended
+-- The failed reads are those of how reading ended.
 abbrev pub HasRead : {T R Q : Type 0} → (R → ℕ) → (Q → ℕ) → R → R → Q → Q → Result T Fault → Type 0
 HasRead inside_failed outside_failed old new other_old other_new result =
     (read : Result (Unit {0}) Fault) × IsReading result read
@@ -173,28 +173,28 @@ HasRead inside_failed outside_failed old new other_old other_new result =
 
 -- THE DEVICES
 
--- what a run leaves on the device of a capture; its fault may hide failed calls
+-- What a run leaves on the device of a capture; its fault may hide failed calls.
 pub record DeviceGetsFrom {D T : Type 0} (S : sink.Ghosts D) (origin : OriginModel) (which : Which)
     (inside outside : Option (List ℕ)) (result : Result T Fault) (old new : D) : Type 0 where
   pub gets : Streams origin which (stream_ended result) inside outside (S.contents old) (S.contents new)
   pub count : (¬ IsOfRun result) → S.failed new ≡ S.failed old + failed_writings which (stream_ended result)
   pub settled : IsSettledBy (stream_ended result) → S.is_flushed new
 
--- and on the device of the report
+-- What a run leaves on the device of the report.
 pub record ReportGetsFrom {D : Type 0} (S : sink.Ghosts D) (origin : OriginModel) (inside outside : Option (List ℕ))
     (result : Result (Unit {0}) Fault) (old new : D) : Type 0 where
   pub gets : Reports origin result inside outside (S.contents old) (S.contents new)
   pub count : S.failed new ≡ S.failed old + failed_writings Report result
   pub settled : OnOk result (S.is_flushed new)
 
--- what is returned gives the state that the run leaves
+-- What is returned gives the state that the run leaves.
 abbrev pub LeavesInTheEnd : OriginModel → Option (List ℕ) → Option (List ℕ) → RunSummary → Type 0
 LeavesInTheEnd origin inside outside passed =
     IfKnown inside outside (λ bytes others. GivesState origin (files_until bytes others).arrivals passed)
 
 -- STEPS
 
--- the header of a capture of these bytes was read, and nothing else
+-- The header of a capture of these bytes was read, and nothing else.
 pub record IsBehindHeader {R : Type 0} (G : Ghosts R) (records : RecordReader) (bytes : Option (List ℕ)) (source : R)
     : Type
     0 where
@@ -203,7 +203,7 @@ pub record IsBehindHeader {R : Type 0} (G : Ghosts R) (records : RecordReader) (
   pub ahead : records.ahead ≡ []
   pub number : records.number ≡ 1
 
--- a fault of a side's capture, by its header
+-- A fault of a side's capture, by its header.
 abbrev pub IsHeaderFault : Side → Option (List ℕ) → Option (List ℕ) → Fault → Type 0
 IsHeaderFault side old new (Capture other fault) =
     (other ≡ side) × (let answer : Result RecordReader CaptureFault = Err fault
@@ -211,7 +211,7 @@ IsHeaderFault side old new (Capture other fault) =
     (λ bytes left. (format_in (take 24 bytes) ≡ Err fault) × (left ≡ drop 24 bytes))))
 IsHeaderFault side old new other = ⊥
 
--- a fault before the report, under a gate that is always open or any other
+-- A fault before the report, under a gate that is always open or any other.
 abbrev pub IsStopFault : Bool → Fault → Type 0
 IsStopFault open_gate (Capture side fault) = Unit {0}
 IsStopFault open_gate (Write Outside fault) = Unit {0}
@@ -220,7 +220,7 @@ IsStopFault open_gate (Write Report fault) = ⊥
 IsStopFault open_gate (Write Log fault) = ⊥
 IsStopFault open_gate (Run fault) = IsFaultUnder open_gate fault
 
--- a report could not be made or written
+-- A report could not be made or written.
 abbrev pub IsReportFault : Fault → Type 0
 IsReportFault (Write Report fault) = Unit {0}
 IsReportFault (Run faults.Memory) = Unit {0}

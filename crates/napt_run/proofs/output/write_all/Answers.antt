@@ -6,7 +6,7 @@ use lib.Seq.{take-add}
 use Rattle.napt_capture.specs.{Device.failed_writes, declared.device.DeviceFault.DeviceFault}
 use Rattle.napt_run.proofs.output.write_all.Goals as goal
 
--- a write of the rest that took some bytes
+-- A write of the rest that took some bytes.
 takes_more : (r : Result ℕ DeviceFault) (old mid new : Option (List ℕ)) (bytes : List ℕ)
     (done count failed-0 failed-1 failed-2 : ℕ)
     → count ≡ result_unwrap_or r 0 → (count ≡ 0 → ⊥) → WritesAtMost r (drop done bytes) →

@@ -4,7 +4,7 @@ use Rattle.napt_run.specs.LogLaws.{log_unreported}
 use Rattle.napt_run.proofs.{Endings.{left_told, report_failed, report_unbegun, report_written}, Posts.{inside_after, outside_after, reads_after, report_explained}}
 use Rattle.napt_run.proofs.streams.run_streams_with_log.Goals as goal
 
--- the run failed
+-- The run failed.
 pub returns-in_err-ran : goal.returns-in_err-ran
 returns-in_err-ran g c =
     let p = err_from_is_err_and c.from_residual.result c.from_residual.ensures.1 in
@@ -21,7 +21,7 @@ returns-in_err-ran g c =
       reads = ran.reads;
     })
 
--- or its report
+-- The report failed.
 pub returns-in_err-write_report : goal.returns-in_err-write_report
 returns-in_err-write_report g c =
     let p = err_from_is_err_and c.from_residual-in_err-write_report.result

@@ -6,7 +6,7 @@ use Rattle.napt_run.proofs.Endings.{closed}
 use Rattle.napt_run.proofs.Logged.{adds_fault, at_end, closed_at, device_after, device_halted, ended_badly, ended_well, halt_is, halt_reads, halt_says, halted, kept_at_end, text_says, text_stops, unopened}
 use Rattle.napt_run.proofs.start.OriginSetting.stream_logged.Goals as goal
 
--- the log could not be opened
+-- The log could not be opened.
 pub returns-in_err-open : goal.returns-in_err-open
 returns-in_err-open g c =
     let p = err_from_is_err_and c.from_residual.result c.from_residual.ensures.1 in
@@ -27,7 +27,7 @@ returns-in_err-open g c =
       readings = λ not_run. absurd (not_run stops);
     })
 
--- or the log could not be closed
+-- The log could not be closed.
 pub returns-in_err-close-in-Ok : goal.returns-in_err-close-in-Ok
 returns-in_err-close-in-Ok g c =
     let residual = c.from_residual-in_err-close-in-Ok in
@@ -58,7 +58,7 @@ returns-in_err-close-in-Ok g c =
       readings = λ not_run. absurd (not_run (text_stops fault text));
     })
 
--- the run succeeded
+-- The run succeeded.
 pub returns-in_ok-close-in-Ok : goal.returns-in_ok-close-in-Ok
 returns-in_ok-close-in-Ok g c =
     let origin : OriginModel = origin_of c.args.self.start in
@@ -85,7 +85,7 @@ returns-in_ok-close-in-Ok g c =
       readings = c.in-Ok.ensures.readings;
     }
 
--- the run failed
+-- The run failed.
 pub returns-in-Err : goal.returns-in-Err
 returns-in-Err g c =
     let origin : OriginModel = origin_of c.args.self.start in

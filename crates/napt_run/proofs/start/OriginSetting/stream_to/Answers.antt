@@ -49,7 +49,7 @@ returns-clause-reads g c = rw (end_with _ _ _ (is g c))
     (unified_reads g.R.Source.failed g.Q.Source.failed _ _ _ _ c.stream_logged-told.result
     c.stream_logged-told.ensures.readings)
 
--- the device of the log is returned as the log leaves it
+-- The device of the log is returned as the log leaves it.
 given : (g : Over) (c : After-with_log g) →
     c.stream_logged-told.new.log.output.device.ghost_name ≡ c.over-running.result.output.device.ghost_name →
     c.log-1.given.0 ≡ c.stream_logged-told.new.log.output.device.now
