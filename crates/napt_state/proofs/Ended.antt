@@ -1,12 +1,12 @@
 -- The bindings of a state that end at a start, and those that go on.
-use Rattle.std.proofs.lemmas.{Bool.Decides.nat_tests, List.{get_or-take, drop-set, map-append, take-set, take-take}}
-use Rattle.std.proofs.Common.{◌≡◌, ℕ, zero, suc, ◌+◌, ◌-◌, ◌*◌, ◌<◌, ◌≤◌, ◌==◌, nat_le, Bool, true, false, not, ◌&&◌, ◌||◌, cond, List, [], ◌∷◌, ◌++◌, map, drop, take, set, get_or, length, Option, Some, None, refl, sym, ◌∙◌, ap, subst, arith}
+use Rattle.std.proofs.lemmas.{Bool.{true≢false, Decides.nat_tests}, List.{get_or-take, drop-set, length-set, map-append, take-set, take-take}}
+use Rattle.std.proofs.Common.{◌≡◌, ℕ, zero, suc, ◌+◌, ◌-◌, ◌*◌, ◌<◌, ◌≤◌, ◌==◌, ◌^◌, nat_le, is_some, SomeIff, Bool, true, false, not, ◌&&◌, ◌||◌, cond, List, [], ◌∷◌, ◌++◌, map, drop, take, set, get_or, length, Option, Some, None, refl, sym, ◌∙◌, ap, subst, arith}
 use Rattle.std.specs.List.{list_any}
 use Rattle.napt_config.specs.Rules.{Rules, AreTimers}
 use Rattle.napt_rules.specs.{Prelude.{Binding, State, Timers, Protocol, Icmp, Tcp, Udp, dynamic_bindings, hold_ago, is_live, misfit, ns_per_second, with_live_flows}, Life.is_live_by, Misfits.{misfit_in, misfit_of, misfit_or}, declared.{Misfit.Misfit, Row.Row}}
 use Rattle.napt_binding.specs.Ends.{end_by_protocol, is_before}
 use Rattle.napt_account.specs.declared.account.Account.{Account}
-use Rattle.napt_account.specs.{LogStarts.{SavedLogStateModel, accounted, are_accounts, are_apart, is_account, is_saved_log_state, resumed_entry, with_account}, LogParts.is_open, OpenEntries.{entry_key, external_eq}}
+use Rattle.napt_account.specs.{LogStarts.{SavedLogStateModel, accounted, are_accounts, are_apart, has_redirect, is_account, is_saved_log_state, resumed_entry, with_account}, LogParts.is_open, OpenEntries.{entry_key, external_eq}}
 use Rattle.napt_state.proofs.{Standing.{going_on, dynamic_going}, Taken.drop_before}
 use Rattle.napt_state.specs.EndedMisfits.{EndsMisfits, IsLate, before_fitting, count_in, ended_misfits, fitting, fitting_in, given_up, given_up_if, goes_on, one_if, why_ended, without_misfits}
 
@@ -80,6 +80,63 @@ same_place l all left d some is = sym (get_or-take left l (left - 1) d (omega (a
     ∙ ap (λ (m : List Binding). get_or m (left - 1) d) is
     ∙ get_or-take left all (left - 1) d (omega (arith, some))
 
+pub taken_out : (m : Option Misfit) (b : Binding) → is_some m ≡ true → given_up b ≡ given_up_if m b
+taken_out (Some found) b is = refl
+taken_out None b is = absurd (true≢false (sym is))
+
+pub counted : (m : Option Misfit) → is_some m ≡ true → one_if m ≡ 1
+counted (Some found) is = refl
+counted None is = absurd (true≢false (sym is))
+
+pub value_of : (o : Option ℕ) (fits : Type 0) (v x : ℕ) → SomeIff o fits v → o ≡ Some x → x ≡ v
+value_of o fits v x is some = (subst (λ (q : Option ℕ). SomeIff q fits v) some is).1
+
+pub none_found : (m : Option Misfit) → is_some m ≡ false → m ≡ None
+none_found None is = refl
+none_found (Some found) is = absurd (true≢false is)
+
+-- the binding before a place, of a list that is judged from there on
+module _ (rules : Rules) (clock : ℕ) (all list : List Binding) (left : ℕ) (b : Binding) (some : 0 < left)
+    (within : left ≤ length all) (long : length list ≡ length all) (front : take left list ≡ take left all)
+    (back : drop left list ≡ ended_misfits rules clock (drop left all)) (at : b ≡ get_or list (left - 1) b) where
+  pub here : drop (left - 1) all ≡ b ∷ drop left all
+  here = drop_before all left b some within
+      ∙ ap (λ (d : Binding). d ∷ drop left all) (sym (same_place list all left b some front) ∙ sym at)
+
+  pub long_after : (x : Binding) → length (set list (left - 1) x) ≡ length all
+  long_after x = length-set list (left - 1) x ∙ long
+
+  pub front_after : (x : Binding) → take (left - 1) (set list (left - 1) x) ≡ take (left - 1) all
+  front_after x = take-set list (left - 1) x ∙ same_front list all left front
+
+  pub back_after : (x : Binding) → x ≡ given_up_if (why rules clock b (drop left all)) b →
+      drop (left - 1) (set list (left - 1) x) ≡ ended_misfits rules clock (drop (left - 1) all)
+  back_after x is =
+      let next : left - 1 + 1 ≡ left = omega (arith, some) in
+      drop-set list (left - 1) x (omega (arith, some, within, long))
+      ∙ ap (λ (n : ℕ). x ∷ drop n list) next
+      ∙ ap (λ (l : List Binding). x ∷ l) back
+      ∙ ap (λ (d : Binding). d ∷ ended_misfits rules clock (drop left all)) is
+      ∙ sym (ap (ended_misfits rules clock) here)
+
+  pub many_after : (many : ℕ) → many ≡ one_if (why rules clock b (drop left all)) + count_in rules clock (drop left all) →
+      many ≡ count_in rules clock (drop (left - 1) all)
+  many_after many is = is ∙ sym (ap (count_in rules clock) here)
+
+  pub fits_if_some : (m : Option Misfit) → is_some m ≡ true → why rules clock b (drop left all) ≡ m →
+      fitting_in rules clock (drop (left - 1) all) ≡ fitting_in rules clock (drop left all)
+  fits_if_some (Some found) some is = ap (fitting_in rules clock) here ∙ ends_now rules clock b (drop left all) found is
+  fits_if_some None some is = absurd (true≢false (sym some))
+
+  pub fits_if_away : goes_on rules.timers (hold_ago rules.timers clock) b ≡ false →
+      fitting_in rules clock (drop (left - 1) all) ≡ fitting_in rules clock (drop left all)
+  fits_if_away away = ap (fitting_in rules clock) here ∙ stays_away rules clock b (drop left all) away
+
+  pub fits_if_on : goes_on rules.timers (hold_ago rules.timers clock) b ≡ true →
+      why rules clock b (drop left all) ≡ None → fitting_in rules clock (drop (left - 1) all)
+      ≡ live rules clock b (drop left all) ∷ fitting_in rules clock (drop left all)
+  fits_if_on on none = ap (fitting_in rules clock) here ∙ fits_on rules clock b (drop left all) on none
+
 -- ACCOUNTS: what is given up keeps its row
 
 abbrev Held : Type 0
@@ -118,7 +175,7 @@ held_is made clock before (kept ∷ more) =
 
 given_row : (m : Option Misfit) (b : Binding) → (given_up_if m b).row ≡ b.row
 given_row None b = refl
-given_row (Some why) b = refl
+given_row (Some found) b = refl
 
 same_held : (rules : Rules) (clock : ℕ) (list : List Binding) (accounts : List (Option Account)) →
     map held_of (accounted (ended_misfits rules clock list) accounts) ≡ map held_of (accounted list accounts)
@@ -165,12 +222,9 @@ past_by : (p : Protocol) (timers : Timers) (clock : ℕ) → IsLate timers clock
     is_before clock (Some (end_by_protocol p timers (record { row = row; last = 0; flows = [] }))) ≡ false
 past_by Icmp timers clock late row = grind (arith, nat_tests, late.0)
 past_by Udp timers clock late row = grind (arith, nat_tests, late.1)
-past_by Tcp timers clock late row = refl
+past_by Tcp timers clock late row = grind (arith, nat_tests)
 
 module _ (rules : Rules) (clock : ℕ) (late : IsLate rules.timers clock) where
-  gone : (b : Binding) → goes_on rules.timers (hold_ago rules.timers clock) (given_up b) ≡ false
-  gone b = gone_at b b.row.fixed refl
-
   gone_at : (b : Binding) (fixed : Bool) → b.row.fixed ≡ fixed →
       goes_on rules.timers (hold_ago rules.timers clock) (given_up b) ≡ false
   gone_at b true is = ap (λ v. not v && (v || is_live_by b.row.protocol rules.timers
@@ -178,6 +232,9 @@ module _ (rules : Rules) (clock : ℕ) (late : IsLate rules.timers clock) where
   gone_at b false is = ap (λ v. not v && (v || is_live_by b.row.protocol rules.timers
       (hold_ago rules.timers clock) (given_up b))) is
       ∙ gone_by b.row.protocol rules.timers clock late b.row
+
+  gone : (b : Binding) → goes_on rules.timers (hold_ago rules.timers clock) (given_up b) ≡ false
+  gone b = gone_at b b.row.fixed refl
 
   goes_as : (goes : Bool) (b : Binding) (list : List Binding) →
       goes_on rules.timers (hold_ago rules.timers clock) b ≡ goes →
@@ -221,7 +278,7 @@ misfits_end rules are state late =
       fits = ap (misfit_in rules state.clock) rest
           ∙ fitting_fit rules state.clock (dynamic_bindings rules state);
       told = λ b loose account.
-          ap (λ v. is_before state.clock (cond v (Some state.clock) (cond v None
+          ap (λ v. is_before state.clock (cond v (cond (has_redirect rules b.row) None (Some state.clock)) (cond v None
           (Some (end_by_protocol b.row.protocol rules.timers (given_up b)))))) loose
           ∙ past_by b.row.protocol rules.timers state.clock late b.row;
     }

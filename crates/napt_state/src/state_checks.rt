@@ -238,7 +238,10 @@ fn end_misfits_in(
         left -= 1;
         let binding = &mut list[left];
         if why_ended(alloc, config, clock, binding, &redirects, &behind)?.is_some() {
-            many = many.checked_add(1).ok_or(AllocError)?;
+            let Some(more) = many.checked_add(1) else {
+                return Err(AllocError);
+            };
+            many = more;
             give_up(binding);
         } else if goes_on(binding, config, held_at(config, clock)) {
             behind.insert(&binding.row)?;

@@ -141,7 +141,7 @@ fn starting(
     mut taken: TakenState,
     ends_misfits: bool,
 ) -> Result<TakenState, AllocError>
-    ensures { IfOk result (λ made. made ≡ saved.starting ends_misfits config.now taken.entry) }
+    ensures { IfOk result (λ made. made ≡ saved.starting ends_misfits config.now taken) }
 {
     if ends_misfits {
         taken.ended = end_misfits(alloc, config, &mut taken.state)?;
