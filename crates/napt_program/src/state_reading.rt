@@ -13,7 +13,7 @@ use crate::stop::{MEMORY, StateRefusal, Stop, unread};
 use napt_account::SavedLogState;
 use napt_config::Config;
 use napt_rules::State;
-use napt_state::{LogEnd, StateFault, StateReason, read_state};
+use napt_state::{LogEnd, StateFault, StateReason, TakenState, read_state};
 use std::alloc::Global;
 use std::fs::File;
 use std::io::Read;
@@ -84,11 +84,15 @@ pub fn state_from<D: Read + Drop>(
     };
     let log = saved.log.map_or(LogEnd::default(), |log| log.end);
     match saved.take_up(alloc, config, ends_misfits)? {
-        Ok(taken) => Ok(ResumedState {
-            state: taken.state,
-            saved: taken.log,
+        Ok(TakenState {
+            state,
+            log: saved,
+            ended,
+        }) => Ok(ResumedState {
+            state,
+            saved,
             log,
-            ended: taken.ended,
+            ended,
         }),
         Err((_, misfit)) => Err(Stop::State(StateRefusal::Binding(misfit))),
     }
