@@ -56,6 +56,13 @@ const AS_NAPT: &str =
 const HOST: &str =
     "Prints only the packets and bindings with this address or endpoint, inside or external";
 
+const PAIRS: &str =
+    "Prints a [[pair]] for each host that has a live binding in a state, and that this configuration would give another \
+external address: with these it keeps its bindings (at most 256, as many as a configuration has)";
+
+const ENDED: &str =
+    "Bindings of the state that the configuration cannot keep end at the start; all others go on";
+
 const WRITTEN: &str = "File to write, which nothing else may name";
 
 const LOG_WRITTEN: &str =
@@ -124,6 +131,12 @@ impl CommandTexts {
                     .about(BLOCKS)
                     .arg(config(alloc))?
                     .arg(resume(alloc).hide(true))?,
+            )?
+            .subcommand(
+                Command::new(alloc, "pairs")
+                    .about(PAIRS)
+                    .arg(config(alloc))?
+                    .arg(resume(alloc).required(true))?,
             )?
             .subcommand(compare(alloc)?)?
             .subcommand(follow(alloc)?)
@@ -216,7 +229,8 @@ fn follow<'a>(alloc: Global) -> Result<Command<'a>, AllocError> {
 /// A command over captures under a configuration.
 fn configured<'a>(alloc: Global, name: &'a str, about: &'a str) -> Result<Command<'a>, AllocError> {
     let command = Command::new(alloc, name).about(about).arg(config(alloc))?;
-    captured(alloc, command.arg(resume(alloc))?)
+    let command = command.arg(resume(alloc))?;
+    captured(alloc, command.arg(flag(alloc, "end-misfits", ENDED))?)
 }
 
 /// Adds the options that name captures.

@@ -33,6 +33,8 @@ pub struct ExplainOptions<'m> {
     pub choice: PacketSelection,
     /// Whether the question is about the run of `napt`, whatever numbers the captured gateway used.
     pub is_of_napt: bool,
+    /// Whether bindings of the state that the configuration cannot keep end at the start.
+    pub ends_misfits: bool,
 }
 
 impl<'m> ExplainOptions<'m> {
@@ -128,6 +130,8 @@ pub enum OutputForm<'m> {
     Log(LogPaths<'m>),
     /// The block of each inside host.
     Blocks,
+    /// The pairs by which hosts with live bindings keep their external addresses.
+    Pairs,
     /// The packets that have another outcome under another configuration.
     Differences,
     /// The outside capture that follows the run, written to the file at this path.
@@ -210,6 +214,7 @@ pub fn options_of<'m, R: Eprint + AllocGlobal>(
         form: form_of(rt, command, matches)?,
         choice,
         is_of_napt: matches.get_flag("as-napt"),
+        ends_misfits: matches.get_flag("end-misfits"),
     };
     refuse_states(rt, matches, &options)?;
     refuse_pieces(rt, matches, &options)?;
@@ -273,6 +278,7 @@ fn form_of<'m, R: Eprint>(
             report: matches.get_str("report"),
         }),
         "blocks" => OutputForm::Blocks,
+        "pairs" => OutputForm::Pairs,
         "compare" => OutputForm::Differences,
         "follow" => OutputForm::Followed(matches.get_str("file").unwrap_or("")),
         _ if matches.get_flag("json") => OutputForm::Objects,

@@ -10,7 +10,8 @@ use napt_attribution::{HolderRequest, answer_by_log, requests_at};
 use napt_commands::{Exit, RunStart, print_failed, text_at};
 use napt_config::{Config, ConfigFault, ConfigPlace};
 use napt_program::{
-    FileRole, InputFiles, MEMORY, StandardStreams, Stop, closed_stream, open_inputs, refuse_unmade,
+    FileRole, InputFiles, MEMORY, StandardStreams, Stop, closed_stream, open_inputs, print_ended,
+    refuse_unmade,
 };
 use napt_rules::StateBinding;
 use napt_state::{SavedBinding, StateFileContents, TakenState, read_state};
@@ -113,7 +114,7 @@ pub fn answer<R: Files + Input + Print + Eprint + AllocGlobal>(
 }
 
 /// Reads the state of `--resume`, or returns one without bindings if none is named. If it is refused, prints why.
-fn saved_at<R: Files + Eprint + AllocGlobal>(
+pub fn saved_at<R: Files + Eprint + AllocGlobal>(
     rt: &R,
     options: &ExplainOptions<'_>,
 ) -> Result<StateFileContents, Exit>
@@ -146,8 +147,11 @@ fn start_under<'a, R: Eprint + AllocGlobal>(
 ) -> Result<RunStart<'a>, Exit>
     requires { HasAccounts saved }
 {
-    match saved.take_up(rt.alloc(), config)? {
-        Ok(TakenState { state, log }) => Ok(RunStart::new(config, state, log)),
+    match saved.take_up(rt.alloc(), config, options.ends_misfits)? {
+        Ok(TakenState { state, log, ended }) => {
+            print_ended(rt, "explain", ended);
+            Ok(RunStart::new(config, state, log))
+        }
         Err((row, misfit)) => {
             let path = options.files.resume.as_ref();
             let path = path.map_or("", |path| path.as_str());

@@ -8,7 +8,7 @@ use crate::options::{LineFault, Manual};
 use crate::record_counter::CountedSource;
 use crate::role::FileRole;
 use crate::stop::{LogRefusal, Stop, line_at_end, status_at_end};
-use crate::stop_reason::StopReason;
+use crate::stop_reason::{StopReason, take_end_misfits};
 use crate::streams::StandardStreams;
 use napt_config::{Address, Config};
 use napt_log_text::TimeStamp;
@@ -49,6 +49,15 @@ pub fn print_new_entries(
     Ok(())
 }
 
+/// Prints on standard error how many bindings of a state end at its start, if any do.
+pub fn print_ended(rt: &impl Eprint, name: &str, ended: u64) {
+    if ended > 0 {
+        let _ = eprintln!(rt;
+            "{name}: bindings of the state that the configuration cannot keep, and that end here: {ended}"
+        );
+    }
+}
+
 /// How a program was called.
 #[derive(Clone, Copy, Debug)]
 pub struct ProgramCall {
@@ -60,6 +69,8 @@ pub struct ProgramCall {
     pub at_terminal: bool,
     /// Whether standard error gets more than the fault line: at a terminal, or with `--verbose`.
     pub is_verbose: bool,
+    /// Whether bindings of a state that the configuration cannot keep end: with `--end-misfits`.
+    pub ends_misfits: bool,
 }
 
 impl ProgramCall {
@@ -71,6 +82,15 @@ impl ProgramCall {
             is_heard: streams.error,
             at_terminal,
             is_verbose: at_terminal,
+            ends_misfits: false,
+        }
+    }
+
+    /// Returns the call with `--end-misfits`, if that is among the arguments, and removes it.
+    pub fn with_misfits(self, words: &mut Vec<String>) -> ProgramCall {
+        ProgramCall {
+            ends_misfits: take_end_misfits(words),
+            ..self
         }
     }
 
@@ -149,6 +169,13 @@ impl ProgramCall {
             print_new_entries(rt, alloc, self.name, clock)?;
         }
         Ok(())
+    }
+
+    /// Prints how many bindings of the state end at the start, if any do.
+    pub fn print_ended(self, rt: &impl Eprint, ended: u64) {
+        if self.is_heard {
+            print_ended(rt, self.name, ended);
+        }
     }
 
     /// Prints that a packet has this time, in ns, which is earlier than the clock of the state with

@@ -49,6 +49,8 @@ Examples:
 
 --verbose adds a second line on standard error, which a terminal gets anyway: the
 option, its file, and what is wrong with it (in a configuration, with the place).
+With --end-misfits the bindings of the state that the configuration cannot keep end
+at its time, and one line on standard error counts them; all others go on.
 
 Exit status, and the line on standard error that says why:
   0  done, without a line

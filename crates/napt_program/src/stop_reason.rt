@@ -17,6 +17,9 @@ use std::rt::Files;
 /// The word of the command line that requests the second line where there is no terminal.
 const VERBOSE: &str = "--verbose";
 
+/// The word of the command line by which bindings of a state end that the configuration cannot keep.
+const END_MISFITS: &str = "--end-misfits";
+
 /// Why a program stopped, in words: an option and its file, and what is wrong with it.
 #[derive(Debug, Drop)]
 pub struct StopReason {
@@ -86,7 +89,17 @@ impl StopReason {
 
 /// Removes the first `--verbose` from the arguments, and returns whether there was one.
 pub fn take_verbose(words: &mut Vec<String>) -> bool {
-    match words.iter().position(|word| word.as_str() == VERBOSE) {
+    take_word(words, VERBOSE)
+}
+
+/// Removes the first `--end-misfits` from the arguments, and returns whether there was one.
+pub(crate) fn take_end_misfits(words: &mut Vec<String>) -> bool {
+    take_word(words, END_MISFITS)
+}
+
+/// Removes the first such word from the arguments, and returns whether there was one.
+fn take_word(words: &mut Vec<String>, wanted: &str) -> bool {
+    match words.iter().position(|word| word.as_str() == wanted) {
         Some(index) => {
             words.remove(index);
             true

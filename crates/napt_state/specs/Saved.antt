@@ -12,7 +12,7 @@ use Rattle.napt_account.specs.LogStarts.{SavedLogStateModel, are_accounts, is_sa
 use Rattle.napt_account.specs.declared.account.Account.{Account}
 use Rattle.napt_state.specs.declared.{line.{LogEnd.LogEnd, LogPosition.LogPosition}, saved_bindings.SavedBinding.SavedBinding, state_contents.TakenState.TakenState}
 use Rattle.napt_state.specs.declared.saved_bindings.SavedBinding.TheVariants as bindings
-use Rattle.napt_state.specs.StateText.{IsStateLine, saved_lines}
+use Rattle.napt_state.specs.{EndedMisfits.{misfit_count, without_misfits}, StateText.{IsStateLine, saved_lines}}
 
 -- WHAT IS SAVED, by a run under these timers
 
@@ -112,19 +112,30 @@ abbrev pub log_taken : Timers → StateFileModel → SavedLogStateModel
 log_taken timers saved =
     record { made = made_so_far saved.log; accounts = map (λ it. it.1) (taken_bindings timers saved) }
 
-abbrev pub taken_of : Timers → StateFileModel → TakenState
-taken_of timers saved = record { state = state_taken timers saved; log = log_taken timers saved }
+-- If misfits end at the start, the state is without those; the log keeps the account of each binding.
+abbrev pub starting : Bool → Rules → TakenState → TakenState
+starting false rules taken = taken
+starting true rules taken = record taken {
+  state = without_misfits rules taken.state;
+  ended = misfit_count rules taken.state;
+}
 
--- A state is taken if its bindings fit, and a log can begin with its accounts if they are valid.
-pub record IsTakenFrom (rules : Rules) (saved : StateFileModel) (taken : TakenState) : Type 0 where
-  pub state : taken.state ≡ state_taken rules.timers saved
-  pub log : taken.log ≡ log_taken rules.timers saved
+abbrev pub taken_whole : Timers → StateFileModel → TakenState
+taken_whole timers saved =
+    record { state = state_taken timers saved; log = log_taken timers saved; ended = 0 }
+
+abbrev pub taken_of : Bool → Rules → StateFileModel → TakenState
+taken_of ends rules saved = starting ends rules (taken_whole rules.timers saved)
+
+-- it is taken if its bindings fit, and a log can begin with its accounts if it has them
+pub record IsTakenFrom (ends : Bool) (rules : Rules) (saved : StateFileModel) (taken : TakenState) : Type 0 where
+  pub whole : taken ≡ taken_of ends rules saved
   pub fits : misfit rules taken.state ≡ None
   pub accounts : HasAccounts saved → is_saved_log_state taken.state taken.log ≡ true
 
-abbrev pub IsTaken : Rules → StateFileModel → Result TakenState (Row × Misfit) → Type 0
-IsTaken rules saved (Ok taken) = IsTakenFrom rules saved taken
-IsTaken rules saved (Err found) = misfit rules (state_taken rules.timers saved) ≡ Some found
+abbrev pub IsTaken : Bool → Rules → StateFileModel → Result TakenState (Row × Misfit) → Type 0
+IsTaken ends rules saved (Ok taken) = IsTakenFrom ends rules saved taken
+IsTaken ends rules saved (Err found) = misfit rules (taken_of ends rules saved).state ≡ Some found
 
 -- LAW: a binding that had ended when it was saved is not live in the run that goes on, whatever its timers, and its
 -- number is held as long as under the earlier timers

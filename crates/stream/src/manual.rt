@@ -39,6 +39,9 @@ After success each output contains the bytes that napt writes. The differences a
 
 --verbose adds a second line on standard error, which a terminal gets anyway: the
 option, its file, and what is wrong with it (in a configuration, with the place).
+With --end-misfits the bindings of the state that the configuration cannot keep end
+at its time, in the log too, and one line on standard error counts them; all others
+go on.
 
 Exit status, and the line on standard error that says why: as for napt, with
 ", $name, ": in place of napt: at its beginning. too-large never occurs, and too-many
