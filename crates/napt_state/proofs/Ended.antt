@@ -95,7 +95,7 @@ pub none_found : (m : Option Misfit) → is_some m ≡ false → m ≡ None
 none_found None is = refl
 none_found (Some found) is = absurd (true≢false is)
 
--- the binding before a place, of a list that is judged from there on
+-- The binding before a place, of a list that is judged from there on.
 module _ (rules : Rules) (clock : ℕ) (all list : List Binding) (left : ℕ) (b : Binding) (some : 0 < left)
     (within : left ≤ length all) (long : length list ≡ length all) (front : take left list ≡ take left all)
     (back : drop left list ≡ ended_misfits rules clock (drop left all)) (at : b ≡ get_or list (left - 1) b) where

@@ -127,7 +127,7 @@ taken_whole timers saved =
 abbrev pub taken_of : Bool → Rules → StateFileModel → TakenState
 taken_of ends rules saved = starting ends rules (taken_whole rules.timers saved)
 
--- it is taken if its bindings fit, and a log can begin with its accounts if it has them
+-- A state is taken if its bindings fit, and a log can begin with its accounts if they are valid.
 pub record IsTakenFrom (ends : Bool) (rules : Rules) (saved : StateFileModel) (taken : TakenState) : Type 0 where
   pub whole : taken ≡ taken_of ends rules saved
   pub fits : misfit rules taken.state ≡ None

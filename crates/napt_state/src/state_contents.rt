@@ -155,8 +155,8 @@ pub fn misfits_end()
     ensures { ending.MisfitsEnd }
 {}
 
-/// A binding that had ended when it was saved is not live in the run that goes on, whatever its timers, and its number is held
-/// as long as under the timers of before.
+/// A binding that had ended when it was saved is not live in the run that goes on, whatever its timers, and its number
+/// is held as long as under the earlier timers.
 pub fn ended_bindings_stay_ended()
     ensures { saved.EndedBindingsStayEnded }
 {}
