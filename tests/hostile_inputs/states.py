@@ -28,9 +28,10 @@ EARLIER_LAST = re.compile(f"end ({NUMBER}) ({NUMBER}) ({NUMBER})")
 MOST, MOST_COUNT, MOST_END = 2**64 - 1, 2**61, 2**128 - 1
 # of a state that has no accounts of its bindings
 BEGUN = "{}: the log begins a new entry for each binding of the state, at {}: the run before had no log\n"
-# of packets that are earlier than the state
+# of bindings that end since they do not fit
 ENDED = "{}: bindings of the state that the configuration cannot keep, and that end here: {}\n"
-BEFORE = "{}: a packet is of {}, earlier than the state's time, {}: until then packets count as at that time, and no timer ends\n"
+# of packets that are earlier than the state
+BEFORE = "{}: a packet of {} is earlier than the state's time, {}: until then packets count as if they came at that time, and no timer ends\n"
 
 
 class Refused(Exception):
@@ -300,7 +301,7 @@ def redirected(rules):
 def misfit(rules, state, kept):
     """Why the first binding that does not fit the configuration does not, or None."""
     fixed, behind, found = redirected(rules), set(), None
-    # each with those behind it
+    # each with those after it
     for it in reversed(kept):
         wrong = [word for word, holds in misfits(rules, it, state.clock, fixed, behind) if holds]
         found = wrong[0] if wrong else found
@@ -308,7 +309,7 @@ def misfit(rules, state, kept):
 
 
 def end_misfits(rules, state, kept):
-    """Ends the bindings that do not fit the configuration, each with those behind it that do, as if last used when 1970 began. Returns
+    """Ends the bindings that do not fit the configuration, each with those after it that do, as if last used when 1970 began. Returns
     how many they are."""
     fixed, behind, many = redirected(rules), set(), 0
     for it in reversed(kept):
@@ -364,8 +365,8 @@ def seen(rules, data):
 
 def run(rules, data, inside, outside, log=None, each=None, piece=0, ends=False):
     """What a run from a state's text, or None, leaves over two captures, by the names of outputs: the captures, the report and the text
-    of the state; of a run beside a log, of whose file this is the text, that of the file, the rows of what lives behind it, and whether
-    entries are begun of all bindings that are there. A log in pieces of so many seconds, the first with the number after that of one
+    of the state; of a run with a log, of whose file this is the text, that of the file, the rows of what lives after it, and whether
+    entries are begun of all bindings that are there. A log in pieces of this number of seconds, the first with the number after that of one
     that is there, leaves those before its last one too. Of misfits that end it leaves how many they are."""
     state = read(data) if data is not None else State()
     translator, many = taken_up(rules, state, Translator if log is None else functools.partial(Logger, each=each), ends)
@@ -391,7 +392,7 @@ def begun_line(name, data):
 
 
 def ended_line(name, many):
-    """What a program says of so many bindings of a state that end since they do not fit."""
+    """What a program says of this number of bindings of a state that end since they do not fit."""
     return ENDED.format(name, many) if many else ""
 
 
