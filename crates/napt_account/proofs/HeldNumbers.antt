@@ -286,7 +286,7 @@ module _ (ends : EndsAreFirst) (timers : Timers) (t : AreTimers timers) where
 -- WHERE A RUN BEGINS: the bindings that had ended and are held, and then those that live, in the order of the log
 
 -- the holders of entries: when each was made, and its binding
-holders_of : List Entry → List Binding → List Holder
+abbrev holders_of : List Entry → List Binding → List Holder
 holders_of [] bs = []
 holders_of (e ∷ es) [] = []
 holders_of (e ∷ es) (b ∷ bs) = record { made = e.made; binding = b } ∷ holders_of es bs

@@ -17,6 +17,10 @@ use Rattle.napt_account.specs.{declared.open_entries.OpenEntries.OpenEntries, Lo
 abbrev pub entry_key : Row → EntryKey
 entry_key row = record { address = row.external.address; number = row.external.number; protocol = row.protocol }
 
+-- its external endpoint is one of IPv4
+abbrev pub IsNumberedRow : Row → Type 0
+IsNumberedRow row = (row.external.address < 2 ^ 32) × (row.external.number < 2 ^ 16)
+
 abbrev pub end_key_of : Option ℕ → ℕ → EndKey
 end_key_of None number = record { is_endless = true; end = 0; number = number }
 end_key_of (Some end) number = record { is_endless = false; end = end; number = number }

@@ -1,10 +1,10 @@
 -- A line is split into its words again, since no word has a space, and a text into its lines, since no line has a line
 -- feed.
 use Rattle.std.proofs.lemmas.{Grind.common_steps, Bool.Decides.nat_tests}
-use Rattle.std.proofs.Common.{ℕ, zero, suc, ◌≡◌, ◌≢◌, ◌<◌, get_or, ◌==◌, ◌||◌, ◌/◌, ◌%◌, ◌∙◌, Bool, true, false, List, [], ◌∷◌, ◌++◌, codes, decimal, length, Option, Some, None, IfSome, refl, sym, ap, subst, append_assoc, append-nil, length-append, if◌then◌else◌, arith}
+use Rattle.std.proofs.Common.{ℕ, zero, suc, ◌≡◌, ◌≢◌, ◌<◌, get_or, nat_le, ◌==◌, ◌||◌, ◌/◌, ◌%◌, ◌∙◌, Bool, true, false, List, [], ◌∷◌, ◌++◌, codes, decimal, length, Option, Some, None, IfSome, refl, sym, ap, subst, append_assoc, append-nil, length-append, if◌then◌else◌, arith}
 use Rattle.std.{proofs.{BufReadLemmas.{take_through-append, drop_through-append}, Math.Seq.get_or-append_seam}, specs.Fmt.{digit_glyph, digits, digits_onto}}
-use Rattle.std.specs.{Io.{BufRead.{take_through, drop_through}, KnownBytes.IsAtEnd}, List.{All, list_any, slice_split}, Net.Text.dotted_text}
-use Rattle.std.proofs.lemmas.{Bool.{both_ways, eqb-false, false_from_ne_true, or_parts}, List.{append_cancel_right, Elements.{All-append, All-cons}}}
+use Rattle.std.specs.{Io.{BufRead.{take_through, drop_through}, KnownBytes.IsAtEnd}, List.{All, list_any, slice_split}, Net.Text.dotted_text, Str.{IsAscii, IsUtf8}}
+use Rattle.std.proofs.lemmas.{Str.{IsAscii-append, IsUtf8-from_ascii}, Bool.{both_ways, eqb-false, false_from_ne_true, or_parts}, List.{append_cancel_right, Elements.{All-append, All-cons}}}
 use Rattle.std.proofs.lemmas.List.{Folds.{list_any-append, list_any_at}, Splits.{slice_split_at, slice_split_none}}
 use Rattle.napt_wire.specs.declared.Protocol.{Protocol, TheVariants.{Icmp, Tcp, Udp}}
 use Rattle.napt_config.specs.Text.{address_text}
@@ -14,9 +14,9 @@ use Rattle.napt_state.specs.declared.line.StateLine.TheVariants as lines
 use Rattle.napt_state.specs.StateContents.{IsFirstLine}
 use Rattle.napt_state.specs.StateText.{StateTextBytes, is_space, words_in, words_text, state_flag, kind_text, state_protocol_name, end_text, count_words, words_if, split_words, line_text}
 
--- A byte that ends a word.
+-- A byte that no word has: one that ends it, or is not ASCII.
 abbrev is_mark : ℕ → Bool
-is_mark byte = is_space byte || (byte == 10)
+is_mark byte = is_space byte || ((byte == 10) || nat_le 128 byte)
 
 abbrev has_mark : StateTextBytes → Bool
 has_mark text = list_any is_mark text
@@ -33,7 +33,14 @@ IsLine text = All (λ byte. byte ≢ 10) text
 
 no_end_at : (text : StateTextBytes) → has_mark text ≡ false → IsLine text
 no_end_at text none k d within =
-    eqb-false (get_or text k d) 10 (or_parts (is_space (get_or text k d)) _ (no_mark_at text none k d within)).1
+    eqb-false (get_or text k d) 10
+    (or_parts (get_or text k d == 10) _ (or_parts (is_space (get_or text k d)) _ (no_mark_at text none k d within)).1).0
+
+ascii_word : (text : StateTextBytes) → has_mark text ≡ false → IsAscii text
+ascii_word [] none i = omega arith
+ascii_word (byte ∷ text) none zero =
+    (let small = (or_parts (is_mark byte) _ none).0 in grind (arith, nat_tests, small))
+ascii_word (byte ∷ text) none (suc i) = ascii_word text (or_parts (is_mark byte) _ none).1 i
 
 -- WORDS WITHOUT A MARK
 
@@ -145,6 +152,29 @@ joined-line first (word ∷ more) none =
     let (here, behind) = or_parts (has_mark first) (have_marks (word ∷ more)) none in
     All-append (λ byte. byte ≢ 10) first (32 ∷ joined word more) (no_end_at first here)
     (All-cons (λ byte. byte ≢ 10) 32 (joined word more) (λ is. omega arith) (joined-line word more behind))
+
+-- WHAT IS WRITTEN IS UTF-8
+
+ascii_end : IsAscii (codes "\n")
+ascii_end zero = omega arith
+ascii_end (suc i) = omega arith
+
+ascii_space : IsAscii (codes " ")
+ascii_space zero = omega arith
+ascii_space (suc i) = omega arith
+
+ascii_words : (texts : List StateTextBytes) → have_marks texts ≡ false → IsAscii (words_text texts)
+ascii_words [] none = ascii_end
+ascii_words (last ∷ []) none =
+    IsAscii-append last (codes "\n") (ascii_word last (or_parts (has_mark last) false none).0) ascii_end
+ascii_words (word ∷ (next ∷ more)) none =
+    let (here, behind) = or_parts (has_mark word) (have_marks (next ∷ more)) none in
+    IsAscii-append word (codes " " ++ words_text (next ∷ more)) (ascii_word word here)
+    (IsAscii-append (codes " ") (words_text (next ∷ more)) ascii_space (ascii_words (next ∷ more) behind))
+
+pub line_text-utf8 : (entry : StateLine) → IsUtf8 (line_text entry)
+unfolding line_text
+line_text-utf8 entry = IsUtf8-from_ascii (words_text (split_words entry)) (ascii_words (split_words entry) (in_words entry))
 
 abbrev pub Line : StateTextBytes → Type 0
 Line text = (line : StateTextBytes) × (text ≡ line ++ codes "\n") × IsLine line

@@ -88,8 +88,8 @@ pub fn write_state<W: Write>(
 
 /// Reads the text of a state to its end, in the memory of the state and of one line. Nothing else is taken: no part of a text,
 /// and nothing with anything after it. A text in which an earlier version wrote its log is read too. The fault is the first
-/// one; of the reader, which is dropped, some first bytes were taken then. `read` says nothing where a read fails, memory
-/// runs out or the reader says that the bytes are not UTF-8, which those of a state's text are.
+/// one; of the reader, which is dropped, some first bytes were taken then. `read` says nothing where a read fails or memory
+/// runs out.
 pub fn read_state<R: BufRead + Drop>(
     alloc: Global,
     reader: R,
