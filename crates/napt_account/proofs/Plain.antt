@@ -1,4 +1,4 @@
--- The entries of a log without their numbers, leg by leg, and those of a run.
+-- The entries of a log without their numbers, leg by leg.
 use Rattle.std.proofs.lemmas.{Grind.common_steps, Bool.{Decides.nat_tests, true≢false}, Option.same_Some}
 use Rattle.std.proofs.Common.{◌≡◌, ℕ, ◌+◌, ◌≤◌, Bool, true, false, cond, List, [], ◌∷◌, ◌++◌, length, map, Option, Some, None, refl, sym, ◌∙◌, ap, subst, arith}
 use Rattle.std.specs.List.{fold}
@@ -86,33 +86,3 @@ module _ (rules : Rules) (t : AreTimers rules.timers) where
   plain_acts clock list (a ∷ acts) last new turn log =
       plain_acts a.leg.now (act rules a.address a.leg list).list acts last new turn.1 (after_record rules.timers log a)
       ∙ ap (λ (es : List Entry). fold (logged rules.timers) es acts) (plain_act clock list a turn.0 log)
-
--- WHERE A RUN BEGINS ANEW, it has the redirects
-
-pub unnumbered_from : (n : ℕ) (es : List Entry) → map (λ (l : LogEntry). l.entry) (numbered_from n es) ≡ es
-unnumbered_from n [] = refl
-unnumbered_from n (e ∷ es) = ap (λ (xs : List Entry). e ∷ xs) (unnumbered_from (n + 1) es)
-
-module _ (timers : Timers) (pair : ℕ → ℕ) where
-  redirects_stay : (rs : List Redirect) → purge timers 0 (map (redirect_binding pair) rs) ≡ map (redirect_binding pair) rs
-  redirects_stay [] = refl
-  redirects_stay (r ∷ rs) =
-      ap (λ (b : Binding). b ∷ purge timers 0 (map (redirect_binding pair) rs)) (redirect_stays timers 0 pair r)
-      ∙ ap (λ (bs : List Binding). redirect_binding pair r ∷ bs) (redirects_stay rs)
-
-pub plain_begun : (rules : Rules) → unnumbered (begun_behind 0 rules (initial_state rules))
-    ≡ map (first_entry rules.timers 0) (opening rules)
-plain_begun rules =
-    unnumbered_from (0 + 1) (map (first_entry rules.timers 0) (purge rules.timers 0 (opening rules)))
-    ∙ ap (map (first_entry rules.timers 0)) (redirects_stay rules.timers (pair_of rules) rules.redirects)
-
--- a run's log
-pub plain_log : (rules : Rules) → AreTimers rules.timers → (inputs : List Arrival) → unnumbered (log_of rules inputs)
-    ≡ fold (logged rules.timers) (map (first_entry rules.timers 0) (opening rules)) (run rules inputs (opening rules)).acts
-unfolding log_on
-plain_log rules t inputs =
-    plain_acts rules t 0 (opening rules) (run rules inputs (opening rules)).acts _
-    (run rules inputs (opening rules)).list (run_turn rules 0 0 inputs (opening rules))
-    (begun_behind 0 rules (initial_state rules))
-    ∙ ap (λ (es : List Entry). fold (logged rules.timers) es (run rules inputs (opening rules)).acts)
-    (plain_begun rules)
