@@ -7,7 +7,7 @@ use Rattle.napt_rules.specs.{declared.Row.Row, Prelude.Each}
 use Rattle.napt_account.specs.OpenEntries.{AreKeyed, IsNumberedRow, entry_key, external_eq}
 use Rattle.napt_account.proofs.OpenEntries.{external_itself}
 
-protocol_place : Protocol → ℕ
+abbrev protocol_place : Protocol → ℕ
 protocol_place Icmp = 0
 protocol_place Tcp = 1
 protocol_place Udp = 2

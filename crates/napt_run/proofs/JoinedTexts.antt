@@ -6,7 +6,7 @@ use Rattle.napt_capture.specs.{Contents.RecordModel, Text.{file_header, record_t
 use Rattle.napt_config.specs.Rules.{Rules, RulesInvariant}
 use Rattle.napt_laws.proofs.OneMoreInput.{outcomes_long}
 use Rattle.napt_records.specs.{declared.Fault.{Fault, TheVariants.Run}, Output.{packet_to, record_at, records_to}, Report.report_text}
-use Rattle.napt_rules.specs.Prelude.{Arrival, Each, EarlierClocksAreTheStates, IsStateInOrder, RunEffect, RunResult, SavedRunsGoOn, Side, State, TakesState, effect_from, inputs_from_clock, last_clock, next_state, raised, run_result_from, run_result_of, run_then, with_redirects}
+use Rattle.napt_rules.specs.Prelude.{Arrival, Each, EarlierClocksAreTheStates, IsStateInOrder, RunEffect, RunResult, SavedRunGoesOn, SavedRunsGoOn, Side, State, TakesState, effect_from, inputs_from_clock, last_clock, next_state, raised, run_result_from, run_result_of, run_then, with_redirects}
 use Rattle.napt_rules.specs.declared.Outcome.{Outcome}
 use Rattle.napt_sequential.specs.declared.fault.RunFault.TheVariants.{TooMany}
 use Rattle.napt_wire.specs.declared.Side.TheVariants as sides
@@ -23,49 +23,49 @@ text_joined xs ys =
     ∙ ap (λ (l : List ℕ). (file_header ++ flat_map record_text xs) ++ l)
     (sym (drop-append_seam file_header (flat_map record_text ys))))
 
-zip_joined : (as bs : List Arrival) (os ps : List Outcome) → length os ≡ length as →
-    zip (as ++ bs) (os ++ ps) ≡ zip as os ++ zip bs ps
-zip_joined [] bs [] ps long = refl
-zip_joined [] bs (o ∷ os) ps long = absurd (omega (arith, long))
-zip_joined (a ∷ as) bs [] ps long = absurd (omega (arith, long))
-zip_joined (a ∷ as) bs (o ∷ os) ps long =
-    ap (λ (l : List (Arrival × Outcome)). (a, o) ∷ l) (zip_joined as bs os ps (omega (arith, long)))
+zip_joined : (xs ys : List Arrival) (os ps : List Outcome) → length os ≡ length xs →
+    zip (xs ++ ys) (os ++ ps) ≡ zip xs os ++ zip ys ps
+zip_joined [] ys [] ps long = refl
+zip_joined [] ys (o ∷ os) ps long = absurd (omega (arith, long))
+zip_joined (a ∷ xs) ys [] ps long = absurd (omega (arith, long))
+zip_joined (a ∷ xs) ys (o ∷ os) ps long =
+    ap (λ (l : List (Arrival × Outcome)). (a, o) ∷ l) (zip_joined xs ys os ps (omega (arith, long)))
 
 module _ (side : Side) where
   abbrev made : Arrival × Outcome → Option RecordModel
   made pair = record_at pair.0.time (packet_to side pair.1)
 
-  records_joined : (as bs : List Arrival) (os ps : List Outcome) → length os ≡ length as →
-      records_to side (as ++ bs) (os ++ ps) ≡ records_to side as os ++ records_to side bs ps
-  records_joined as bs os ps long =
+  records_joined : (xs ys : List Arrival) (os ps : List Outcome) → length os ≡ length xs →
+      records_to side (xs ++ ys) (os ++ ps) ≡ records_to side xs os ++ records_to side ys ps
+  records_joined xs ys os ps long =
       ap (filter_map made)
-      (zip_joined as bs os ps long)
-      ∙ filter_map-append made (zip as os) (zip bs ps)
+      (zip_joined xs ys os ps long)
+      ∙ filter_map-append made (zip xs os) (zip ys ps)
 
   -- the times of records are not those of the clock
-  records_raised : (clock : ℕ) (as : List Arrival) (os : List Outcome) →
-      records_to side (inputs_from_clock clock as) os ≡ records_to side as os
+  records_raised : (clock : ℕ) (xs : List Arrival) (os : List Outcome) →
+      records_to side (inputs_from_clock clock xs) os ≡ records_to side xs os
   records_raised clock [] os = refl
-  records_raised clock (a ∷ as) [] = refl
-  records_raised clock (a ∷ as) (o ∷ os) =
+  records_raised clock (a ∷ xs) [] = refl
+  records_raised clock (a ∷ xs) (o ∷ os) =
       filter_map-append made
-      ((a, o) ∷ []) (zip (inputs_from_clock clock as) os)
-      ∙ (ap (λ (l : List RecordModel). filter_map made ((a, o) ∷ []) ++ l) (records_raised clock as os)
+      ((a, o) ∷ []) (zip (inputs_from_clock clock xs) os)
+      ∙ (ap (λ (l : List RecordModel). filter_map made ((a, o) ∷ []) ++ l) (records_raised clock xs os)
       ∙ sym (filter_map-append made
-      ((a, o) ∷ []) (zip as os)))
+      ((a, o) ∷ []) (zip xs os)))
 
 -- THE CLOCK
 
-later_clock : (c n : ℕ) (as : List Arrival) → c ≤ n → last_clock c as ≤ last_clock n as
+later_clock : (c n : ℕ) (xs : List Arrival) → c ≤ n → last_clock c xs ≤ last_clock n xs
 later_clock c n [] le = le
-later_clock c n (a ∷ as) le = later_clock (max c a.clock) (max n a.clock) as (omega (arith, le))
+later_clock c n (a ∷ xs) le = later_clock (max c a.clock) (max n a.clock) xs (omega (arith, le))
 
-raised_twice : (c n : ℕ) → c ≤ n → (as : List Arrival) → inputs_from_clock n (inputs_from_clock c as) ≡ inputs_from_clock n as
+raised_twice : (c n : ℕ) → c ≤ n → (xs : List Arrival) → inputs_from_clock n (inputs_from_clock c xs) ≡ inputs_from_clock n xs
 raised_twice c n le [] = refl
-raised_twice c n le (a ∷ as) =
+raised_twice c n le (a ∷ xs) =
     let same : max n (max c a.clock) ≡ max n a.clock = omega (arith, le) in
-    ap (λ (m : ℕ). record a { clock = m } ∷ inputs_from_clock n (inputs_from_clock c as)) same
-    ∙ ap (λ (l : List Arrival). raised n a ∷ l) (raised_twice c n le as)
+    ap (λ (m : ℕ). record a { clock = m } ∷ inputs_from_clock n (inputs_from_clock c xs)) same
+    ∙ ap (λ (l : List Arrival). raised n a ∷ l) (raised_twice c n le xs)
 
 -- WHAT A RUN MAKES OF CAPTURES
 
@@ -104,6 +104,7 @@ module _ (clocks : EarlierClocksAreTheStates) (go_on : SavedRunsGoOn) (rules : R
   abbrev behind : List Arrival
   behind = inputs_from_clock (last_clock 0 ones) others
 
+  went : SavedRunGoesOn rules (with_redirects rules state) saved ones behind
   went = go_on rules keeps state saved takes ones behind order
 
   was_earlier : last_clock 0 ones ≤ saved.clock
@@ -164,8 +165,8 @@ texts_join clocks go_on rules keeps state saved takes inside outside whole read 
     record {
       texts = texts_made origin first;
       more = texts_made later rest;
-      first = ap (texts_by origin) read_first ∙ made_of origin first few;
-      rest = ap (texts_by later) read_rest ∙ made_of later rest fewer_rest;
+      writes = ap (texts_by origin) read_first ∙ made_of origin first few;
+      goes_on = ap (texts_by later) read_rest ∙ made_of later rest fewer_rest;
       outside = ap (λ (t : RunTexts). t.outside) (sym made.1) ∙ texts sides.Outside;
       inside = ap (λ (t : RunTexts). t.inside) (sym made.1) ∙ texts sides.Inside;
       report = λ rows. ap (λ (t : RunTexts). t.report) (sym made.1)

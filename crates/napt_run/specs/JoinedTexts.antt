@@ -25,8 +25,8 @@ pub record AreJoined (origin later : OriginModel) (whole first rest : CaptureFil
     (of_first of_rest : Result RunTexts Fault) : Type 0 where
   pub texts : RunTexts
   pub more : RunTexts
-  pub first : of_first ≡ Ok texts
-  pub rest : of_rest ≡ Ok more
+  pub writes : of_first ≡ Ok texts
+  pub goes_on : of_rest ≡ Ok more
   pub outside : all.outside ≡ texts.outside ++ records_in more.outside
   pub inside : all.inside ≡ texts.inside ++ records_in more.inside
   pub report : Each (λ r. r.external.number < 2 ^ 16) (ran_by origin (arrivals_of whole)).bindings →
