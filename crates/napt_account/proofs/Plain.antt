@@ -1,16 +1,16 @@
 -- The entries of a log without their numbers, leg by leg.
-use Rattle.std.proofs.lemmas.{Grind.common_steps, Bool.{Decides.nat_tests, true≢false}, Option.same_Some}
-use Rattle.std.proofs.Common.{◌≡◌, ℕ, ◌+◌, ◌≤◌, Bool, true, false, cond, List, [], ◌∷◌, ◌++◌, length, map, Option, Some, None, refl, sym, ◌∙◌, ap, subst, arith}
+use Rattle.std.proofs.lemmas.{Bool.{true≢false}, Option.same_Some}
+use Rattle.std.proofs.Common.{◌≡◌, ℕ, Bool, true, false, cond, List, [], ◌∷◌, ◌++◌, map, Option, Some, None, refl, sym, ◌∙◌, ap, subst}
 use Rattle.std.specs.List.{fold}
 use Rattle.napt_wire.specs.declared.{Protocol.Protocol, Way.{Way, TheVariants.{Outgoing, Incoming}}}
-use Rattle.napt_rules.specs.{declared.{Leg.Leg, Row.Row}, Prelude.{BindingUse, Binding, source, kind, act, LegAct, Arrival, State, initial_state, opening, purge, redirect_binding, row, run, effect_from, pair_of, Redirect, Rules, AreTimers, Timers}}
+use Rattle.napt_rules.specs.{declared.{Leg.Leg}, Prelude.{BindingUse, Binding, source, kind, act, LegAct, row, Rules, AreTimers, Timers}}
 use Rattle.napt_rules.specs.declared.End.{End, TheVariants.{ToOutside, ToInside, Onward, Dropped}}
-use Rattle.napt_laws.proofs.{OpeningList.redirect_stays, Turns.{IsTurn, InTurn, run_turn}}
+use Rattle.napt_laws.proofs.{Turns.{IsTurn, InTurn}}
 use Rattle.napt_binding.specs.Ends.{end_of}
 use Rattle.napt_table.specs.{declared.TimedRow.TimedRow, TimedRows.timed_row}
 use Rattle.napt_translate.specs.CarriedPackets.{packet_carried}
 use Rattle.napt_sequential.specs.Traces.{gone_through, loss_of, passage_by}
-use Rattle.napt_account.specs.{declared.log.{Entry.Entry, LogEntry.LogEntry}, Log.{LogModel, first_entry, begun_behind, counted, entry_through, unnumbered, use_entry, with_use, after_leg, after_record, log_of, log_on, numbered_from}}
+use Rattle.napt_account.specs.{declared.log.{Entry.Entry, LogEntry.LogEntry}, Log.{LogModel, first_entry, counted, entry_through, unnumbered, use_entry, with_use, after_leg, after_record}}
 use Rattle.napt_account.proofs.{Lists.{map_joined, map_twice}, Moves.of_moves}
 
 -- the entries after a leg: the binding that it made gets one, and that of the binding that it found changes

@@ -1,9 +1,8 @@
-use Rattle.std.proofs.lemmas.{Grind.common_steps, Bool.Decides.nat_tests}
-use Rattle.std.proofs.Common.{rules, vec_items, vec_len, ◌≡◌, ℕ, ◌+◌, ◌<◌, ◌≤◌, ◌==◌, Bool, true, false, not, ◌&&◌, ◌||◌, List, [], ◌∷◌, ◌++◌, None, Some, Option, length, drop, get_or, map, take, refl, sym, ◌∙◌, ap, subst, arith}
+use Rattle.std.proofs.Common.{rules, vec_items, vec_len, ◌≡◌, ℕ, ◌<◌, ◌==◌, Bool, true, false, not, ◌&&◌, ◌||◌, List, None, Some, length, get_or, take, refl, sym, ◌∙◌, ap, subst, arith}
 use Rattle.std.specs.{List.list_any, Prelude.nat_le}
 use Rattle.napt_rules.specs.Prelude.{Binding, State}
 use Rattle.napt_account.specs.declared.account.Account.{Account}
-use Rattle.napt_account.specs.LogStarts.{SavedLogStateModel, account_in, accounted, are_accounts, are_apart, is_account, is_saved_log_state, most_saved}
+use Rattle.napt_account.specs.LogStarts.{SavedLogStateModel, account_in, accounted, are_apart, is_account, most_saved}
 use Rattle.napt_account.specs.OpenEntries.{entry_key, external_eq}
 use Rattle.napt_account.proofs.{Accounts.{HasEndpoints, HasNumbers, any_apart, checked_none, checked_some, endpoints_more, numbers_more, seen_more, seen_same, some_binding, unchecked}, LogStarts.Kept}
 use Rattle.napt_account.proofs.account.SavedLogState.is_valid.Goals as goal

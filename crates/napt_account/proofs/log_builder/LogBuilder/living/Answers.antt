@@ -1,4 +1,4 @@
-use Rattle.std.{proofs.Common.{◌≡◌, ◌+◌, ◌*◌, ◌^◌, ◌∙◌, ap, subst}}
+use Rattle.std.{proofs.Common.{◌≡◌, ◌∙◌, ap, subst}}
 use Rattle.napt_account.specs.{LogBuilders.{LogBuilderModel}, LogParts.living_at}
 use Rattle.napt_account.proofs.log_builder.LogBuilder.living.Goals as goal
 

@@ -1,6 +1,6 @@
-use Rattle.std.{proofs.Common.{◌+◌, Some, refl, sym, ◌∙◌, ap, subst, arith}, specs.Prelude.IsSome}
+use Rattle.std.{proofs.Common.{◌+◌, refl, sym, ◌∙◌, ap, subst, arith}, specs.Prelude.IsSome}
 use Rattle.napt_account.specs.{declared.{binding_tally.LogNote.LogNote, open_entries.{Open.Open, OpenEntries.OpenEntries}}, BindingTallies.tally_used, Log.{LogModel, with_use}}
-use Rattle.napt_account.{specs.OpenEntries.{open_at, OpenEntriesShow}}
+use Rattle.napt_account.{specs.OpenEntries.{OpenEntriesShow}}
 use Rattle.napt_account.proofs.OpenEntries.{counted_shows, counted_used, open_entry, shows_more, unused_here, unused_same}
 use Rattle.napt_account.proofs.open_entries.OpenEntries.count.Goals as goal
 
