@@ -1,10 +1,10 @@
 -- The accounts of a state, one binding after another.
 use Rattle.std.proofs.lemmas.{Grind.common_steps, Bool.Decides.nat_tests}
-use Rattle.std.proofs.Common.{◌≡◌, ℕ, zero, suc, ◌+◌, ◌<◌, ◌≤◌, ◌==◌, Bool, true, false, not, ◌&&◌, ◌||◌, cond, List, [], ◌∷◌, ◌++◌, length, get_or, map, take, drop, Option, Some, None, unwrap_or, refl, sym, ◌∙◌, ap, subst, arith, append-nil}
-use Rattle.std.specs.{List.{list_any, slice_get}, HashSet.HashSet}
+use Rattle.std.proofs.Common.{◌≡◌, ℕ, zero, suc, ◌+◌, ◌<◌, ◌≤◌, ◌==◌, Bool, true, false, not, ◌&&◌, ◌||◌, cond, List, [], ◌∷◌, ◌++◌, length, get_or, take, drop, Option, Some, None, refl, sym, ◌∙◌, ap, subst, arith, append-nil}
+use Rattle.std.specs.{List.{list_any}, HashSet.HashSet}
 use Rattle.std.specs.HashSet as hash
-use Rattle.napt_rules.specs.{declared.Row.Row, Prelude.{Binding, Icmp}}
-use Rattle.napt_account.specs.declared.{account.Account.Account, log.LogEntry.LogEntry, open_entries.EntryKey.EntryKey}
+use Rattle.napt_rules.specs.{Prelude.{Binding, Icmp}}
+use Rattle.napt_account.specs.declared.{account.Account.Account, open_entries.EntryKey.EntryKey}
 use Rattle.napt_account.specs.LogStarts.{account_in, accounted, are_accounts, are_apart, is_account, with_account}
 use Rattle.napt_account.specs.OpenEntries.{entry_key, external_eq}
 use Rattle.napt_account.proofs.{LogStarts.Kept, OpenEntries.external_flip}

@@ -1,17 +1,17 @@
 -- A log that goes on from what was kept of it.
-use Rattle.std.proofs.lemmas.{Grind.common_steps, Bool.{Decides.nat_tests, and_parts}}
-use Rattle.std.proofs.Common.{◌≡◌, ℕ, zero, suc, ◌+◌, ◌<◌, ◌≤◌, max, Bool, false, true, not, ◌&&◌, cond, List, [], ◌∷◌, ◌++◌, length, map, drop, filter, refl, sym, ◌∙◌, ap, subst, arith, append_assoc, append-nil}
-use Rattle.std.specs.{Prelude.nat_lt, List.fold}
+use Rattle.std.proofs.lemmas.{Grind.common_steps, Bool.{Decides.nat_tests}}
+use Rattle.std.proofs.Common.{◌≡◌, ℕ, ◌+◌, ◌≤◌, max, Bool, false, true, not, ◌&&◌, cond, List, [], ◌∷◌, ◌++◌, length, map, drop, filter, refl, sym, ◌∙◌, ap, subst, arith, append_assoc, append-nil}
+use Rattle.std.specs.{List.fold}
 use Rattle.napt_wire.specs.declared.Way.{Way, TheVariants.{Outgoing, Incoming}}
-use Rattle.napt_binding.{specs.Ends.is_before, proofs.FirstEnds.before_sooner}
+use Rattle.napt_binding.{proofs.FirstEnds.before_sooner}
 use Rattle.napt_table.specs.declared.TimedRow.{TimedRow}
-use Rattle.napt_rules.specs.Prelude.{Binding, Each, act, LegAct, Arrival, RunEffect, run_from, last_clock, State, effect_from, next_state, with_redirects, act_behind, RunsGoOn, SavedRunsGoOn, Rules, Timers}
-use Rattle.napt_laws.proofs.{OneMoreInput.{run_append, clock_on}, Lists.{filter_narrow, each_weaker, each_pushed}, Turns.{InTurn, run_turn}}
+use Rattle.napt_rules.specs.Prelude.{Binding, Each, act, LegAct, Arrival, last_clock, State, effect_from, next_state, with_redirects, act_behind, RunsGoOn, SavedRunsGoOn, Rules, Timers}
+use Rattle.napt_laws.proofs.{OneMoreInput.{clock_on}, Lists.{filter_narrow, each_weaker, each_pushed}, Turns.{InTurn, run_turn}}
 use Rattle.napt_sequential.specs.{declared.passage.Passage.{Passage, TheVariants.{Nothing, Made, Out, In, Dropped}}, Traces.passage_of}
 use Rattle.napt_account.specs.{declared.log.{Entry.Entry, LogEntry.LogEntry, Shortage.Shortage}, Log.{LogModel, counted, made_by, entry_through, use_entry, with_use, shortages_of, after_leg, after_record, log_on}}
-use Rattle.napt_account.specs.LogParts.{IsNumbered, LogDelta, ends_within, in_order_of_end, is_behind, is_open, kept_at, part_between}
+use Rattle.napt_account.specs.LogParts.{IsNumbered, ends_within, in_order_of_end, is_behind, is_open, kept_at, part_between}
 use Rattle.napt_account.specs.ResumedLogRuns.{LogGoesOn, LogsGoOn, SavedLogsGoOn, left_of, part_of}
-use Rattle.napt_account.proofs.Lists.{each_mapped, filter_joined, filter_seen, filter_agrees, map_joined}
+use Rattle.napt_account.proofs.Lists.{each_mapped, filter_joined, filter_seen}
 
 -- LISTS
 

@@ -1,17 +1,17 @@
 -- The log with which a run begins at a state: its entries are those of the live bindings, and their numbers rise.
 use Rattle.std.proofs.lemmas.{Grind.common_steps, Bool.Decides.nat_tests, Bool.{and_parts, true≢false}}
-use Rattle.std.proofs.Common.{◌≡◌, ◌≢◌, ℕ, suc, ◌+◌, ◌≤◌, ◌^◌, ◌⊎◌, inl, inr, ◌==◌, Bool, true, false, not, ◌&&◌, ◌||◌, cond, List, [], ◌∷◌, ◌++◌, length, map, filter, Option, Some, None, refl, sym, ◌∙◌, ap, subst, arith, append-nil}
+use Rattle.std.proofs.Common.{◌≡◌, ◌≢◌, ℕ, suc, ◌+◌, ◌≤◌, ◌^◌, inl, inr, ◌==◌, Bool, true, false, not, ◌||◌, cond, List, [], ◌∷◌, ◌++◌, length, map, filter, Option, Some, None, refl, sym, ◌∙◌, ap, subst, arith, append-nil}
 use Rattle.std.specs.{Prelude.{nat_le, nat_lt}, List.{list_any, Sorted.{IsPermutation, IsSortedByKey}}, Ordering.nat_cmp}
 use Rattle.std.proofs.lemmas.List.{length-map, Sorted.{IsPermutation-append_left, IsPermutation-append_right, IsPermutation-filter_both, IsPermutation-map, IsPermutation-middle, IsPermutation-refl, IsPermutation-sym, IsPermutation-trans}}
 use Rattle.napt_config.specs.Rules.{AreTimers, Rules, RulesInvariant, pair_of}
-use Rattle.napt_rules.specs.{declared.Row.Row, Prelude.{Binding, Each, Redirect, State, TakesState, Timers, is_live, initial_state, opening, purge, redirect_binding, row, same_endpoint, same_protocol, with_live_flows, with_redirects}}
+use Rattle.napt_rules.specs.{declared.Row.Row, Prelude.{Binding, Each, State, TakesState, Timers, is_live, opening, purge, redirect_binding, row, same_endpoint, same_protocol, with_live_flows, with_redirects}}
 use Rattle.napt_rules.proofs.Lists.{filter_all}
 use Rattle.napt_laws.proofs.{Endpoints.{end_is, protocol_is}, Lists.each_weaker}
-use Rattle.napt_binding.{specs.Ends.{EndsAreFirst, end_of, is_before}, proofs.FirstEnds.{end_without_dead, ends_are_first}}
+use Rattle.napt_binding.{specs.Ends.{end_of, is_before}, proofs.FirstEnds.{end_without_dead, ends_are_first}}
 use Rattle.napt_table.specs.{declared.TimedRow.TimedRow, TimedRows.timed_row}
 use Rattle.napt_account.specs.declared.{account.Account.Account, log.{Entry.Entry, LogEntry.LogEntry}}
-use Rattle.napt_account.specs.{Attribution.has_ends, Log.{LogModel, begun_behind, first_entry, numbered_from, shares, unused_entry}, LogBuilders.IsStart, LogParts.{IsNumbered, Rises, is_open, kept_at}}
-use Rattle.napt_account.specs.{LogStarts.{NumbersDiffer, SavedLogStateModel, are_accounts, are_apart, accounted, continued_entries, empty_state, has_entry, has_redirect, in_order_of_number, StartedLogsAreOfTheirStates, StartedLogsBeginAnew, is_account, is_saved_log_state, log_started, most_saved, new_entries, no_saved_log, placed_by_number, resumed_end, resumed_entries, resumed_entry, unlisted_rows, with_account}, OpenEntries.{AreKeyed, Has, entry_key, external_eq}, ResumedLogRuns.{IsLogOf, timed_by}}
+use Rattle.napt_account.specs.{Attribution.has_ends, Log.{LogModel, first_entry, numbered_from, shares, unused_entry}, LogBuilders.IsStart, LogParts.{IsNumbered, Rises, is_open}}
+use Rattle.napt_account.specs.{LogStarts.{NumbersDiffer, SavedLogStateModel, are_accounts, are_apart, accounted, continued_entries, empty_state, has_entry, has_redirect, in_order_of_number, StartedLogsAreOfTheirStates, StartedLogsBeginAnew, is_account, is_saved_log_state, log_started, most_saved, new_entries, no_saved_log, placed_by_number, resumed_end, resumed_entries, resumed_entry, unlisted_rows}, OpenEntries.{Has, entry_key, external_eq}, ResumedLogRuns.{IsLogOf, timed_by}}
 use Rattle.napt_account.proofs.InOrder.{Along, Differ, differ_filter, each_has, filter_has, has_each, has_filter, has_left, has_parts}
 use Rattle.napt_account.proofs.{Entries.shares_itself, Keyed.{keyed_along, live_keyed, log_keyed, share, share_flip}, Lists.{each_mapped, map_joined, map_twice}, LiveRows.{is_loose, live_all, live_of}, Numbers.{differ_moved, within_from}, OpenEntries.{any_has, external_itself, key_shares}, Rising.{rises_from, sorted_rising}}
 use Rattle.napt_account.proofs.Sorted.{has_back, has_moved}

@@ -1,6 +1,6 @@
 -- A run with its log takes one more input.
 use Rattle.std.proofs.lemmas.{Grind.common_steps, Bool.Decides.nat_tests}
-use Rattle.std.proofs.Common.{◌≡◌, ◌↔◌, ℕ, ◌+◌, ◌^◌, ◌<◌, ◌≤◌, max, List, [], ◌∷◌, ◌++◌, length, map, Result, Err, refl, sym, ◌∙◌, ap, subst, arith}
+use Rattle.std.proofs.Common.{◌≡◌, ◌↔◌, ℕ, ◌+◌, ◌^◌, ◌<◌, ◌≤◌, max, List, [], ◌∷◌, ◌++◌, length, Result, Err, sym, ◌∙◌, ap, arith}
 use Rattle.napt_rules.specs.Prelude.{Arrival, Rules, State, last_clock}
 use Rattle.napt_laws.proofs.OneMoreInput.{clock_more}
 use Rattle.napt_sequential.specs.{Traces.traces_of, declared.{fault.RunFault.{RunFault, TheVariants.{TooMany, Memory}}, passage.Trace.Trace}}

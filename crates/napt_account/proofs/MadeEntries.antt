@@ -1,13 +1,13 @@
 -- What an input made, as it is in the log after it.
-use Rattle.std.proofs.lemmas.{Grind.common_steps, Bool.{Decides.nat_tests, and_parts, and_from}}
-use Rattle.std.proofs.Common.{◌≡◌, inl, inr, ℕ, ◌+◌, ◌≤◌, Bool, true, false, ◌&&◌, ◌||◌, cond, List, [], ◌∷◌, ◌++◌, map, filter, find, Option, Some, None, refl, sym, ◌∙◌, ap, subst, arith, append-nil}
+use Rattle.std.proofs.lemmas.{Bool.{Decides.nat_tests, and_parts, and_from}}
+use Rattle.std.proofs.Common.{◌≡◌, ℕ, ◌+◌, ◌≤◌, Bool, true, false, ◌&&◌, cond, List, [], ◌∷◌, ◌++◌, map, filter, find, Option, Some, None, refl, sym, ◌∙◌, ap, arith, append-nil}
 use Rattle.std.{specs.{Prelude.option_to_list, List.list_any, Option.option_map}}
 use Rattle.napt_wire.specs.declared.Way.{Way, TheVariants.{Outgoing, Incoming}}
-use Rattle.napt_rules.specs.{declared.Row.Row, Prelude.Each}
+use Rattle.napt_rules.specs.{declared.Row.Row}
 use Rattle.napt_binding.specs.Ends.{is_before}
 use Rattle.napt_table.specs.declared.TimedRow.{TimedRow}
-use Rattle.napt_sequential.specs.declared.passage.{Passage.{Passage, TheVariants.{Nothing, Made, Out, In, Dropped}}, Trace.Trace}
-use Rattle.napt_account.specs.{declared.log.{Entry.Entry, LogEntry.LogEntry}, BindingTallies.open_of, Effects.CanCome, Log.{LogModel, after_leg, after_input, counted, entry_is_of, made_by, shares, use_entry, with_use}, MadeEntries.made_entry, LogParts.{IsNumbered, is_behind}}
+use Rattle.napt_sequential.specs.declared.passage.{Passage.{Passage, TheVariants.{Nothing, Made, Out, In, Dropped}}}
+use Rattle.napt_account.specs.{declared.log.{Entry.Entry, LogEntry.LogEntry}, BindingTallies.open_of, Effects.CanCome, Log.{LogModel, after_leg, counted, entry_is_of, made_by, shares, use_entry, with_use}, MadeEntries.made_entry, LogParts.{IsNumbered, is_behind}}
 use Rattle.napt_account.proofs.{Entries.{counted_binding, counted_end, shares_itself}, GoingOn.{more_leg, none_behind}, Lists.{filter_joined, filter_seen}}
 
 -- LISTS

@@ -1,6 +1,6 @@
 -- Entries that begin for live bindings without one.
-use Rattle.std.proofs.lemmas.{Grind.common_steps, Bool.Decides.nat_tests, List.{take_more}}
-use Rattle.std.proofs.Common.{◌≡◌, ℕ, suc, ◌+◌, ◌<◌, Bool, true, false, not, ◌||◌, cond, List, [], ◌∷◌, ◌++◌, length, get_or, map, filter, take, refl, sym, ◌∙◌, ap, subst, arith, append-nil}
+use Rattle.std.proofs.lemmas.{List.{take_more}}
+use Rattle.std.proofs.Common.{◌≡◌, ℕ, suc, ◌+◌, ◌<◌, Bool, true, false, not, ◌||◌, cond, List, [], ◌∷◌, ◌++◌, length, get_or, map, filter, take, refl, sym, ◌∙◌, ap, arith, append-nil}
 use Rattle.std.specs.{List.list_any, HashSet.HashSet}
 use Rattle.std.specs.HashSet as hash
 use Rattle.napt_rules.specs.declared.Row.{Row}

@@ -1,10 +1,10 @@
 -- Entries of a log in order of number.
-use Rattle.std.proofs.lemmas.{Grind.common_steps, Bool.{Decides.nat_tests, eqb-true, eq-eqb, ne_eqb}}
-use Rattle.std.proofs.Common.{◌≡◌, ◌≢◌, ℕ, ◌+◌, ◌≤◌, Bool, false, List, [], ◌∷◌, length, map, eqb, refl, sym, ◌∙◌, ap, subst, arith}
+use Rattle.std.proofs.lemmas.{Bool.{Decides.nat_tests, eq-eqb, ne_eqb}}
+use Rattle.std.proofs.Common.{◌≡◌, ◌≢◌, ℕ, ◌+◌, ◌≤◌, Bool, false, List, [], ◌∷◌, length, map, eqb, arith}
 use Rattle.std.specs.{Ordering.nat_cmp, List.{AllByRecursion, IsDistinct, Sorted.{IsPermutation, IsSortedByKey}}}
 use Rattle.std.proofs.lemmas.{List.Sorted.{IsPermutation-sym}, Map.Keys.IsDistinct-IsPermutation}
 use Rattle.napt_rules.specs.Prelude.{Arrival, Each, State, initial_state, effect_from, purge, Rules}
-use Rattle.napt_account.specs.{declared.log.{Entry.Entry, LogEntry.LogEntry}, Log.{LogModel, first_entry, begun_behind, log_of, log_on, numbered_from, unnumbered}, LogParts.{IsNumbered, Rises}}
+use Rattle.napt_account.specs.{declared.log.{Entry.Entry, LogEntry.LogEntry}, Log.{first_entry, begun_behind, log_of, log_on, numbered_from}, LogParts.{IsNumbered, Rises}}
 use Rattle.napt_account.proofs.{InOrder.Differ, Rising.{rises_all, rises_differ, rises_from, sorted_rising}, Sorted.{has_back, has_moved}}
 
 -- MOVED, NO TWO HAVE ONE NUMBER

@@ -8,9 +8,9 @@ use Rattle.napt_rules.specs.{declared.Row.Row, Prelude.Each}
 use Rattle.napt_laws.proofs.Endpoints.{protocol_is, end_is}
 use Rattle.napt_binding.specs.Ends.{is_before}
 use Rattle.napt_table.specs.declared.TimedRow.{TimedRow}
-use Rattle.napt_account.specs.declared.{binding_tally.{LogNote.LogNote, BindingTally.BindingTally}, log.{Entry.Entry, LogEntry.LogEntry}, open_entries.{DueEntry.DueEntry, EntryKey.EntryKey, Open.Open}}
-use Rattle.napt_account.specs.{declared.open_entries.OpenEntries.OpenEntries, BindingTallies.{noted, no_use, open_of, use_found, tally_used}, Log.{LogModel, counted, shares, entry_is_of, entry_through, use_entry, with_entry, with_use}}
-use Rattle.napt_account.{specs.LogParts.{IsNumbered, Rises, is_open}, proofs.{Entries.{counted_binding, counted_end, shares_itself}, GoingOn.numbered_leg, InOrder.{each_has, has_left, has_parts}, Rising.{rises_differ, rises_mapped, rises_pushed, same_number}}}
+use Rattle.napt_account.specs.declared.{binding_tally.{BindingTally.BindingTally}, log.{Entry.Entry, LogEntry.LogEntry}, open_entries.{DueEntry.DueEntry, EntryKey.EntryKey, Open.Open}}
+use Rattle.napt_account.specs.{declared.open_entries.OpenEntries.OpenEntries, BindingTallies.{noted, no_use, open_of, use_found, tally_used}, Log.{LogModel, counted, shares, entry_is_of, use_entry, with_entry, with_use}}
+use Rattle.napt_account.{specs.LogParts.{IsNumbered, Rises, is_open}, proofs.{Entries.{counted_binding, counted_end, shares_itself}, InOrder.{each_has, has_left, has_parts}, Rising.{rises_differ, rises_mapped, rises_pushed, same_number}}}
 use Rattle.napt_account.specs.OpenEntries.{entry_key, external_eq, open_at, entry_at, due_at, is_queued, entry_is_at, Has, IsPlaced, IsIndexed, IsIndexedBut, OpenEntriesShow}
 use Rattle.napt_laws.proofs.Lists.{each_weaker}
 

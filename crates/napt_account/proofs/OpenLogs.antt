@@ -1,13 +1,12 @@
 -- The accounts of a log's entries, found by their endpoints.
-use Rattle.std.proofs.lemmas.{Grind.common_steps, Bool.Decides.nat_tests, List.{take_all, take_more}}
-use Rattle.std.proofs.Common.{◌≡◌, ℕ, ◌+◌, ◌<◌, ◌≤◌, Bool, true, false, ◌&&◌, cond, find, List, [], ◌∷◌, ◌++◌, length, get_or, map, filter, take, Option, Some, None, refl, sym, ◌∙◌, ap, subst, arith}
+use Rattle.std.proofs.lemmas.{List.{take_more}}
+use Rattle.std.proofs.Common.{◌≡◌, ℕ, ◌+◌, ◌<◌, Bool, true, false, ◌&&◌, cond, find, List, [], ◌∷◌, ◌++◌, length, get_or, map, take, Option, Some, None, refl, sym, ◌∙◌, ap, subst}
 use Rattle.std.specs.{HashMap.HashMap, Option.{is_some, option_map, option_or}}
 use Rattle.std.specs.HashMap as hash
 use Rattle.napt_rules.specs.{declared.Row.Row, Prelude.{Binding, Each}}
-use Rattle.napt_binding.specs.Ends.{is_before}
 use Rattle.napt_account.specs.declared.{account.Account.Account, log.LogEntry.LogEntry, open_entries.EntryKey.EntryKey}
-use Rattle.napt_account.specs.{BindingTallies.open_of, Log.{LogModel, entry_is_of, shares}, LogParts.{is_open, kept_at}, LogStarts.{account_at, account_of_entry}, OpenEntries.{Has, entry_key, external_eq}}
-use Rattle.napt_account.proofs.{InOrder.{filter_has, has_each}, Lists.map_joined, NewEntries.share_either, OpenEntries.external_is}
+use Rattle.napt_account.specs.{Log.{LogModel, entry_is_of, shares}, LogParts.{is_open, kept_at}, LogStarts.{account_at, account_of_entry}, OpenEntries.{Has, entry_key, external_eq}}
+use Rattle.napt_account.proofs.{InOrder.{filter_has, has_each}, NewEntries.share_either, OpenEntries.external_is}
 
 abbrev is_under : EntryKey → LogEntry → Bool
 is_under x numbered = external_eq (entry_key numbered.entry.binding) x

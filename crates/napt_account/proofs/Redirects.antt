@@ -1,9 +1,9 @@
 -- The redirects of a configuration, found by a key of their protocol and both endpoints.
 use Rattle.std.proofs.lemmas.{Grind.common_steps, Bool.Decides.nat_tests}
-use Rattle.std.proofs.Common.{◌≡◌, ℕ, ◌+◌, ◌<◌, Bool, true, false, Option, Some, None, ◌&&◌, ◌||◌, cond, List, [], ◌∷◌, ◌++◌, length, get_or, map, take, refl, sym, ◌∙◌, ap, subst, arith}
+use Rattle.std.proofs.Common.{◌≡◌, ℕ, ◌+◌, ◌<◌, Bool, true, false, Some, None, ◌||◌, cond, List, [], ◌∷◌, ◌++◌, length, get_or, map, take, refl, sym, ◌∙◌, ap, arith}
 use Rattle.std.specs.{List.list_any, HashSet.HashSet}
 use Rattle.std.specs.HashSet as hash
-use Rattle.std.proofs.lemmas.List.{take_all, take_more}
+use Rattle.std.proofs.lemmas.List.{take_more}
 use denote.Enum.Bare.{sameb}
 use Rattle.napt_wire.specs.{contracts.Protocol.the_type, declared.Protocol.{Protocol, TheVariants.{Udp, Tcp, Icmp}}}
 use Rattle.napt_config.specs.{Rules.{Rules}, declared.settings.Timers.{Timers}}

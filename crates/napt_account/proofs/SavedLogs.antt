@@ -1,19 +1,19 @@
 -- What a run leaves of its log is what the next run begins with.
-use Rattle.std.proofs.lemmas.{Grind.common_steps, Bool.Decides.nat_tests, Bool.{and_from, and_parts, true≢false}, Option.{same_Some, slice_get-get_or, slice_get_within}}
-use Rattle.std.proofs.Common.{◌≡◌, ◌≢◌, ℕ, suc, ◌+◌, ◌≤◌, inl, inr, Bool, true, false, not, ◌&&◌, ◌||◌, cond, find, List, [], ◌∷◌, ◌++◌, length, get_or, map, filter, flat_map, Option, Some, None, refl, sym, ◌∙◌, ap, subst, arith, append-nil}
-use Rattle.std.specs.{List.{list_any, slice_get, Sorted.IsPermutation}, Option.option_map}
+use Rattle.std.proofs.lemmas.{Bool.{and_from, and_parts, true≢false}, Option.{same_Some, slice_get-get_or, slice_get_within}}
+use Rattle.std.proofs.Common.{◌≡◌, ◌≢◌, ℕ, suc, ◌+◌, ◌≤◌, inl, inr, Bool, true, false, not, cond, find, List, [], ◌∷◌, ◌++◌, length, get_or, map, filter, flat_map, Option, Some, None, refl, sym, ◌∙◌, ap, subst, arith, append-nil}
+use Rattle.std.specs.{List.{slice_get, Sorted.IsPermutation}, Option.option_map}
 use Rattle.std.proofs.lemmas.List.Sorted.{IsPermutation-map, IsPermutation-sym, IsPermutation-trans}
 use Rattle.napt_config.specs.Rules.{Rules, RulesInvariant, pair_of}
-use Rattle.napt_rules.specs.{declared.Row.Row, Prelude.{AlikeStatesGoOn, Arrival, Binding, Each, IsSound, IsStateInOrder, OrderedStatesAreAlike, SavedRunsGoOn, State, TakesState, TakenStatesAreSound, Timers, bindings_at, effect_from, hold_ago, is_live, last_clock, live_and_held, next_state, opening, purge, row, with_live_flows, with_redirects}}
+use Rattle.napt_rules.specs.{declared.Row.Row, Prelude.{AlikeStatesGoOn, Arrival, Binding, Each, IsSound, OrderedStatesAreAlike, SavedRunsGoOn, State, TakesState, TakenStatesAreSound, Timers, effect_from, hold_ago, is_live, last_clock, live_and_held, next_state, opening, purge, row, with_live_flows, with_redirects}}
 use Rattle.napt_rules.proofs.Lists.{filter_all}
-use Rattle.napt_laws.proofs.{Endpoints.{end_is, end_itself, protocol_is, same_itself}, Lists.{each_weaker, find_passes}, StepsSound.purge_stays_sound}
+use Rattle.napt_laws.proofs.{Endpoints.{end_itself, same_itself}, Lists.{find_passes}, StepsSound.purge_stays_sound}
 use Rattle.napt_binding.{specs.Ends.{end_by_protocol, end_of, is_before}, proofs.FirstEnds.end_without_dead}
 use Rattle.napt_table.specs.{declared.TimedRow.TimedRow, TimedRows.timed_row}
-use Rattle.napt_account.specs.declared.{account.Account.Account, log.{Entry.Entry, LogEntry.LogEntry}}
-use Rattle.napt_account.specs.{Attribution.has_ends, BindingTallies.open_of, Log.{LogModel, entry_is_of, log_on, numbered_from, shares, unused_entry}, LogParts.{Rises, is_open, kept_at}}
+use Rattle.napt_account.specs.declared.{account.Account.Account, log.{LogEntry.LogEntry}}
+use Rattle.napt_account.specs.{Attribution.has_ends, BindingTallies.open_of, Log.{LogModel, entry_is_of, log_on, numbered_from, shares, unused_entry}, LogParts.{Rises, is_open}}
 use Rattle.napt_account.specs.{LogStarts.{SavedLogStateModel, SavedLogsAreTakenUp, account_at, account_of_entry, accounted, continued_entries, entry_ended_at, has_entry, has_redirect, in_order_of_number, log_started, new_entries, resumed_end, resumed_entries, resumed_entry, saved_log_state, started_part, unlisted_rows, with_account}, OpenEntries.{AreKeyed, Has, entry_key, external_eq}, ResumedLogRuns.{IsLogOf, left_of, timed_by}}
-use Rattle.napt_account.proofs.InOrder.{Along, Differ, each_has, filter_has, has_each, has_filter, has_left, has_parts}
-use Rattle.napt_account.proofs.{Comes.{logs_are_of_their_states, rows_left}, Entries.{apart_differ, rows_purge, shares_itself}, Moves.{AllDiffer, differ_kept}, Keyed.{differ_keyed, keyed_along, keyed_moved, log_keyed, share, share_flip}, Lists.{each_mapped, map_joined}, LiveRows.{is_loose, live_all, live_of, purge_joined}, OpenEntries.{any_has, external_itself, key_shares}, Rising.{rises_above, rises_all, rises_differ, rises_filter, rises_same, same_number}}
+use Rattle.napt_account.proofs.InOrder.{Along, Differ, each_has, filter_has, has_each, has_parts}
+use Rattle.napt_account.proofs.{Comes.{logs_are_of_their_states, rows_left}, Entries.{apart_differ, rows_purge, shares_itself}, Moves.{AllDiffer, differ_kept}, Keyed.{differ_keyed, keyed_along, keyed_moved, log_keyed, share, share_flip}, Lists.{each_mapped}, LiveRows.{is_loose, live_all, live_of, purge_joined}, OpenEntries.{any_has, external_itself, key_shares}, Rising.{rises_above, rises_all, rises_differ, rises_filter, rises_same, same_number}}
 use Rattle.napt_account.proofs.LogStarts.{Kept, dynamics, has_mapped, mapped_has, only_one, openings, order_moves, order_rises}
 use Rattle.napt_account.proofs.Sorted.{has_back, has_moved}
 

@@ -1,18 +1,18 @@
 -- The parts that the inputs of a run add, with the entries that are left, are its log.
 use Rattle.std.proofs.lemmas.{Grind.common_steps, Bool.{Decides.nat_tests, and_parts}}
-use Rattle.std.proofs.Common.{◌≡◌, ℕ, ◌+◌, ◌≤◌, max, Bool, true, false, not, ◌&&◌, cond, List, [], ◌∷◌, ◌++◌, length, map, drop, filter, Option, Some, None, refl, sym, ◌∙◌, ap, subst, arith, append-nil, append_assoc}
+use Rattle.std.proofs.Common.{◌≡◌, ℕ, ◌+◌, ◌≤◌, max, Bool, true, false, not, ◌&&◌, cond, List, [], ◌∷◌, ◌++◌, length, map, drop, filter, Option, refl, sym, ◌∙◌, ap, subst, arith, append-nil, append_assoc}
 use Rattle.std.specs.List.{fold, Sorted.IsPermutation}
 use Rattle.std.proofs.lemmas.List.Sorted.{IsPermutation-refl, IsPermutation-sym, IsPermutation-trans, IsPermutation-cons, IsPermutation-middle, IsPermutation-append_left, IsPermutation-append_right, IsPermutation-filter_both}
 use Rattle.napt_wire.specs.declared.Way.{Way, TheVariants.{Outgoing, Incoming}}
-use Rattle.napt_binding.{specs.Ends.{end_of, is_before}, proofs.FirstEnds.{ends_are_first, before_sooner}}
+use Rattle.napt_binding.{specs.Ends.{is_before}, proofs.FirstEnds.{ends_are_first, before_sooner}}
 use Rattle.napt_table.specs.declared.TimedRow.{TimedRow}
 use Rattle.napt_rules.specs.declared.Row.{Row}
 use Rattle.napt_rules.specs.Prelude.{Binding, Each, act, LegAct, Arrival, RunEffect, step, effect_from, last_clock, State, Rules, RulesInvariant, AreTimers}
 use Rattle.napt_laws.proofs.{OneMoreInput.{grows, clock_more}, Turns.InTurn}
 use Rattle.napt_sequential.specs.{declared.passage.Passage.{Passage, TheVariants.{Nothing, Made, Out, In, Dropped}}, Traces.passage_of}
-use Rattle.napt_account.specs.{declared.log.{Entry.Entry, LogEntry.LogEntry, Shortage.Shortage}, Log.{LogModel, counted, made_by, entry_through, use_entry, with_use, shortages_of, after_leg, after_record, log_on}}
-use Rattle.napt_account.specs.LogParts.{IsNumbered, LogDelta, ends_first, ends_within, in_order_of_end, is_behind, is_open, living_at, part_between, placed}
-use Rattle.napt_account.specs.{ResumedLogRuns.part_of, WholeLogs.{ArePartsOfLog, PartsAreTheLog, all_parts, parts_joined, origin}}
+use Rattle.napt_account.specs.{declared.log.{Entry.Entry, LogEntry.LogEntry, Shortage.Shortage}, Log.{LogModel, counted, made_by, use_entry, with_use, shortages_of, after_leg, after_record, log_on}}
+use Rattle.napt_account.specs.LogParts.{IsNumbered, LogDelta, ends_first, ends_within, in_order_of_end, is_behind, is_open, placed}
+use Rattle.napt_account.specs.{ResumedLogRuns.part_of, WholeLogs.{ArePartsOfLog, PartsAreTheLog, parts_joined, origin}}
 use Rattle.napt_account.proofs.{Effects.step_turn, Entries.{counted_binding, counted_made}, Leaves.{LeavesOpen, turn_leaves}, Lists.{filter_agrees, filter_joined, filter_seen, map_agrees, map_joined, map_twice}}
 use Rattle.napt_account.proofs.GoingOn.{filter_twice, fold_joined, none_behind, numbered_all}
 

@@ -1,6 +1,6 @@
--- The log by what the legs of each input did, as the recorder of a translator returns it, without the inputs.
-use Rattle.std.specs.{Prelude.{◌≡◌, ◌≤◌, ℕ, max, true, false, List, [], ◌∷◌, ◌++◌}, List.{fold, list_any}}
-use Rattle.napt_rules.specs.Prelude.{Arrival, Rules, RulesInvariant, State, TakesState, initial_state, last_clock, with_redirects}
+-- The log by what the legs of each input did, as a translator's recorder hands it over, without the inputs.
+use Rattle.std.specs.{Prelude.{◌≡◌, ◌≤◌, ℕ, true, false, List, [], ◌∷◌, ◌++◌}, List.{fold, list_any}}
+use Rattle.napt_rules.specs.Prelude.{Arrival, Rules, RulesInvariant, State, TakesState, last_clock, with_redirects}
 use Rattle.napt_binding.specs.Ends.{is_before}
 use Rattle.napt_sequential.specs.{Traces.traces_of, declared.passage.{Passage.{Passage, TheVariants.{Made, Out, In}}, Trace.Trace}}
 use Rattle.napt_account.specs.{Log.{LogModel, after_input, after_leg, entry_is_of, log_on}, ResumedLogRuns.IsLogOf}

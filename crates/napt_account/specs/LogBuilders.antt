@@ -4,7 +4,7 @@ use Rattle.napt_config.specs.Rules.{Rules}
 use Rattle.napt_rules.specs.Prelude.{Each}
 use Rattle.napt_sequential.specs.declared.{fault.RunFault.RunFault, passage.Trace.Trace}
 use Rattle.napt_sequential.specs.declared.fault.RunFault.TheVariants as reasons
-use Rattle.napt_account.specs.{declared.{log.LogEntry.LogEntry, log_builder.InputPart.InputPart, open_entries.OpenEntries.OpenEntries}, Effects.{IsNext, log_after}, Log.LogModel, OpenEntries.{AreKeyed, OpenEntriesShow}, LogParts.{IsNumbered, LogDelta, Rises, kept_at}}
+use Rattle.napt_account.specs.{declared.{log_builder.InputPart.InputPart, open_entries.OpenEntries.OpenEntries}, Effects.{IsNext, log_after}, Log.LogModel, OpenEntries.{AreKeyed, OpenEntriesShow}, LogParts.{IsNumbered, LogDelta, Rises, kept_at}}
 
 pub record LogBuilderModel : Type 0 where
   pub rules : Rules

@@ -1,6 +1,6 @@
 -- The entries that have not ended, as they are kept while a run goes on: found by their endpoints, and queued by the
 -- times at which they are looked at.
-use Rattle.std.specs.Prelude.{◌≡◌, ◌⊎◌, ℕ, ◌+◌, ◌^◌, ◌<◌, ◌≤◌, ◌==◌, nat_le, Bool, true, false, ◌&&◌, cond, List, [], ◌∷◌, length, map, filter, Option, Some, None, unwrap_or}
+use Rattle.std.specs.Prelude.{◌≡◌, ◌⊎◌, ℕ, ◌^◌, ◌<◌, ◌≤◌, ◌==◌, nat_le, Bool, true, false, ◌&&◌, cond, List, [], ◌∷◌, length, map, filter, Option, Some, None, unwrap_or}
 use Rattle.std.specs.{List.IsDistinct, Option.{option_and_then, option_map}, Ordering.{ordering_then, nat_cmp, bool_cmp}, declared.cmp.Ordering.Ordering}
 use Rattle.std.specs.BTreeSet as sorted
 use Rattle.std.specs.HashMap as hash
@@ -8,7 +8,6 @@ use denote.Enum.Bare.{sameb}
 use Rattle.napt_wire.specs.contracts.Protocol.{the_type}
 use Rattle.napt_wire.specs.contracts.ProtocolOrd.TheImpl as protocols
 use Rattle.napt_rules.specs.declared.Row.{Row}
-use Rattle.napt_binding.specs.Ends.{is_before}
 use Rattle.napt_account.specs.declared.{log.LogEntry.LogEntry, open_entries.{DueEntry.DueEntry, EndKey.EndKey, EntryKey.EntryKey, Open.Open}}
 use Rattle.napt_account.specs.{declared.open_entries.OpenEntries.OpenEntries, Log.LogModel, LogParts.{IsNumbered, Rises, is_open}}
 
@@ -16,6 +15,10 @@ use Rattle.napt_account.specs.{declared.open_entries.OpenEntries.OpenEntries, Lo
 
 abbrev pub entry_key : Row → EntryKey
 entry_key row = record { address = row.external.address; number = row.external.number; protocol = row.protocol }
+
+-- its external endpoint is one of IPv4
+abbrev pub IsNumberedRow : Row → Type 0
+IsNumberedRow row = (row.external.address < 2 ^ 32) × (row.external.number < 2 ^ 16)
 
 abbrev pub end_key_of : Option ℕ → ℕ → EndKey
 end_key_of None number = record { is_endless = true; end = 0; number = number }

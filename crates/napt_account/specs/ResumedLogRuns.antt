@@ -1,9 +1,9 @@
 -- A log that goes on from a state.
-use Rattle.std.specs.{Prelude.{◌≡◌, ◌⊎◌, ℕ, ◌^◌, ◌≤◌, ◌<◌, max, List, [], ◌∷◌, ◌++◌, map}, List.Sorted.IsPermutation}
+use Rattle.std.specs.{Prelude.{◌≡◌, ℕ, ◌≤◌, max, List, [], ◌∷◌, ◌++◌, map}, List.Sorted.IsPermutation}
 use Rattle.napt_config.specs.Rules.{Rules, RulesInvariant}
 use Rattle.napt_rules.specs.Prelude.{Arrival, Each, last_clock, State, next_state, purge, with_redirects, TakesState, IsStateInOrder}
 use Rattle.napt_table.specs.{declared.TimedRow.TimedRow, TimedRows.timed_row}
-use Rattle.napt_account.specs.{declared.log.LogEntry.LogEntry, Log.{LogModel, log_on, begun_behind}, LogParts.{LogDelta, IsNumbered, kept_at, part_between}}
+use Rattle.napt_account.specs.{declared.log.LogEntry.LogEntry, Log.{LogModel, log_on}, LogParts.{LogDelta, IsNumbered, kept_at, part_between}}
 
 -- What an input adds after others, and what is kept after them.
 abbrev pub part_of : Rules → State → LogModel → List Arrival → Arrival → LogDelta

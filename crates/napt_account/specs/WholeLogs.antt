@@ -2,7 +2,7 @@
 use Rattle.std.specs.{Prelude.{◌≡◌, ℕ, true, List, [], ◌∷◌, ◌++◌, map}, List.Sorted.IsPermutation}
 use Rattle.napt_config.specs.Rules.{Rules, RulesInvariant}
 use Rattle.napt_rules.specs.{Prelude.{Arrival, Each, State, last_clock}, declared.Row.Row}
-use Rattle.napt_account.specs.{declared.log.{LogEntry.LogEntry, Shortage.Shortage}, Log.{LogModel, log_on}, LogParts.{LogDelta, IsNumbered, is_open, living_at}, ResumedLogRuns.part_of}
+use Rattle.napt_account.specs.{declared.log.{LogEntry.LogEntry}, Log.{LogModel, log_on}, LogParts.{LogDelta, IsNumbered, is_open, living_at}, ResumedLogRuns.part_of}
 
 -- What the parts of all inputs have, joined in order.
 abbrev pub parts_joined : {X : Type 0} → (List Arrival → Arrival → List X) → List Arrival → List Arrival → List X

@@ -8,7 +8,7 @@ ghost use Rattle.napt_binding.specs.Ends.{EndsAreFirst, is_before};
 
 use napt_config::{Config, Redirect};
 use napt_laws::{runs_go_on, saved_runs_go_on, taken_states_are_kept};
-use napt_table::{Row, TimedRow, opening_is_sound};
+use napt_table::{Row, TimedRow};
 use napt_wire::{Cause, Endpoint, Protocol, Way, packets_carry_numbers};
 use std::alloc::{AllocError, Global};
 
@@ -167,23 +167,26 @@ pub fn effects_are_the_log()
 }
 
 /// At each moment of a run the log of the whole run names exactly the live bindings: each host that it names had the
-/// endpoint, and each host that had it is named.
+/// endpoint, and each host that had it is named. The run may go on from a state, with a log of it.
 pub fn log_attributes()
     ensures ends { EndsAreFirst }
     ensures names { LogNamesTheHolders }
     ensures lists { LogListsTheLiving }
 {
-    opening_is_sound();
+    runs_go_on();
+    taken_states_are_kept();
 }
 
 /// If two entries of one protocol and external endpoint have different inside endpoints, the later one was made no
-/// sooner than the hold after the earlier one's end (RFC 6888, REQ-8).
+/// sooner than the hold after the earlier one's end (RFC 6888, REQ-8). Where the run goes on from a state, the earlier
+/// one may be a binding that had ended there and whose number the state holds.
 pub fn held_numbers_have_one_holder()
     ensures ends { EndsAreFirst }
     ensures held { HeldNumbersHaveOneHolder }
 {
     packets_carry_numbers();
-    opening_is_sound();
+    runs_go_on();
+    taken_states_are_kept();
 }
 
 /// An entry whose end is not after the time of the next input is final: the log of each longer run has it, unchanged,

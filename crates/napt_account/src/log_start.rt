@@ -5,6 +5,7 @@ ghost use Rattle.napt_rules.specs.Prelude.{TakesState, initial_state};
 ghost use Rattle.napt_account.specs.Log.{begun_behind, numbered_from, unused_entry};
 ghost use Rattle.napt_account.specs.LogParts.{LogDelta, is_open};
 ghost use Rattle.napt_account.specs.LogStarts as starts;
+ghost use Rattle.napt_account.specs.OpenEntries.{AreKeyed};
 
 use crate::account::SavedLogState;
 use crate::binding_end::{Redirects, resumed_entry};
@@ -20,10 +21,7 @@ use napt_table::TimedRow;
 use std::alloc::{AllocError, Global};
 use std::collections::HashSet;
 
-/// The greatest number of bindings with which a log begins. No state has more, as external endpoints are distinct.
-const MOST_BINDINGS: usize = 2_305_843_009_213_693_952;
-
-/// A log that begins at a state, and what this adds to its text before the first input.
+/// A log that begins, and what it has to say before the first input.
 #[derive(Drop)]
 pub struct LogFromState<'a> {
     pub log: LogBuilder<'a>,
@@ -91,9 +89,6 @@ impl<'a> LogBuilder<'a> {
         let gone = by_number(gone)?;
         let ended = all_ended_at(alloc, &gone, state.clock)?;
         let live = live_rows(alloc, config, state)?;
-        if live.len() > MOST_BINDINGS {
-            return Err(AllocError);
-        }
         let made = new_entries(alloc, &entries, &live, saved.made, state.clock)?;
         entries.extend_from_slice(&made)?;
         let begun = OpenLog {
@@ -187,7 +182,7 @@ fn entry_ended_at(numbered: LogEntry, now: u64) -> LogEntry
 }
 
 /// Returns new entries, with the numbers after `made`, for the rows whose external endpoint no open entry has. They begin
-/// at a time, in ns.
+/// at a time, in ns. There are few rows, since no two of them have one external endpoint.
 fn new_entries(
     alloc: Global,
     entries: &[LogEntry],
@@ -195,10 +190,12 @@ fn new_entries(
     made: u64,
     clock: u64,
 ) -> Result<Vec<LogEntry>, AllocError>
-    requires { (made ≤ 2 ^ 61) × (length live.now ≤ 2 ^ 61) }
-    ensures { IfOk result (λ begun. begun.items ≡ numbered_from (made + 1)
+    requires made { made ≤ 2 ^ 61 }
+    requires apart { AreKeyed (map (λ timed. timed.row) live.now) }
+    ensures begun { IfOk result (λ begun. begun.items ≡ numbered_from (made + 1)
         (map (λ timed. unused_entry timed.row clock timed.end)
         (filter (λ timed. not (starts.has_entry entries.now timed)) live.now))) }
+    ensures few { IfOk result (λ _. length live.now ≤ 2 ^ 50) }
 {
     let mut endpoints: HashSet<EntryKey> = HashSet::new(alloc);
     for numbered in entries {

@@ -63,7 +63,8 @@ pub(crate) struct OpenEntries {
 }
 
 pub(crate) fn external_key(row: Row) -> EntryKey
-    ensures { result ≡ keys.entry_key row }
+    ensures key { result ≡ keys.entry_key row }
+    ensures numbered { keys.IsNumberedRow row }
 {
     EntryKey {
         address: row.external.address,

@@ -95,7 +95,8 @@ impl<R: BufRead + Drop> LogReader<R> {
     }
 }
 
-/// The text of a log is its header, and then the rows of its events, so that [`LogReader`] reads these events in order.
+/// A log that is begun has its header, and each has the rows of its events, so that [`LogReader`] reads these events, in
+/// order. The run may go on from a state.
 #[tactic(auto, using(crate::proofs::SavedLogs::has_rows))]
 pub fn log_has_rows()
     ensures { logs.LogHasRows }

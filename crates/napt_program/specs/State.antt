@@ -3,9 +3,9 @@ use Rattle.std.specs.Prelude.{◌≡◌, ℕ, List, [], Bool, true, false, Some}
 use Rattle.napt_config.specs.Rules.{Rules}
 use Rattle.napt_rules.specs.{Prelude.{misfit}, declared.Row.Row}
 use Rattle.napt_account.specs.LogStarts.{no_saved_log}
-use Rattle.napt_state.specs.{Saved.{log_end, taken_of}, StateContents.IsReadAs, StateFiles.{StateFileModel}}
-use Rattle.napt_state.specs.declared.state_contents.TakenState.{TakenState}
-use Rattle.napt_program.specs.declared.{state_reading.ResumedState.ResumedState, stop.{Stop.Stop, TheConstants.MEMORY}}
+use Rattle.napt_state.specs.{Saved.{log_end, log_taken, state_taken}, StateContents.IsReadAs, StateFiles.{StateFileModel}}
+use Rattle.napt_state.specs.declared.fault.StateReason.{StateReason, TheVariants.NotUtf8}
+use Rattle.napt_program.specs.declared.{state_reading.ResumedState.ResumedState, stop.{StateRefusal.StateRefusal, Stop.Stop, TheConstants.MEMORY}}
 use Rattle.napt_program.specs.declared.role.FileRole.TheVariants as role
 use Rattle.napt_program.specs.declared.stop.Stop.TheVariants as stop
 use Rattle.napt_program.specs.declared.stop.StateRefusal.TheVariants as refusal
@@ -32,7 +32,13 @@ ReportsMisfit ends rules text other = Unit {0}
 -- The stop refuses a line.
 abbrev pub is_bad_line : Stop → Bool
 is_bad_line (stop.State (refusal.Line number)) = true
+is_bad_line (stop.State (refusal.NotUtf8 number)) = true
 is_bad_line other = false
+
+-- How a line is refused, by what is wrong with it.
+abbrev pub line_refusal : StateReason → ℕ → StateRefusal
+line_refusal NotUtf8 number = refusal.NotUtf8 number
+line_refusal _ number = refusal.Line number
 
 -- The state is refused, or its file if one is named, or memory was refused.
 abbrev pub IsStateStop : Bool → Stop → Type 0

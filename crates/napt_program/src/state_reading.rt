@@ -5,7 +5,7 @@ ghost use Rattle.napt_config.specs.Rules.{Rules};
 ghost use Rattle.napt_account.specs.LogStarts.{is_saved_log_state};
 ghost use Rattle.napt_rules.specs.Prelude.{TakesState};
 ghost use Rattle.napt_state.specs.{StateContents.{unless_for}, Saved.{IsSaved}, StateFiles.{StateFileModel as Told}, StateText.{saved_text}};
-ghost use Rattle.napt_program.specs.State.{IsAnew, IsStateOf, IsStateStop, ReportsMisfit, is_bad_line};
+ghost use Rattle.napt_program.specs.State.{IsAnew, IsStateOf, IsStateStop, ReportsMisfit, is_bad_line, line_refusal};
 
 use crate::devices::reader;
 use crate::role::FileRole;
@@ -101,10 +101,8 @@ pub fn state_from<D: Read + Drop>(
 /// Returns why a text gave no state: its file failed, memory was refused, or a line is malformed.
 pub fn stop_of_state(fault: &StateFault) -> Stop
     ensures line { unless_for fault.now.reason
-        (result ≡ Stop.State (StateRefusal.Line fault.now.line)) }
+        (result ≡ Stop.State (line_refusal fault.now.reason fault.now.line)) }
     ensures unread { unless_for fault.now.reason ⊥ → is_bad_line result ≡ false }
-    ensures utf8 { fault.now.reason ≡ StateReason.NotUtf8 →
-        result ≡ Stop.State (StateRefusal.NotUtf8 fault.now.line) }
     ensures memory { fault.now.reason ≡ StateReason.Memory → result ≡ MEMORY }
     ensures misfit { (ends : Bool) (rules : Rules) (text : List ℕ)
         → ReportsMisfit ends rules text result }

@@ -1,4 +1,5 @@
 pub mod Received
+pub mod JoinedTexts
 pub mod Pieces
 pub mod Counted
 pub mod PassesAll

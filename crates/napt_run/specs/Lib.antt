@@ -31,3 +31,4 @@ pub mod Logs
 pub mod LogLaws
 pub mod DevicesPosts
 pub mod WholePosts
+pub mod JoinedTexts

@@ -13,7 +13,7 @@ use Rattle.napt_state.proofs.Replay.{none_follows, one_follows, is_last}
 pub unless_weaker : {P Q : Type 0} (reason : StateReason) → (P → Q) → unless_for reason P → unless_for reason Q
 unless_weaker (Unread error) f h = h
 unless_weaker Memory f h = h
-unless_weaker NotUtf8 f h = h
+unless_weaker NotUtf8 f h = f h
 unless_weaker Torn f h = f h
 unless_weaker (Word its word) f h = f h
 unless_weaker WordCount f h = f h

@@ -3,16 +3,15 @@ use Rattle.napt_state.specs.StateFiles.{StateFileModel}
 use Rattle.std.specs.Prelude.{◌≡◌, ◌⊎◌, ℕ, List, [], ◌∷◌, ◌++◌, Option, Some, None, Result, Ok, Err}
 use Rattle.napt_rules.specs.{Prelude.Binding, declared.Flow.Flow}
 use Rattle.napt_state.specs.declared.line.StateLine.TheVariants as lines
-use Rattle.napt_state.specs.declared.{line.StateLine.StateLine, fault.{StateFault.StateFault, StateReason.{StateReason, TheVariants.{Unread, NotUtf8, Memory}}}}
+use Rattle.napt_state.specs.declared.{line.StateLine.StateLine, fault.{StateFault.StateFault, StateReason.{StateReason, TheVariants.{Unread, Memory}}}}
 use Rattle.napt_state.specs.StateText.{line_text, lines_between, counts_of, earlier_log, end, saved_text}
 use Rattle.napt_state.specs.declared.saved_bindings.SavedBinding.{SavedBinding}
 use Rattle.napt_state.specs.declared.saved_bindings.SavedBinding.TheVariants as bindings
 use Rattle.napt_account.specs.declared.account.Account.{Account}
 
--- The fact holds, unless a read failed, the reader reported that the bytes are not UTF-8, or memory was refused.
+-- The fact holds, unless a read failed or memory was refused.
 abbrev pub unless_for : StateReason → Type 0 → Type 0
 unless_for (Unread _) fact = Unit {0}
-unless_for NotUtf8 fact = Unit {0}
 unless_for Memory fact = Unit {0}
 unless_for _ fact = fact
 

@@ -86,10 +86,10 @@ pub fn write_state<W: Write>(
     writer.flush()
 }
 
-/// Reads the text of a state to its end, in the memory of the state and of one line. A part of a text is refused, and
-/// so is a text with anything after it. A text in which an earlier version wrote its log is read too. The fault is the
-/// first one; the reader, which is dropped, may then have been read in part. `read` says nothing if a read fails,
-/// memory is refused or the reader reports that the bytes, although those of a state, are not UTF-8.
+/// Reads the text of a state to its end, in the memory of the state and of one line. Nothing else is taken: no part of a text,
+/// and nothing with anything after it. A text in which an earlier version wrote its log is read too. The fault is the first
+/// one; of the reader, which is dropped, some first bytes were taken then. `read` says nothing where a read fails or memory
+/// runs out.
 pub fn read_state<R: BufRead + Drop>(
     alloc: Global,
     reader: R,
