@@ -72,7 +72,7 @@ module _ (alike_go_on : AlikeStatesGoOn) (rules : Rules) (keeps : RulesInvariant
   abbrev ordered : State
   ordered = other alike_go_on rules keeps state sound log is
 
-  -- what lives is what lives of the list that is taken
+  -- What lives is what lives of the list that is taken.
   taken_rows : (list : List Binding) →
       map row (purge timers at (live_and_held timers (last_clock state.clock front) list)) ≡ map row (living timers at list)
   taken_rows list = ap (map row) (purge_purge timers (hold_ago timers (last_clock state.clock front)) at

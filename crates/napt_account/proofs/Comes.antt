@@ -1,4 +1,4 @@
--- From a state and its log, each input's effects can come.
+-- From a state and its log, the effects of each input are possible.
 use Rattle.std.proofs.Common.{◌≡◌, ℕ, ◌≤◌, max, List, [], ◌∷◌, ◌++◌, length, map, filter, Option, refl, sym, ◌∙◌, ap, subst, arith, append-nil}
 use Rattle.std.{specs.List.{fold, Sorted.IsPermutation}, proofs.lemmas.List.{append_cancel_left, Sorted.{IsPermutation-map, IsPermutation-sym, IsPermutation-trans}}}
 use Rattle.napt_config.specs.declared.settings.Timers.{Timers}
@@ -66,7 +66,7 @@ module _ (alike_go_on : AlikeStatesGoOn) (rules : Rules) (keeps : RulesInvariant
     each = each_moved (IsPaired (pair_of rules)) _ _ rows_moved sound.each;
   }
 
-  -- what it tells of bindings that are in its order
+  -- What it tells of bindings that are in its order.
   tells_of : (ordered : List Binding) → IsSound (pair_of rules) ordered →
       map (hold_of timers) (living timers state.clock ordered) ≡ held → Tells timers state.clock ordered entries
   tells_of ordered apart same = record {
@@ -78,7 +78,7 @@ module _ (alike_go_on : AlikeStatesGoOn) (rules : Rules) (keeps : RulesInvariant
   pub tells : Tells timers state.clock list entries
   tells = tells_of list other_sound order.2
 
-  -- and of those of the state, where they are
+  -- And of those of the state, where they are.
   pub tells_state : AreInOrderOf rules state log → Tells timers state.clock state.list entries
   tells_state same = tells_of state.list sound (sym rows ∙ (ap (map hold_by) (sym same) ∙ kept))
 

@@ -28,7 +28,7 @@ place_is Udp Icmp e = absurd (omega (arith, e))
 place_is Udp Tcp e = absurd (omega (arith, e))
 place_is Udp Udp e = refl
 
--- a number for each
+-- A number for each.
 abbrev place : Row → ℕ
 place row = (row.external.address * 65536 + row.external.number) * 3 + protocol_place row.protocol
 

@@ -285,7 +285,7 @@ module _ (ends : EndsAreFirst) (timers : Timers) (t : AreTimers timers) where
 
 -- WHERE A RUN BEGINS: the bindings that had ended and are held, and then those that live, in the order of the log
 
--- the holders of entries: when each was made, and its binding
+-- The holders of entries: when each was made, and its binding.
 abbrev holders_of : List Entry → List Binding → List Holder
 holders_of [] bs = []
 holders_of (e ∷ es) [] = []
@@ -325,7 +325,7 @@ module _ (timers : Timers) where
   apart_holders [] e = tt
   apart_holders (h ∷ hs) e = (apart_first h hs e.0, apart_holders hs e.1)
 
-  -- each holder has a binding of the list
+  -- Each holder has a binding of the list.
   abbrev IsIn : List Binding → Binding → Type 0
   IsIn list b = HasOne (λ x. x ≡ b) list
 
@@ -357,7 +357,7 @@ module _ (timers : Timers) where
   made_by_then now (e ∷ es) h [] = tt
   made_by_then now (e ∷ es) h (b ∷ bs) = (h.0, made_by_then now es h.1 bs)
 
-  -- entries of bindings, as if each was made at a time
+  -- Entries of bindings, as if each was made at a time.
   abbrev entries_at : ℕ → List Binding → List Entry
   entries_at now bs = map (first_entry timers now) bs
 

@@ -1,4 +1,4 @@
--- The log by what the legs of each input did, as a translator's recorder hands it over, without the inputs.
+-- The log by what the legs of each input did, as the recorder of a translator returns it, without the inputs.
 use Rattle.std.specs.{Prelude.{◌≡◌, ◌≤◌, ℕ, true, false, List, [], ◌∷◌, ◌++◌}, List.{fold, list_any}}
 use Rattle.napt_rules.specs.Prelude.{Arrival, Rules, RulesInvariant, State, TakesState, last_clock, with_redirects}
 use Rattle.napt_binding.specs.Ends.{is_before}

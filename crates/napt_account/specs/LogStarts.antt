@@ -1,8 +1,8 @@
 -- How a log begins at a state, where each binding may have the account of its entry.
 --
--- The entries of the state's bindings go on, each with the end that its binding has under the configuration. An entry ends
--- where the configuration does not take up its binding: at the end under its timers, and a redirect that it does not have
--- at the clock. A binding that is live and has no entry gets one that is made at the clock, with the next number.
+-- The entries of the state's bindings go on, each with the end that its binding has under the configuration. The entry
+-- of a redirect that the configuration does not have ends at the clock. A binding that is live and has no entry gets
+-- one that is made at the clock, with the next number.
 use Rattle.std.specs.{Prelude.{◌≡◌, ◌≢◌, ℕ, ◌+◌, ◌^◌, ◌==◌, nat_le, nat_lt, Bool, true, not, ◌&&◌, ◌||◌, cond, length, List, [], ◌∷◌, ◌++◌, map, filter, Option, Some, None, unwrap_or}, List.{list_any, slice_get}, Option.option_map}
 use Rattle.napt_config.specs.Rules.{Rules, RulesInvariant}
 use Rattle.napt_rules.specs.{Prelude.{Arrival, Binding, Each, IsStateInOrder, State, TakesState, initial_state, next_state, opening, purge, row, with_redirects}, declared.Row.Row}

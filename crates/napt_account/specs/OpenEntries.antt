@@ -16,7 +16,7 @@ use Rattle.napt_account.specs.{declared.open_entries.OpenEntries.OpenEntries, Lo
 abbrev pub entry_key : Row → EntryKey
 entry_key row = record { address = row.external.address; number = row.external.number; protocol = row.protocol }
 
--- its external endpoint is one of IPv4
+-- Its external endpoint is one of IPv4.
 abbrev pub IsNumberedRow : Row → Type 0
 IsNumberedRow row = (row.external.address < 2 ^ 32) × (row.external.number < 2 ^ 16)
 

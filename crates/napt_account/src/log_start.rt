@@ -21,7 +21,7 @@ use napt_table::TimedRow;
 use std::alloc::{AllocError, Global};
 use std::collections::HashSet;
 
-/// A log that begins, and what it has to say before the first input.
+/// A log that begins at a state, and what this adds to its text before the first input.
 #[derive(Drop)]
 pub struct LogFromState<'a> {
     pub log: LogBuilder<'a>,

@@ -1,4 +1,4 @@
--- A log that is read again: behind its header the rows of its events, one after another.
+-- A log that is read back: its header, and after it the rows of its events.
 use Rattle.std.specs.Prelude.{◌≡◌, Bool, if◌then◌else◌, List, [], ◌∷◌, ◌++◌, None, Result, Err, flat_map, map}
 use Rattle.napt_config.specs.Rules.{Rules}
 use Rattle.napt_rules.specs.Prelude.{Arrival, State}

@@ -42,7 +42,7 @@ module _ (side : Side) where
       (zip_joined xs ys os ps long)
       ∙ filter_map-append made (zip xs os) (zip ys ps)
 
-  -- the times of records are not those of the clock
+  -- The times of records are not those of the clock.
   records_raised : (clock : ℕ) (xs : List Arrival) (os : List Outcome) →
       records_to side (inputs_from_clock clock xs) os ≡ records_to side xs os
   records_raised clock [] os = refl

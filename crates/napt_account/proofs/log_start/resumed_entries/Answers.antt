@@ -1,3 +1,4 @@
+-- resumed_entries: one more binding gives its entry if it has an account, and otherwise none.
 use Rattle.std.proofs.Common.{rules, vec_items, vec_len, ◌≡◌, ℕ, ◌<◌, List, [], ◌∷◌, ◌++◌, None, Some, Option, Vec, length, get_or, map, take, sym, ◌∙◌, ap, arith, append-nil}
 use Rattle.napt_rules.specs.Prelude.{Binding, Rules, State}
 use Rattle.napt_account.specs.declared.{account.Account.Account, log.LogEntry.LogEntry}

@@ -1,3 +1,4 @@
+-- is_valid: an account is apart from all before it exactly if neither set has its number or endpoint.
 use Rattle.std.proofs.Common.{rules, vec_items, vec_len, ◌≡◌, ℕ, ◌<◌, ◌==◌, Bool, true, false, not, ◌&&◌, ◌||◌, List, None, Some, length, get_or, take, refl, sym, ◌∙◌, ap, subst, arith}
 use Rattle.std.specs.{List.list_any, Prelude.nat_le}
 use Rattle.napt_rules.specs.Prelude.{Binding, State}

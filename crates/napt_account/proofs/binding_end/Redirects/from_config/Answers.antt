@@ -1,3 +1,4 @@
+-- from_config: the keys of all redirects are those by which a redirect is found.
 use Rattle.std.proofs.Common.{◌≤◌, List, length, ◌∙◌, subst}
 use Rattle.std.proofs.lemmas.List.{take_all}
 use Rattle.napt_table.specs.declared.TimedRow.{TimedRow}

@@ -1,3 +1,4 @@
+-- begin: before the first input the entries are the open entries of the log, so that the invariant holds.
 use Rattle.std.proofs.Common.{◌≡◌, ◌^◌, ℕ, List, [], ◌∷◌, ◌++◌, false, sym, ◌∙◌, ap, subst, arith}
 use Rattle.napt_account.specs.{Log.LogModel, LogBuilders.{IsBuilt, built}}
 use Rattle.napt_account.proofs.log_builder.LogBuilder.begin.Goals as goal

@@ -1,3 +1,4 @@
+-- resume: the numbers of the saved entries are distinct, and a builder can begin with the log that is made of them.
 use Rattle.std.proofs.Common.{rules, vec_items, vec_len, ◌≡◌, ℕ, ◌+◌, ◌≤◌, ◌^◌, List, [], ◌++◌, Bool, false, not, filter, length, map, sym, ◌∙◌, ap, subst, arith}
 use Rattle.napt_rules.specs.Prelude.{Rules, RulesInvariant, State}
 use Rattle.napt_table.specs.declared.TimedRow.{TimedRow}

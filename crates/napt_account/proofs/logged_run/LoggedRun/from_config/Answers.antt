@@ -1,3 +1,4 @@
+-- from_config: a run from the empty state is the new run of the definition.
 use Rattle.std.proofs.Common.{[], false, append-nil, ◌∙◌}
 use Rattle.napt_rules.specs.Prelude.{Rules, opening, with_redirects}
 use Rattle.napt_account.specs.LogStarts.{log_started}

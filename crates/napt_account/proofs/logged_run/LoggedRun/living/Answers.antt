@@ -1,3 +1,4 @@
+-- living: by the invariant, the open entries of the builder are those of the run's log.
 use Rattle.std.{proofs.Common.{◌≡◌, ◌∙◌, ap, subst}, specs.Prelude.IfOk}
 use Rattle.napt_rules.specs.Prelude.{last_clock}
 use Rattle.napt_account.specs.{Log.{LogModel, log_on}, LogBuilders.taken_in, LogParts.living_at, LoggedRuns.{LoggedRunModel, log_begun, state_begun}}

@@ -1,3 +1,4 @@
+-- count: the entry that is found is the open entry of the row; if there is none, nothing changes.
 use Rattle.std.{proofs.Common.{◌+◌, refl, sym, ◌∙◌, ap, subst, arith}, specs.Prelude.IsSome}
 use Rattle.napt_account.specs.{declared.{binding_tally.LogNote.LogNote, open_entries.{Open.Open, OpenEntries.OpenEntries}}, BindingTallies.tally_used, Log.{LogModel, with_use}}
 use Rattle.napt_account.{specs.OpenEntries.{OpenEntriesShow}}

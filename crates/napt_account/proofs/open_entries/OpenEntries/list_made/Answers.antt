@@ -1,3 +1,4 @@
+-- list_made: the entry at the endpoint of a binding that was made is its open entry in the log.
 use Rattle.std.proofs.Common.{◌≡◌, ◌++◌, [], List, sym, ◌∙◌, ap, append-nil}
 use Rattle.std.specs.{Prelude.option_to_list, Option.option_map}
 use Rattle.napt_sequential.specs.declared.passage.Passage.{Passage, TheVariants.Made}
