@@ -7,7 +7,7 @@ use Rattle.napt_account.specs.{Log.LogModel, LogBuilders.LogBuilderModel, LogSta
 use Rattle.napt_log_text.specs.{Logs.{LogOrigin, first_part, first_text, log_so_far, log_text, rows_from}, Times.TimeText}
 use Rattle.napt_capture.specs.declared.device.Sink.{Ghosts}
 use Rattle.napt_run.specs.LogOrigins.{IsTakenAs, LogTexts, LoggedOrigin, ending, log_origin, origin_saved, text_so_far, texts_anew, texts_from, texts_of, whole_text}
-use Rattle.napt_run.specs.{Origins.{OriginModel, origin_of}, RunningLogs.{IsReady, running_log_of}, declared.{start.Start.Start, running_log.RunningLog.RunningLog}}
+use Rattle.napt_run.specs.{Origins.{OriginModel, origin_of}, RunningLogs.{AreLaws, IsReady, running_log_of}, declared.{start.Start.Start, log_writer.LogWriter.LogWriter}}
 use Rattle.napt_run.specs.declared.log_start.{LogStart.LogStart, TakenLog.TakenLog}
 
 -- BEFORE ANY INPUT
@@ -68,12 +68,13 @@ same_origin origin a b log other each same goes_on also text kept pieces goes = 
 
 module _ {L : Type 0} {S : Ghosts L} (start : Start) (log_start : LogStart) (taken : TakenLog)
     (is_taken : IsTakenAs start log_start taken) where
-  pub log_of : (it : RunningLog L S) → it.log ≡ taken.log → it.log.log ≡ (log_origin start log_start).log
+  pub log_of : (it : LogWriter L S) → it.log ≡ taken.log → it.log.log ≡ (log_origin start log_start).log
   log_of it is = ap (λ (l : LogBuilderModel). l.log) (is ∙ is_taken.known)
 
-  pub ready : (it : RunningLog L S) → it.log ≡ taken.log → it.output.is_broken ≡ false → it.output.written ≡ 0 →
+  pub ready : ((log : LogModel) → IsLogOf start.config.now (origin_of start).state log → AreLaws (origin_of start) log) →
+      (it : LogWriter L S) → it.log ≡ taken.log → it.output.is_broken ≡ false → it.output.written ≡ 0 →
       IsReady (origin_of start) it
-  ready it is sound written = record {
+  ready laws it is sound written = record {
     at = record {
       log = is ∙ (is_taken.known ∙ ap (λ (log : LogModel). let l : LogBuilderModel = record {
         rules = start.config.now;
@@ -87,12 +88,12 @@ module _ {L : Type 0} {S : Ghosts L} (start : Start) (log_start : LogStart) (tak
       each = refl;
       goes_on = refl;
     };
-    of = subst (IsLogOf start.config.now (origin_of start).state) (sym (log_of it is)) is_taken.of;
+    laws = laws it.log.log (subst (IsLogOf start.config.now (origin_of start).state) (sym (log_of it is)) is_taken.of);
     written = written;
   }
 
   -- its texts are those that are promised
-  pub texts_taken : (it : RunningLog L S) → it.log ≡ taken.log → string_bytes it.opening ≡ string_bytes taken.opening →
+  pub texts_taken : (it : LogWriter L S) → it.log ≡ taken.log → string_bytes it.opening ≡ string_bytes taken.opening →
       it.each ≡ log_start.each → it.goes_on ≡ log_start.goes_on →
       texts_of (running_log_of (origin_of start) it) ≡ texts_from start log_start
   texts_taken it is opens each goes =

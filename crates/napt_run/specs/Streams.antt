@@ -27,66 +27,11 @@ side_of Inside = sides.Inside
 side_of Report = sides.Inside
 side_of Log = sides.Inside
 
--- all of the text
-abbrev pub HasAll : OriginModel → Which → MergedInputs → Option (List ℕ) → Option (List ℕ) → Type 0
-HasAll origin which all old new = IsOk all.end × Appends old new (capture_text origin (side_of which) all.arrivals)
-
--- all of the text of a front of the inputs
-abbrev pub HasText : OriginModel → Which → MergedInputs → Option (List ℕ) → Option (List ℕ) → Type 0
-HasText origin which all old new =
-    (inputs : List Arrival) × IsFrontOf inputs all.arrivals
-    × Appends old new (capture_text origin (side_of which) inputs)
-
--- as much of it as the fault says, whose number saturates
-abbrev pub HasFront : OriginModel → Which → ℕ → MergedInputs → Option (List ℕ) → Option (List ℕ) → Type 0
-HasFront origin which written all old new =
-    (inputs : List Arrival) × IsFrontOf inputs all.arrivals × ((count : ℕ) × (written ≡ min count (2 ^ 64 - 1))
-    × (count ≤ length (capture_text origin (side_of which) inputs))
-    × Appends old new (take count (capture_text origin (side_of which) inputs)))
-
 -- the inputs before a fault of a side; a front of them, if its device or memory failed
 abbrev pub AreTaken : Side → CaptureFault → MergedInputs → List Arrival → Type 0
 AreTaken side fault all inputs =
     IsFrontOf inputs all.arrivals
     × IsReadFault fault (all ≡ record { arrivals = inputs; end = Err (record { side = side; fault = fault }) })
-
--- if the header to the outside could not be written, the one to the inside was not begun
-abbrev pub IsUnbegun : ℕ → Option (List ℕ) → Option (List ℕ) → Type 0
-IsUnbegun written old new = (written ≤ length file_header) × (new ≡ old)
-
--- at least the header, and as much of it as a failed write left
-abbrev pub HasPart : OriginModel → Which → MergedInputs → Option (List ℕ) → Option (List ℕ) → Type 0
-HasPart origin which all old new =
-    (inputs : List Arrival) × IsFrontOf inputs all.arrivals × ((count : ℕ) × (length file_header ≤ count)
-    × (count ≤ length (capture_text origin (side_of which) inputs))
-    × Appends old new (take count (capture_text origin (side_of which) inputs)))
-
--- writing an output failed after so many bytes
-abbrev pub HasWritten : OriginModel → Which → Which → ℕ → MergedInputs → Option (List ℕ) → Option (List ℕ) → Type 0
-HasWritten origin which Report written all old new = HasAll origin which all old new
-HasWritten origin Outside Outside written all old new = HasFront origin Outside written all old new
-HasWritten origin Inside Inside written all old new = HasFront origin Inside written all old new
-HasWritten origin Outside Inside written all old new = HasText origin Outside all old new
-HasWritten origin other Outside written all old new = HasText origin other all old new ⊎ IsUnbegun written old new
-HasWritten origin Report Inside written all old new = HasText origin Report all old new
-HasWritten origin Log Inside written all old new = HasText origin Log all old new
-HasWritten origin which Log written all old new = HasText origin which all old new ⊎ HasPart origin which all old new
-
--- by the result of the run
-abbrev pub GetsOf : OriginModel → Which → Result (Unit {0}) Fault → MergedInputs → Option (List ℕ) → Option (List ℕ) →
-    Type 0
-GetsOf origin which (Ok done) all old new = HasAll origin which all old new
-GetsOf origin which (Err (Capture side fault)) all old new =
-    (inputs : List Arrival) × AreTaken side fault all inputs
-    × Appends old new (capture_text origin (side_of which) inputs)
-GetsOf origin which (Err (Write other fault)) all old new = HasWritten origin which other fault.written all old new
-GetsOf origin which (Err (Run fault)) all old new = HasText origin which all old new ⊎ HasPart origin which all old new
-
-abbrev pub Streams : OriginModel → Which → Result (Unit {0}) Fault → Option (List ℕ) → Option (List ℕ) →
-    Option (List ℕ) →
-    Option (List ℕ) → Type 0
-Streams origin which result inside outside old new =
-    IfKnown inside outside (λ bytes others. GetsOf origin which result (files_until bytes others) old new)
 
 -- THE REPORT
 
@@ -121,15 +66,6 @@ IsStreamFaultOf side Read all = Unit {0}
 IsStreamFaultOf side Memory all = Unit {0}
 IsStreamFaultOf side TooLarge all = ⊥
 IsStreamFaultOf side fault all = all.end ≡ Err (record { side = side; fault = fault })
-
-abbrev pub ExplainsOf : MergedInputs → Fault → Type 0
-ExplainsOf all (Capture side fault) = IsStreamFaultOf side fault all
-ExplainsOf all (Run faults.TooMany) = ⊥
-ExplainsOf all (Run other) = Unit {0}
-ExplainsOf all (Write which fault) = Unit {0}
-
-abbrev pub Explains : Option (List ℕ) → Option (List ℕ) → Fault → Type 0
-Explains inside outside fault = IfKnown inside outside (λ bytes others. ExplainsOf (files_until bytes others) fault)
 
 -- a fault of the run itself, or of its log
 abbrev pub IsOfRun : {T : Type 0} → Result T Fault → Type 0
@@ -173,14 +109,7 @@ HasRead inside_failed outside_failed old new other_old other_new result =
 
 -- THE DEVICES
 
--- what a run leaves on the device of a capture; its fault may hide failed calls
-pub record DeviceGetsFrom {D T : Type 0} (S : sink.Ghosts D) (origin : OriginModel) (which : Which)
-    (inside outside : Option (List ℕ)) (result : Result T Fault) (old new : D) : Type 0 where
-  pub gets : Streams origin which (stream_ended result) inside outside (S.contents old) (S.contents new)
-  pub count : (¬ IsOfRun result) → S.failed new ≡ S.failed old + failed_writings which (stream_ended result)
-  pub settled : IsSettledBy (stream_ended result) → S.is_flushed new
-
--- and on that of the report
+-- what a run leaves on the device of the report
 pub record ReportGetsFrom {D : Type 0} (S : sink.Ghosts D) (origin : OriginModel) (inside outside : Option (List ℕ))
     (result : Result (Unit {0}) Fault) (old new : D) : Type 0 where
   pub gets : Reports origin result inside outside (S.contents old) (S.contents new)
@@ -210,15 +139,6 @@ IsHeaderFault side old new (Capture other fault) =
     in IsReadResult answer (LeavesBytes old new
     (λ bytes left. (format_in (take 24 bytes) ≡ Err fault) × (left ≡ drop 24 bytes))))
 IsHeaderFault side old new other = ⊥
-
--- a fault before the report, under a gate that promises yes or one that does not
-abbrev pub IsStopFault : Bool → Fault → Type 0
-IsStopFault open_gate (Capture side fault) = Unit {0}
-IsStopFault open_gate (Write Outside fault) = Unit {0}
-IsStopFault open_gate (Write Inside fault) = Unit {0}
-IsStopFault open_gate (Write Report fault) = ⊥
-IsStopFault open_gate (Write Log fault) = ⊥
-IsStopFault open_gate (Run fault) = IsFaultUnder open_gate fault
 
 -- a report could not be made or written
 abbrev pub IsReportFault : Fault → Type 0

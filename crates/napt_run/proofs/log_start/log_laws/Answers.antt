@@ -1,5 +1,5 @@
 use Rattle.napt_run.specs.Origins.{OriginModel, origin_of}
-use Rattle.napt_run.proofs.logged_streams.log_laws.Goals as goal
+use Rattle.napt_run.proofs.log_start.log_laws.Goals as goal
 
 pub returns : goal.returns
 returns c log of =
