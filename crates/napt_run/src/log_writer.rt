@@ -1,6 +1,6 @@
 //! A log that is written to a device.
 
-ghost use Rattle.std.specs.Prelude.{◌≡◌, List, true, IfErr, IfOk, MatchResult, OnOk, string_bytes};
+ghost use Rattle.std.specs.Prelude.{◌≡◌, [], List, true, IfErr, IfOk, MatchResult, OnOk, string_bytes};
 ghost use Rattle.napt_rules.specs.Prelude.{TakesState};
 ghost use Rattle.napt_account.specs.{LogBuilders.part_in, LogStarts.is_saved_log_state};
 ghost use Rattle.napt_sequential.specs.declared.passage.Trace.{Trace as Did};

@@ -7,8 +7,7 @@ returns-clause-ready g c = ready c.args.start c.args.log_start c.in_ok-taken.tak
     c.log_laws.ensures _ refl c.over-output.ensures.sound c.over-output.ensures.written
 
 pub returns-clause-texts : goal.returns-clause-texts
-returns-clause-texts g c =
-    texts_taken c.args.start c.args.log_start c.in_ok-taken.taken c.in_ok-taken.ensures _ refl refl refl refl
+returns-clause-texts g c = texts_taken c.args.start c.args.log_start c.in_ok-taken.taken c.in_ok-taken.ensures
 
 pub returns-clause-log : goal.returns-clause-log
-returns-clause-log g c = log_of c.args.start c.args.log_start c.in_ok-taken.taken c.in_ok-taken.ensures _ refl
+returns-clause-log g c = log_of c.args.start c.args.log_start c.in_ok-taken.taken c.in_ok-taken.ensures

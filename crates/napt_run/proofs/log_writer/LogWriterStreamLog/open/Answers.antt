@@ -2,10 +2,10 @@ use Rattle.std.proofs.Common.{[], ◌∙◌, ap, string_bytes, subst}
 use Rattle.napt_log_text.specs.Times.{TimeText}
 use Rattle.napt_run.specs.{LogOrigins.LoggedOrigin, RunningLogs.{Adds, LogIsAt, running_log_of}}
 use Rattle.napt_run.proofs.Logged.{opens_by, unopened_by}
-use Rattle.napt_run.proofs.log_writer.LogWriterStreamLog.open.{Given.Over, Goals.After-write}
+use Rattle.napt_run.proofs.log_writer.LogWriterStreamLog.open.{Given.Over, Goals.After-drop-opening}
 use Rattle.napt_run.proofs.log_writer.LogWriterStreamLog.open.Goals as goal
 
-adds : (g : Over) (c : After-write g) (from : LoggedOrigin) → LogIsAt from [] c.args.self.now →
+adds : (g : Over) (c : After-drop-opening g) (from : LoggedOrigin) → LogIsAt from [] c.args.self.now →
     Adds from [] (string_bytes c.args.self.now.opening) c.args.self.now.output c.write.result c.write.new.self
 adds g c from at =
     subst (λ (l : TimeText). Adds from [] l c.args.self.now.output c.write.result c.write.new.self)

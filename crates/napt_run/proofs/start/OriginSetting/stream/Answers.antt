@@ -14,7 +14,7 @@ returns-in_err-open g c =
     rw (p.1, p.2) (record {
       to_outside = inr (text.kept, text.of_run, refl);
       to_inside = inr (text.kept, text.of_run, refl);
-      log = c.in_err-open.ensures.err (origin_of c.args.self.start) inside outside c.requires;
+      log = c.in_err-open.ensures.err (origin_of c.args.self.start) inside outside c.requires.ready;
       told = tt;
       fault = text.explained;
       unreported = text.before;
@@ -36,7 +36,7 @@ returns-in_err-left-in-Ok g c =
     rw (p.1, p.2) (record {
       to_outside = inl (capture_ended g.W.Sink origin inside outside Outside outside_is _ _ fault text.end ran.to_outside);
       to_inside = inl (capture_ended g.V.Sink origin inside outside Inside inside_is _ _ fault text.end ran.to_inside);
-      log = closed.post origin inside outside c.args.log.now c.open.new.self c.in-Ok.totals.cuts c.requires
+      log = closed.post origin inside outside c.args.log.now c.open.new.self c.in-Ok.totals.cuts c.requires.ready
           c.in_ok-open.ensures.ok ran.logs;
       told = tt;
       fault = text.explained;
@@ -52,7 +52,7 @@ returns-in_ok-left-in-Ok g c =
       to_outside = inl ran.to_outside;
       to_inside = inl ran.to_inside;
       log = c.in_ok-left-in-Ok.ensures.post (origin_of c.args.self.start) (g.R.Source.remaining c.args.inside.now)
-          (g.Q.Source.remaining c.args.outside.now) c.args.log.now c.open.new.self c.in-Ok.totals.cuts c.requires
+          (g.Q.Source.remaining c.args.outside.now) c.args.log.now c.open.new.self c.in-Ok.totals.cuts c.requires.ready
           c.in_ok-open.ensures.ok ran.logs;
       told = ran.told;
       fault = tt;
@@ -66,7 +66,7 @@ returns-in-Err g c =
     let ran = c.in-Err.ensures in
     let flushed = c.flush_after.ensures g.G.Gate.is_open (origin_of c.args.self.start)
     (g.R.Source.remaining c.args.inside.now) (g.Q.Source.remaining c.args.outside.now) c.args.log.now c.open.new.self
-    c.requires c.in_ok-open.ensures.ok ran.logs in
+    c.requires.ready c.in_ok-open.ensures.ok ran.logs in
     record {
       to_outside = inl ran.to_outside;
       to_inside = inl ran.to_inside;

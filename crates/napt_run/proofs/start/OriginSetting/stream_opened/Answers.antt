@@ -1,11 +1,11 @@
-use Rattle.std.proofs.Common.{sym, ◌∙◌, ap, subst}
+use Rattle.std.proofs.Common.{sym, ◌∙◌, ap, rules, subst}
 use Rattle.napt_run.{specs.OutputSinks.IsNew, proofs.Ends.of_device}
 use Rattle.napt_run.proofs.start.OriginSetting.stream_opened.Goals as goal
 
 pub begin_and_run-told-requires-clause-new : goal.begin_and_run-told-requires-clause-new
 begin_and_run-told-requires-clause-new g c =
     let into = c.into-leaving.ensures in
-    subst IsNew (sym c.over-both.ensures.leaving) (record {
+    let is_new = subst IsNew (sym c.over-both.ensures.leaving) (record {
       sound = (
         ap (λ o. o.is_broken) into.to_outside ∙ c.over-ours.ensures.sound,
         ap (λ o. o.is_broken) into.to_inside ∙ c.over-theirs.ensures.sound,
@@ -13,7 +13,8 @@ begin_and_run-told-requires-clause-new g c =
       none_outside = ap (λ o. o.written) into.to_outside ∙ c.over-ours.ensures.written;
       none_inside = ap (λ o. o.written) into.to_inside ∙ c.over-theirs.ensures.written;
       counts = into.counts;
-    })
+    }) in
+    search (rules, is_new)
 
 pub returns-clause-to_outside : goal.returns-clause-to_outside
 returns-clause-to_outside g c =
