@@ -25,7 +25,6 @@ pub mod StreamLaws
 pub mod LogOrigins
 pub mod RunningLogs
 pub mod RunningLogLaws
-pub mod LoggedStreams
 pub mod Posts
 pub mod Logs
 pub mod LogLaws

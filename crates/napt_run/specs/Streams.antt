@@ -27,66 +27,11 @@ side_of Inside = sides.Inside
 side_of Report = sides.Inside
 side_of Log = sides.Inside
 
--- All of the text.
-abbrev pub HasAll : OriginModel → Which → MergedInputs → Option (List ℕ) → Option (List ℕ) → Type 0
-HasAll origin which all old new = IsOk all.end × Appends old new (capture_text origin (side_of which) all.arrivals)
-
--- All of the text of a prefix of the inputs.
-abbrev pub HasText : OriginModel → Which → MergedInputs → Option (List ℕ) → Option (List ℕ) → Type 0
-HasText origin which all old new =
-    (inputs : List Arrival) × IsFrontOf inputs all.arrivals
-    × Appends old new (capture_text origin (side_of which) inputs)
-
--- As many bytes of such a text as the fault says, whose number saturates.
-abbrev pub HasFront : OriginModel → Which → ℕ → MergedInputs → Option (List ℕ) → Option (List ℕ) → Type 0
-HasFront origin which written all old new =
-    (inputs : List Arrival) × IsFrontOf inputs all.arrivals × ((count : ℕ) × (written ≡ min count (2 ^ 64 - 1))
-    × (count ≤ length (capture_text origin (side_of which) inputs))
-    × Appends old new (take count (capture_text origin (side_of which) inputs)))
-
--- The inputs before a fault of a side, or a prefix of them if its device or memory failed.
+-- the inputs before a fault of a side; a front of them, if its device or memory failed
 abbrev pub AreTaken : Side → CaptureFault → MergedInputs → List Arrival → Type 0
 AreTaken side fault all inputs =
     IsFrontOf inputs all.arrivals
     × IsReadFault fault (all ≡ record { arrivals = inputs; end = Err (record { side = side; fault = fault }) })
-
--- The header to the outside could not be written, and the one to the inside was not begun.
-abbrev pub IsUnbegun : ℕ → Option (List ℕ) → Option (List ℕ) → Type 0
-IsUnbegun written old new = (written ≤ length file_header) × (new ≡ old)
-
--- At least the header, and as much of such a text as a failed write left.
-abbrev pub HasPart : OriginModel → Which → MergedInputs → Option (List ℕ) → Option (List ℕ) → Type 0
-HasPart origin which all old new =
-    (inputs : List Arrival) × IsFrontOf inputs all.arrivals × ((count : ℕ) × (length file_header ≤ count)
-    × (count ≤ length (capture_text origin (side_of which) inputs))
-    × Appends old new (take count (capture_text origin (side_of which) inputs)))
-
--- What an output has if writing an output failed after this number of bytes.
-abbrev pub HasWritten : OriginModel → Which → Which → ℕ → MergedInputs → Option (List ℕ) → Option (List ℕ) → Type 0
-HasWritten origin which Report written all old new = HasAll origin which all old new
-HasWritten origin Outside Outside written all old new = HasFront origin Outside written all old new
-HasWritten origin Inside Inside written all old new = HasFront origin Inside written all old new
-HasWritten origin Outside Inside written all old new = HasText origin Outside all old new
-HasWritten origin other Outside written all old new = HasText origin other all old new ⊎ IsUnbegun written old new
-HasWritten origin Report Inside written all old new = HasText origin Report all old new
-HasWritten origin Log Inside written all old new = HasText origin Log all old new
-HasWritten origin which Log written all old new = HasText origin which all old new ⊎ HasPart origin which all old new
-
--- What an output has, by the result of the run.
-abbrev pub GetsOf : OriginModel → Which → Result (Unit {0}) Fault → MergedInputs → Option (List ℕ) → Option (List ℕ) →
-    Type 0
-GetsOf origin which (Ok done) all old new = HasAll origin which all old new
-GetsOf origin which (Err (Capture side fault)) all old new =
-    (inputs : List Arrival) × AreTaken side fault all inputs
-    × Appends old new (capture_text origin (side_of which) inputs)
-GetsOf origin which (Err (Write other fault)) all old new = HasWritten origin which other fault.written all old new
-GetsOf origin which (Err (Run fault)) all old new = HasText origin which all old new ⊎ HasPart origin which all old new
-
-abbrev pub Streams : OriginModel → Which → Result (Unit {0}) Fault → Option (List ℕ) → Option (List ℕ) →
-    Option (List ℕ) →
-    Option (List ℕ) → Type 0
-Streams origin which result inside outside old new =
-    IfKnown inside outside (λ bytes others. GetsOf origin which result (files_until bytes others) old new)
 
 -- THE REPORT
 
@@ -122,16 +67,7 @@ IsStreamFaultOf side Memory all = Unit {0}
 IsStreamFaultOf side TooLarge all = ⊥
 IsStreamFaultOf side fault all = all.end ≡ Err (record { side = side; fault = fault })
 
-abbrev pub ExplainsOf : MergedInputs → Fault → Type 0
-ExplainsOf all (Capture side fault) = IsStreamFaultOf side fault all
-ExplainsOf all (Run faults.TooMany) = ⊥
-ExplainsOf all (Run other) = Unit {0}
-ExplainsOf all (Write which fault) = Unit {0}
-
-abbrev pub Explains : Option (List ℕ) → Option (List ℕ) → Fault → Type 0
-Explains inside outside fault = IfKnown inside outside (λ bytes others. ExplainsOf (files_until bytes others) fault)
-
--- A fault of the run itself, or of its log.
+-- a fault of the run itself, or of its log
 abbrev pub IsOfRun : {T : Type 0} → Result T Fault → Type 0
 IsOfRun (Err (Run fault)) = Unit {0}
 IsOfRun (Err (Write Log fault)) = Unit {0}
@@ -173,14 +109,7 @@ HasRead inside_failed outside_failed old new other_old other_new result =
 
 -- THE DEVICES
 
--- What a run leaves on the device of a capture; its fault may hide failed calls.
-pub record DeviceGetsFrom {D T : Type 0} (S : sink.Ghosts D) (origin : OriginModel) (which : Which)
-    (inside outside : Option (List ℕ)) (result : Result T Fault) (old new : D) : Type 0 where
-  pub gets : Streams origin which (stream_ended result) inside outside (S.contents old) (S.contents new)
-  pub count : (¬ IsOfRun result) → S.failed new ≡ S.failed old + failed_writings which (stream_ended result)
-  pub settled : IsSettledBy (stream_ended result) → S.is_flushed new
-
--- What a run leaves on the device of the report.
+-- what a run leaves on the device of the report
 pub record ReportGetsFrom {D : Type 0} (S : sink.Ghosts D) (origin : OriginModel) (inside outside : Option (List ℕ))
     (result : Result (Unit {0}) Fault) (old new : D) : Type 0 where
   pub gets : Reports origin result inside outside (S.contents old) (S.contents new)
@@ -211,16 +140,7 @@ IsHeaderFault side old new (Capture other fault) =
     (λ bytes left. (format_in (take 24 bytes) ≡ Err fault) × (left ≡ drop 24 bytes))))
 IsHeaderFault side old new other = ⊥
 
--- A fault before the report, under a gate that is always open or any other.
-abbrev pub IsStopFault : Bool → Fault → Type 0
-IsStopFault open_gate (Capture side fault) = Unit {0}
-IsStopFault open_gate (Write Outside fault) = Unit {0}
-IsStopFault open_gate (Write Inside fault) = Unit {0}
-IsStopFault open_gate (Write Report fault) = ⊥
-IsStopFault open_gate (Write Log fault) = ⊥
-IsStopFault open_gate (Run fault) = IsFaultUnder open_gate fault
-
--- A report could not be made or written.
+-- a report could not be made or written
 abbrev pub IsReportFault : Fault → Type 0
 IsReportFault (Write Report fault) = Unit {0}
 IsReportFault (Run faults.Memory) = Unit {0}

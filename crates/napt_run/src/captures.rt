@@ -9,9 +9,9 @@ ghost use Rattle.napt_records.specs.Faults.{is_shut_gate_fault};
 
 use crate::devices::Devices;
 use crate::kept_texts::KeptTexts;
-use crate::logging::NoLog;
 use crate::run_end::RunEnd;
 use crate::start::{OriginSetting, Start};
+use crate::stream_log::NoLog;
 use crate::whole_captures::RunTally;
 use napt_account::OpenLog;
 use napt_capture::{Capture, Sink, Source, Watched, read_capture, write_text};

@@ -2,14 +2,14 @@
 
 ghost use Rattle.std.specs.Prelude.{◌≡◌, IfOk, string_bytes, true};
 ghost use Rattle.napt_rules.specs.Prelude.{TakesState};
-ghost use Rattle.napt_account.specs.LogStarts.{is_saved_log_state};
+ghost use Rattle.napt_account.specs.{Log.LogModel, LogStarts.is_saved_log_state, ResumedLogRuns.IsLogOf};
 ghost use Rattle.napt_log_text.specs.Logs.{first_text};
-ghost use Rattle.napt_run.specs.LogOrigins.{IsTakenAs, origin_from};
+ghost use Rattle.napt_run.specs.{LogOrigins.{IsTakenAs, origin_from}, Origins.origin_of, RunningLogs.AreLaws};
 
 use crate::start::Start;
-use napt_account::{LogBuilder, LogFromState, SavedLogState, started_logs_go_on};
+use napt_account::{LogBuilder, LogFromState, SavedLogState, effects_are_the_log, started_logs_go_on};
 use napt_config::Config;
-use napt_log_text::{add_first, add_opening};
+use napt_log_text::{add_first, add_opening, effects_have_the_rows};
 use std::alloc::{AllocError, Global};
 use std::num::NonZeroU32;
 
@@ -74,4 +74,16 @@ pub(crate) fn take_up<'a>(
         log: started.log,
         opening,
     })
+}
+
+/// By the traces of its inputs a log of a state has their rows.
+pub(crate) fn log_laws(start: Start<'_>)
+    requires { TakesState start.config.now start.state.now }
+    ensures { (log : LogModel) → IsLogOf start.entry.config.now (origin_of start.entry).state log →
+        AreLaws (origin_of start.entry) log }
+{
+    effects_are_the_log();
+    effects_have_the_rows();
+    // called for its clause alone: a configuration keeps its rules
+    let _pool = start.config.pool();
 }

@@ -6,10 +6,10 @@ ghost use Rattle.napt_records.specs.{Counts.AreCountsOf, Output.IsTimely};
 ghost use Rattle.napt_run.specs.{Origins.origin_of, Streams.capture_text, WholeCaptures.{IsTallyOf, WritesAll}};
 
 use crate::logged_output_sinks::LeavingWithLog;
-use crate::logging::NoLog;
 use crate::output::Output;
 use crate::output_sinks::Leaving;
 use crate::start::OriginSetting;
+use crate::stream_log::NoLog;
 use napt_capture::Sink;
 use napt_dispatch::{PassFault, RunSummary};
 use napt_pool::Gate;

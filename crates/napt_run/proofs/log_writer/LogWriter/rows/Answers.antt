@@ -4,10 +4,10 @@ use Rattle.napt_account.specs.{LogBuilders.{LogBuilderModel, part_in}}
 use Rattle.napt_log_text.specs.{Logs.part_rows, Times.TimeText}
 use Rattle.napt_run.specs.RunningLogs.{opening_before}
 use Rattle.napt_run.proofs.Entering.{few_more, known_more, part_is}
-use Rattle.napt_run.proofs.running_log.RunningLog.rows.Goals as goal
+use Rattle.napt_run.proofs.log_writer.LogWriter.rows.Goals as goal
 
-pub returns-then-is_quiet : goal.returns-then-is_quiet
-returns-then-is_quiet g c from before at =
+pub returns-then-is_quiet-clause-rows : goal.returns-then-is_quiet-clause-rows
+returns-then-is_quiet-clause-rows g c from before at =
     let going = ap (λ (l : LogBuilderModel). l.is_stopped) at.log in
     let entered = c.in_ok-part.ensures in
     let part = part_is from before c.args.trace c.args.self.now.log at.log (part_in c.in_ok-part.part)
@@ -23,8 +23,8 @@ returns-then-is_quiet g c from before at =
           (ap (part_rows from.origin.rules) (sym (c.is_quiet.ensures c.if-is_quiet.true) ∙ part)));
     }
 
-pub returns : goal.returns
-returns g c from before at =
+pub returns-clause-rows : goal.returns-clause-rows
+returns-clause-rows g c from before at =
     let going = ap (λ (l : LogBuilderModel). l.is_stopped) at.log in
     let entered = c.in_ok-part.ensures in
     let part = part_is from before c.args.trace c.args.self.now.log at.log (part_in c.in_ok-part.part)

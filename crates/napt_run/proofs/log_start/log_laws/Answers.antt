@@ -1,6 +1,6 @@
 -- log_laws: the laws of logs by the effects of inputs, for a log that is that of the state.
 use Rattle.napt_run.specs.Origins.{OriginModel, origin_of}
-use Rattle.napt_run.proofs.logged_streams.log_laws.Goals as goal
+use Rattle.napt_run.proofs.log_start.log_laws.Goals as goal
 
 pub returns : goal.returns
 returns c log of =
