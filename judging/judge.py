@@ -1,10 +1,12 @@
 """The judge: captures of both sides in, a row for each requirement out."""
 import collections
+import copy
+import dataclasses
 import itertools
 
 from judging.gateway import Gateway, Incoming
 from judging.packets import PROTOCOLS, dotted
-from judging.pairing import Pair, Pairing
+from judging.pairing import Pairing
 from judging.requirements import REQUIREMENTS
 from judging.rows import MOST_KEPT
 from judging.rules import End, Rules
@@ -24,9 +26,9 @@ class Judge:
             for moment, protocol in itertools.product(it.moments, (*PROTOCOLS, None)):
                 if it.protocol in (None, protocol) or moment is End:
                     self.rules[moment, protocol].append(getattr(self.rows[it.name], it.rule))
-        # of what is alike the first one, and how many they are: the rules judge some, and one for all others
+        # of what is alike how many they are, and the first one: the rules judge some, and that for all others
         self.alike = {}
-        self.gateway = Gateway(given.prefixes, plan, self.tell, self.follow)
+        self.gateway = Gateway(given.prefixes, plan, self)
         self.pairing = Pairing(given.prefixes, plan, self.take)
 
     def take(self, item):
@@ -37,13 +39,17 @@ class Judge:
         """Takes a packet from outside with the mapping that its number stands for; is_known: something was sent to its remote
         before."""
 
-    def tell(self, moment):
-        if type(moment) in (Pair, Incoming) and (key := moment.alike()):
-            if (group := self.alike.get(key)) is None:
-                group = self.alike[key] = [moment.as_it_was(), 0]
-            group[1] += 1
-            if group[1] > MOST_KEPT:
-                return
+    def has_enough(self, key):
+        """Counts one more moment with a key, and returns whether enough of them were told."""
+        if (group := self.alike.get(key)) is None:
+            return False
+        group[0] += 1
+        return group[0] > MOST_KEPT
+
+    def tell(self, moment, key=None):
+        """Takes a moment. Of those with one key no rule tells one from another."""
+        if key and key not in self.alike:
+            self.alike[key] = [1, as_it_was(moment)]
         self.judge(moment)
 
     def judge(self, moment):
@@ -52,9 +58,9 @@ class Judge:
 
     def run(self):
         """Reads both captures to their ends, and returns itself."""
-        self.pairing.run(self.inside.packets(), self.outside.packets())
+        self.pairing.run(self.inside.streams() + self.outside.streams())
         self.gateway.end()
-        for moment, count in self.alike.values():
+        for count, moment in self.alike.values():
             if count > MOST_KEPT:
                 self.weigh(count - MOST_KEPT)
                 self.judge(moment)
@@ -88,3 +94,10 @@ class Judge:
         ):
             if found:
                 yield f"{found} {what}"
+
+
+def as_it_was(moment):
+    """Returns a moment with its mapping and session as they are now."""
+    if type(moment) is Incoming:
+        return dataclasses.replace(moment, mapping=copy.copy(moment.mapping), session=copy.copy(moment.session))
+    return moment

@@ -92,10 +92,10 @@ class Replay(Judge):
         super().__init__(given, plan, keeps_data=True)
         self.explain, self.sent, self.followed, self.timed_out = explain, [], [], set()
 
-    def tell(self, moment):
+    def tell(self, moment, key=None):
         if type(moment) is Incoming and moment.cause in (TIMER, RESET):
             self.timed_out.add(id(moment.pair))
-        super().tell(moment)
+        super().tell(moment, key)
 
     def follow(self, pair, mapping, is_known):
         if pair.way is IN and pair.arrival.data:
