@@ -103,8 +103,7 @@ class Mapping:
         """It is made, or made again after its timer."""
         self.first, self.remotes, self.longest_gap = pair.time, {}, 0
         self.error, self.refused, self.sent, self.received = None, None, 0, 0
-        live = ((remote, it) for remote, it in self.sessions.items() if pair.time - it.last < LEAST[it.kind])
-        self.sessions = dict(live)
+        self.sessions = {at: it for at, it in self.sessions.items() if pair.time - it.last < LEAST[it.kind]}
 
     def kind_to(self, remote: Endpoint | None) -> str:
         """Returns the kind of timer that holds for a remote."""
@@ -379,15 +378,18 @@ class Gateway:
         elif came.kind in (OF_UDP, OF_TCP, QUERY):
             (self.take_out if way is OUT else self.take_in if way is IN else self.take_hairpin)(pair)
 
-    def with_end(self, protocol: int, end: Endpoint) -> list[Mapping]:
+    def with_end(self, protocol: int, end: Endpoint) -> tuple[Mapping, ...]:
         """Returns the mappings with an inside or external endpoint."""
         return self.mappings.get(protocol << 48 | end[0] << 16 | end[1], ())
 
     def add(self, mapping: Mapping):
+        """Adds a mapping, in the place of old ones that its number had, of which some are kept."""
         for end in (mapping.inside, mapping.external):
+            found = self.with_end(mapping.protocol, end)
+            if end is mapping.external and len(found) >= MOST_ENDED:
+                found = tuple(it for it in found if it.must_live(mapping.first)) or found[-1:]
             # a number takes less memory than a tuple, and less time to look for
-            number = mapping.protocol << 48 | end[0] << 16 | end[1]
-            self.mappings.setdefault(number, []).append(mapping)
+            self.mappings[mapping.protocol << 48 | end[0] << 16 | end[1]] = (*found, mapping)
 
     def doubt(self, pair: Pair):
         """Concludes nothing from mappings whose packet it may be, since several hosts sent the same."""
@@ -479,12 +481,11 @@ class Gateway:
         mapping.refused = None
         mapping.sent += 1
 
-    def leave_anew(self, pair: Pair, remote: Endpoint, mapping: Mapping | None, mine: list[Mapping]) -> Mapping:
+    def leave_anew(self, pair: Pair, remote: Endpoint, mapping: Mapping | None, mine: tuple[Mapping, ...]) -> Mapping:
         """Tells of a packet that left by a mapping that is new, or to a new remote, and returns its mapping."""
         protocol, time, inside, external = pair.protocol, pair.time, pair.arrival.source, pair.departure.source
         others = [it for it in mine if it.external != external and not it.is_unsure and it.must_live(time)]
-        holders = self.with_end(protocol, external)
-        foreign = [it for it in holders if it.inside != inside and not it.is_unsure]
+        foreign = [it for it in self.with_end(protocol, external) if it.inside != inside and not it.is_unsure]
         is_new, live = mapping is None or not mapping.must_live(time), [it for it in foreign if it.must_live(time)]
         it = Departure(pair, inside, external, remote, mapping, is_new, others, live)
         if is_new:
@@ -493,8 +494,6 @@ class Gateway:
         self.tell(it)
         if mapping is None:
             mapping = Mapping(inside, external, pair)
-            if len(holders) >= MOST_ENDED:
-                holders[:] = [it for it in holders if it.must_live(time)] or holders[-1:]
             self.add(mapping)
         elif is_new:
             mapping.begin(pair)
@@ -567,7 +566,7 @@ class Gateway:
             if target and (holder or live and not mapping):
                 self.tell(Incoming(pair, holder or live[0], is_known=bool(holder), cause=ELSEWHERE))
                 return
-            mapping = mapping or holder or (live or holders or [None])[-1]
+            mapping = mapping or holder or (live or holders or (None,))[-1]
         if mapping is None:
             self.come_to_nobody(pair, target)
         else:

@@ -53,7 +53,8 @@ class Judge:
         self.judge(moment)
 
     def judge(self, moment):
-        for rule in self.rules[type(moment), moment.protocol if moment.protocol in PROTOCOLS else None]:
+        kind, protocol = type(moment), moment.protocol
+        for rule in self.rules[kind, protocol if protocol in PROTOCOLS else None]:
             rule(moment)
 
     def run(self):

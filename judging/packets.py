@@ -158,44 +158,47 @@ def packet_of(data: bytes, side: str, time: int, depth: int | None = None) -> Pa
 
 
 def fill(packet: Packet, body: bytes, length: int, depth: int | None = None):
-    """Fills in the transport header and what is behind it. The body may be shorter than its length, where it was cut. A
-    checksum that is the sum of the pseudo header alone is yet to be made, by the card: nothing is known of it."""
+    """Fills in the transport header and what is behind it. The body may be shorter than its length, where it was cut."""
     source, destination, protocol, size = packet.source[0], packet.destination[0], packet.protocol, len(body)
-    begin, pseudo, told, first, second, sequence = 0, None, length, 0, 0, 0
+    begin = sequence = first = second = 0
     if size < length:
         packet.is_cut = True
     if protocol == TCP and size >= 20:
-        near, far, sequence, second, offset, flags, checksum = TCP_HEADER.unpack_from(body)
+        near, far, sequence, second, offset, first, checksum = TCP_HEADER.unpack_from(body)
         packet.source, packet.destination, packet.kind = (source, near), (destination, far), OF_TCP
-        packet.flags = first = flags & 63
+        packet.flags = first = first & 63
         packet.sequence, packet.acknowledged, begin = sequence, second, (offset >> 4) * 4
-        if size >= length:
-            pseudo = source + destination + TCP + length
+        if size == length:
+            judge_sum(packet, body, checksum, source + destination + TCP + length)
     elif protocol == UDP and size >= 8:
         near, far, told, checksum = UDP_HEADER.unpack_from(body)
         packet.source, packet.destination, packet.kind, begin = (source, near), (destination, far), OF_UDP, 8
         if 8 <= told <= length:
             body, length = body[:told], told
             if checksum and len(body) == told:
-                pseudo = source + destination + UDP + told
+                judge_sum(packet, body, checksum, source + destination + UDP + told)
     elif protocol == ICMP and size >= 8:
-        first, second, identifier, told = ICMP_HEADER.unpack_from(body)
+        first, second, identifier, number = ICMP_HEADER.unpack_from(body)
         packet.type, packet.code, begin = first, second, 8
         packet.sum_ok = None if packet.is_cut else is_right(body)
         if first in ERRORS and (quoted := quoted_in(body[8:])):
             packet.kind, packet.quoted = ERROR, quoted
+            packet.content = ERROR, quoted.protocol, quoted.identification
         elif first in QUERIES or first in REPLIES:
-            packet.kind, packet.sequence, sequence = QUERY, told, told
+            packet.kind, packet.sequence, sequence = QUERY, number, number
             packet.source, packet.destination = (source, identifier), (destination, identifier)
-    if pseudo is not None:
-        packet.sum_ok = is_right(body, pseudo)
-        if not packet.sum_ok and (checksum - pseudo) % 0xFFFF == 0:
-            packet.sum_ok, packet.is_offloaded = None, True
     packet.payload = payload = length - begin
-    if packet.quoted:
-        packet.content = ERROR, packet.quoted.protocol, packet.quoted.identification
-    else:
+    if packet.kind is not ERROR:
         packet.content = protocol, first, second, sequence, payload, payload and zlib.crc32(body[begin:depth])
+
+
+def judge_sum(packet: Packet, body: bytes, checksum: int, pseudo: int):
+    """Finds whether a checksum is right. One that is the sum of the pseudo header alone is yet to be made, by the card:
+    nothing is known of it."""
+    number = int.from_bytes(body, "big")
+    packet.sum_ok = ((number << 8 if len(body) & 1 else number) + pseudo) % 0xFFFF == 0
+    if not packet.sum_ok and (checksum - pseudo) % 0xFFFF == 0:
+        packet.sum_ok, packet.is_offloaded = None, True
 
 
 def quoted_in(data: bytes) -> Quoted | None:

@@ -126,10 +126,11 @@ class Rules(Row):
                 self.note = f"{memory['changed']} changed, {near}"
                 self.judge(memory["near"] * 3 <= memory["changed"], *(pair for pair, in self.later["pairs"][1:4]))
         elif it.is_new and it.protocol != ICMP and it.inside[1] != it.external[1]:
-            others = (it.inside[1], memory.get("before", it.external[1]))
-            memory["near"] += any(0 < it.external[1] - number <= NEAR for number in others)
+            number = it.external[1]
+            is_near = 0 < number - it.inside[1] <= NEAR or 0 < number - memory.get("before", number) <= NEAR
+            memory["near"] += is_near
             memory["changed"] += 1
-            memory["before"] = it.external[1]
+            memory["before"] = number
             self.keep("pairs", it.pair)
 
     def identifications_differ(self, it: Fragmentable):
