@@ -1,15 +1,12 @@
 """Reads captures: pcap and pcapng, as they are or compressed, and the IPv4 packets in their frames."""
-import argparse
 import bz2
 import collections
 import contextlib
 import dataclasses
 import datetime
 import gzip
-import ipaddress
 import lzma
 import os
-import re
 import shutil
 import struct
 import subprocess
@@ -333,28 +330,3 @@ def file_of(path):
         found = os.fstat(0) if path == STANDARD_INPUT else os.stat(path)
         return found.st_dev, found.st_ino
     return None
-
-
-# WORDS OF A COMMAND LINE
-
-class Words(argparse.ArgumentParser):
-    """A parser whose fault names the help of the program, which is called as `prog`."""
-
-    def error(self, message):
-        raise Fault(BAD_WORDS, f"{message} (see {self.prog} --help)")
-
-
-def prefix(text):
-    what = "is no prefix, as 10.0.0.0/8 is one"
-    with contextlib.suppress(ValueError):
-        if re.fullmatch(r"[0-9.]+/(0|[1-9][0-9]?)", text):
-            what = "has bits past its length that are not 0" if ipaddress.IPv4Interface(text) else what
-            return ipaddress.IPv4Network(text)
-    raise argparse.ArgumentTypeError(f"{text!r} {what}")
-
-
-def address(text):
-    try:
-        return ipaddress.IPv4Address(text)
-    except ValueError as error:
-        raise argparse.ArgumentTypeError(f"{text!r} is no address, as 203.0.113.1 is one") from error
