@@ -1,14 +1,14 @@
-"""What pairs show of a gateway: its mappings, how long they live and whom they let in. Numbers are taken as the gateway
-chose them. A mapping must be live while the least timer that the RFCs allow has not ended since its last packet out; only
-then a packet that does not come in speaks against the gateway. What else follows depends on the gateway's own timers and
-filter, which are known at the end."""
+"""What pairs show of a gateway: its mappings, how long they live and whom they let in. Numbers are taken as the
+gateway chose them. A mapping must be live while the least timer that the RFCs allow has not ended since its last
+packet out; only then a packet that does not come in speaks against the gateway. What else follows depends on the
+gateway's own timers and filter, which are known at the end."""
 import collections
 import dataclasses
 import heapq
 import itertools
 
 from judging.packets import ACK, ERROR, FIN, ICMP, OF_TCP, OF_UDP, QUERIES, QUERY, REPLIES, RST, SYN, TCP, UDP
-from judging.packets import Endpoint, Packet, Plan, Prefixes
+from judging.packets import PROTOCOLS, Endpoint, Packet, Plan, Prefixes
 from judging.pairing import ALTERED, GATEWAY_PORTS, HAIRPIN, IN, LIKELY, OUT, SURE, Departed, Pair, Seen
 from reading.captures import SECOND
 
@@ -20,11 +20,11 @@ LONGEST, SHORTEST = max(LEAST.values()), min(LEAST.values())
 SOON, SURELY = 5 * SECOND, 10 * SECOND
 # what is asked of the gateway's own packets is kept so long: the answer to a SYN (RFC 5382, REQ-4), and any other
 ANSWER_TO_SYN, ANSWER = 12 * SECOND, 3 * SECOND
-# a gateway's timers may be so much longer than they must. Mappings that are over then are looked for each time that the
-# second has passed
+# a gateway's timers may be so much longer than they must. Mappings that are over then are looked for each time that
+# the second has passed
 MARGIN, SWEEP = 600 * SECOND, 600 * SECOND
-# how many refusals are kept whose reason is known at the end, how many endpoints of the gateway itself, and ended mappings
-# of a number
+# how many refusals are kept whose reason is known at the end, how many endpoints of the gateway itself, and ended
+# mappings of a number
 MOST_UNDECIDED, MOST_ENDS, MOST_ENDED = 256, 10_000, 4
 # what every host and every link takes whole (RFC 791)
 LEAST_MTU = 576
@@ -32,8 +32,8 @@ LEAST_MTU = 576
 INDEPENDENT, ADDRESS, ADDRESS_PORT = "endpoint-independent", "address-dependent", "address- and port-dependent"
 NO_ONE = "not one"
 # why a packet to an external endpoint did not come in: not before something was sent there; a SYN that meets a SYN; a
-# segment of a live connection; after a RST; after an ICMP error; at once; though packets out had refreshed the mapping; by
-# the timer; at another host
+# segment of a live connection; after a RST; after an ICMP error; at once; though packets out had refreshed the
+# mapping; by the timer; at another host
 STRANGER, SIMULTANEOUS, SEGMENT, RESET, AFTER_ERROR, SUDDEN, UNREFRESHED, TIMER, ELSEWHERE = (
     "stranger", "simultaneous", "segment", "reset", "after an error", "sudden", "not refreshed", "timer", "elsewhere")
 # what all segments of connections to which nothing happened have, so that no rule tells them apart
@@ -41,7 +41,8 @@ USUAL = "usual"
 
 
 class Session:
-    """A connection through a mapping of TCP, by its flags (RFC 7857, section 2), and the kind of timer that holds for it."""
+    """A connection through a mapping of TCP, by its flags (RFC 7857, section 2), and the kind of timer that holds for
+    it."""
 
     __slots__ = ("opened_out", "opened_in", "closed_out", "closed_in", "reset", "last", "acknowledged", "met", "kind")
 
@@ -70,8 +71,8 @@ class Session:
 
 class Mapping:
     """A mapping of an inside endpoint to an external one. `remotes` has when a packet last left for each, `tried` the
-    external endpoints to which it sent hairpins. One that is not sure was there before a packet left, or has packets that
-    may be of others: nothing is concluded from it."""
+    external endpoints to which it sent hairpins. One that is not sure was there before a packet left, or has packets
+    that may be of others: nothing is concluded from it."""
 
     __slots__ = (
         "protocol", "inside", "external", "first", "last_out", "last_any", "longest_gap", "last", "remotes", "tried",
@@ -150,10 +151,11 @@ class Moment:
 
 @dataclasses.dataclass(slots=True)
 class Departure(Moment):
-    """A packet that left by a mapping that is new, or to a remote that is new to it; as it was before. `others` are the
-    live mappings of the same endpoint with other numbers, `holders` the live mappings of other endpoints with this number,
-    and `rival` one of another endpoint that lives with the number that this one lacks, for other remotes. `before` is the
-    last mapping that had its number. `siblings` are live mappings of the host of the same protocol, `cousins` of others."""
+    """A packet that left by a mapping that is new, or to a remote that is new to it; as it was before. `others` are
+    the live mappings of the same endpoint with other numbers, `holders` the live mappings of other endpoints with this
+    number, and `rival` one of another endpoint that lives with the number that this one lacks, for other remotes.
+    `before` is the last mapping that had its number. `siblings` are live mappings of the host of the same protocol,
+    `cousins` of others."""
 
     inside: Endpoint
     external: Endpoint
@@ -164,15 +166,15 @@ class Departure(Moment):
     holders: list
     rival: Mapping | None = None
     before: Mapping | None = None
-    siblings: list = ()
-    cousins: list = ()
+    siblings: tuple = ()
+    cousins: tuple = ()
 
 
 @dataclasses.dataclass(slots=True)
 class Incoming(Moment):
-    """A packet to the external endpoint of a mapping: whether it came in, or why not. `gap` is how long ago its session, or
-    a packet to its remote, was there, `quiet` the same of the mapping. `is_known`: something was sent to its remote
-    before."""
+    """A packet to the external endpoint of a mapping: whether it came in, or why not. `gap` is how long ago its
+    session, or a packet to its remote, was there, `quiet` the same of the mapping. `is_known`: something was sent to
+    its remote before."""
 
     mapping: Mapping
     session: Session | None = None
@@ -187,8 +189,8 @@ class Incoming(Moment):
 
 @dataclasses.dataclass(slots=True)
 class Error(Moment):
-    """An ICMP error about a mapping: `mapping` is the live one that its quoted datagram belongs to, where there is one,
-    `host` the one to which it went. `is_known` says whether anybody had the quoted endpoint."""
+    """An ICMP error about a mapping: `mapping` is the live one that its quoted datagram belongs to, where there is
+    one, `host` the one to which it went. `is_known` says whether anybody had the quoted endpoint."""
 
     mapping: Mapping | None
     is_known: bool
@@ -214,8 +216,9 @@ class Error(Moment):
 
 @dataclasses.dataclass(slots=True)
 class Turned(Moment):
-    """A packet from inside to the live external endpoint of an inside host: `mine` are the sender's live mappings. `opens`
-    says which kinds of filtering let it in for sure, `is_untranslated` whether it came in with its inside source."""
+    """A packet from inside to the live external endpoint of an inside host: `mine` are the sender's live mappings.
+    `opens` says which kinds of filtering let it in for sure, `is_untranslated` whether it came in with its inside
+    source."""
 
     mapping: Mapping
     mine: list
@@ -225,7 +228,8 @@ class Turned(Moment):
 
 @dataclasses.dataclass(slots=True)
 class Waiting(Moment):
-    """What waits for so long for a packet of the gateway's own that answers it, and how long the captures go on after it."""
+    """What waits for so long for a packet of the gateway's own that answers it, and how long the captures go on after
+    it."""
 
     answer: Departed | None = None
     span: int = ANSWER
@@ -273,7 +277,8 @@ def is_reply(packet: Packet, came: Packet) -> bool:
 
 
 class Lifetimes:
-    """How long mappings of each kind were seen to live, and after how long they were gone, with the packets that show it."""
+    """How long mappings of each kind were seen to live, and after how long they were gone, with the packets that show
+    it."""
 
     def __init__(self):
         self.alive, self.lost = {}, {}
@@ -297,7 +302,7 @@ class Lifetimes:
 
 
 class Filter:
-    """Who was let in by live mappings: by other ports of a remote to which something was sent, and by other addresses."""
+    """Who was let in by live mappings: other ports of a remote to which something was sent, and other addresses."""
 
     def __init__(self):
         self.seen, self.counts = {it: ([], []) for it in ("port", "address")}, collections.Counter()
@@ -331,11 +336,12 @@ class Gateway:
     def __init__(self, prefixes: Prefixes, plan: Plan, judge):
         self.prefixes, self.pool, self.ends_connections = prefixes, plan.pool, plan.ends_connections
         self.judge, self.tell = judge, judge.tell
-        # mappings by protocol and inside endpoint, and by protocol and external endpoint; and the last mapping of each host
-        # by protocol
+        # mappings by protocol and inside endpoint, and by protocol and external endpoint; and the last mapping of each
+        # host by protocol
         self.mappings, self.of_host = {}, {}
         self.lifetimes, self.filters = Lifetimes(), {UDP: Filter(), TCP: Filter()}
-        # what waits for an answer of the gateway's own, by the time of its end; refusals whose reason is known at the end
+        # what waits for an answer of the gateway's own, by the time of its end; refusals whose reason is known at the
+        # end
         self.waiting, self.undecided, self.order = [], [], itertools.count()
         self.likely = self.now = self.swept = self.largest = self.errors_of_remotes = self.lost = 0
         # endpoints from which packets left alone, and those of nobody to which packets came
@@ -421,8 +427,8 @@ class Gateway:
 
     @property
     def lost_arrivals(self) -> int:
-        """How many packets left whose arrival is not in the captures. What leaves from an endpoint of the gateway itself,
-        to which packets come that go nowhere, does not count."""
+        """How many packets left whose arrival is not in the captures. What leaves from an endpoint of the gateway
+        itself, to which packets come that go nowhere, does not count."""
         return self.lost + sum(count for end, count in self.alone.items() if end not in self.nobodys)
 
     def wait(self, moment: Waiting):
@@ -465,13 +471,11 @@ class Gateway:
 
     def leave(self, pair: Pair, remote: Endpoint):
         """Takes a packet that left from an external endpoint, as a hairpin too."""
-        protocol, time, external, mapping = pair.protocol, pair.time, pair.departure.source, None
+        protocol, time, external = pair.protocol, pair.time, pair.departure.source
         mine = self.with_end(protocol, pair.arrival.source)
-        for it in mine:
-            if it.external == external:
-                mapping = it
-                break
-        is_usual = mapping and (len(mine) == 1 and remote in mapping.remotes and mapping.must_live(time))
+        is_alone = len(mine) == 1 and mine[0].external == external
+        mapping = mine[0] if is_alone else next((it for it in mine if it.external == external), None)
+        is_usual = is_alone and remote in mapping.remotes and mapping.must_live(time)
         if not is_usual and not (mapping and mapping.is_unsure):
             mapping = self.leave_anew(pair, remote, mapping, mine)
         if protocol == TCP and not mapping.is_unsure:
@@ -484,9 +488,13 @@ class Gateway:
     def leave_anew(self, pair: Pair, remote: Endpoint, mapping: Mapping | None, mine: tuple[Mapping, ...]) -> Mapping:
         """Tells of a packet that left by a mapping that is new, or to a new remote, and returns its mapping."""
         protocol, time, inside, external = pair.protocol, pair.time, pair.arrival.source, pair.departure.source
-        others = [it for it in mine if it.external != external and not it.is_unsure and it.must_live(time)]
-        foreign = [it for it in self.with_end(protocol, external) if it.inside != inside and not it.is_unsure]
-        is_new, live = mapping is None or not mapping.must_live(time), [it for it in foreign if it.must_live(time)]
+        holders, others, foreign, live = self.with_end(protocol, external), (), (), ()
+        if mine:
+            others = [it for it in mine if it.external != external and not it.is_unsure and it.must_live(time)]
+        if holders:
+            foreign = [it for it in holders if it.inside != inside and not it.is_unsure]
+            live = [it for it in foreign if it.must_live(time)]
+        is_new = mapping is None or not mapping.must_live(time)
         it = Departure(pair, inside, external, remote, mapping, is_new, others, live)
         if is_new:
             self.add_neighbours(it, foreign)
@@ -502,7 +510,8 @@ class Gateway:
         return mapping
 
     def add_neighbours(self, it: Departure, foreign: list[Mapping]):
-        """Adds to a departure by a new mapping what else lives: of its host, and with the number that it may have wanted."""
+        """Adds to a departure by a new mapping what else lives: of its host, and with the number that it may have
+        wanted."""
         time = it.pair.time
         if it.external[1] != it.inside[1]:
             for other in self.with_end(it.protocol, (it.external[0], it.inside[1])):
@@ -513,14 +522,18 @@ class Gateway:
         if foreign:
             it.before = max((o for o in foreign if o not in it.holders), key=lambda o: o.last_out, default=None)
         if len(self.pool) > 1:
-            of_host = (self.of_host.get((it.inside[0], protocol)) for protocol in (ICMP, TCP, UDP))
-            lives = [other for other in of_host if other and other.must_live(time)]
-            it.siblings = [other for other in lives if other.protocol == it.protocol and other.inside != it.inside]
-            it.cousins = [other for other in lives if other.protocol != it.protocol]
+            for protocol in PROTOCOLS:
+                other = self.of_host.get((it.inside[0], protocol))
+                if not other or not other.must_live(time):
+                    continue
+                if protocol != it.protocol:
+                    it.cousins += (other,)
+                elif other.inside != it.inside:
+                    it.siblings = (other,)
 
     def lose_others(self, it: Departure):
-        """A remote that sees another number than before shows that the mapping of that was gone, or that there never was
-        one mapping."""
+        """A remote that sees another number than before shows that the mapping of that was gone, or that there never
+        was one mapping."""
         for o in it.others if it.protocol != TCP or not self.ends_connections else ():
             newer = it.mapping is None or it.mapping.last_any < o.last_any
             if it.remote in o.remotes and newer and (it.pair.time - o.last_any >= SOON or o.error):
@@ -660,8 +673,8 @@ class Gateway:
                 heapq.heappop(self.undecided)
 
     def cause_at_end(self, it: Incoming) -> str:
-        """Returns why a packet of a known remote did not come in, by the lifetimes that were seen until the end: an error,
-        or a packet out that did not refresh, if others lived as long without."""
+        """Returns why a packet of a known remote did not come in, by the lifetimes that were seen until the end: an
+        error, or a packet out that did not refresh, if others lived as long without."""
         seen = {AFTER_ERROR: self.lifetimes.longest(it.kind), UNREFRESHED: self.lifetimes.alive_alone}
         return it.cause if it.gap <= seen[it.cause] else TIMER
 
@@ -677,7 +690,8 @@ class Gateway:
         senders = self.with_end(came.protocol, came.source)
         for it in senders:
             it.tried = {*it.tried, came.destination}
-        mine, is_untranslated = [it for it in senders if it.must_live(time)], bool(left) and left.source[0] in self.prefixes
+        mine = [it for it in senders if it.must_live(time)]
+        is_untranslated = bool(left) and left.source[0] in self.prefixes
         if left or came.protocol != TCP or came.is_syn:
             self.tell(Turned(pair, owner, mine, open_for(senders, owner), is_untranslated))
         if left and not is_untranslated:
@@ -715,7 +729,8 @@ class Gateway:
     def take_turned_error(self, it: Error, senders: list[Mapping]):
         """Finds whose an error about a hairpin is, and returns whether it is one."""
         quoted, left = it.pair.arrival.quoted, it.pair.departure
-        it.mapping = next((o for o in self.with_end(quoted.protocol, quoted.source) if o.must_live(it.pair.time)), None)
+        owners = self.with_end(quoted.protocol, quoted.source)
+        it.mapping = next((o for o in owners if o.must_live(it.pair.time)), None)
         if left and it.mapping:
             ends = (left.quoted.source, left.destination[0]) == (it.mapping.inside, it.mapping.inside[0])
             it.is_right = ends and any(o.external == left.quoted.destination for o in senders)

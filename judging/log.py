@@ -46,8 +46,8 @@ class Entry:
 
 class Log(Judge):
     """A judge that keeps entries. Between the first and the last packet of an entry its host had the number for sure:
-    nobody else sent by it, or was sent to, and it was never silent for as long as a timer may be. When the gateway ended it
-    no capture shows."""
+    nobody else sent by it, or was sent to, and it was never silent for as long as a timer may be. When the gateway
+    ended it no capture shows."""
 
     def __init__(self, given: Given, plan: Plan):
         super().__init__(given, plan)

@@ -1,4 +1,5 @@
-"""IPv4 packets of captures, and what of each a translator may not change, by which it is found again at the other side."""
+"""IPv4 packets of captures, and what of each a translator may not change, by which it is found again at the other
+side."""
 import dataclasses
 import ipaddress
 import struct
@@ -22,7 +23,8 @@ HEADER, ICMP_HEADER = struct.Struct("!BxHHHBBxxII"), struct.Struct("!BBxxHH")
 UDP_HEADER, TCP_HEADER = struct.Struct("!HHHH"), struct.Struct("!HHIIBBxxH")
 DONT_FRAGMENT, MORE_FRAGMENTS, FRAGMENT = 0x4000, 0x2000, 0x3FFF
 # pieces of a datagram come within so long (RFC 1122, section 3.3.2), and copies of a packet at two places of a machine
-MOST_APART, COPY_WITHIN, MOST_GROUPS, MOST_COPIES, MOST_ADDRESSES = 30 * SECOND, SECOND // 1000, 10_000, 1000, 1_000_000
+MOST_APART, COPY_WITHIN = 30 * SECOND, SECOND // 1000
+MOST_GROUPS, MOST_COPIES, MOST_ADDRESSES = 10_000, 1000, 1_000_000
 
 Endpoint = tuple[int, int]
 
@@ -85,8 +87,8 @@ class Quoted(NamedTuple):
 
 
 class Packet:
-    """A packet. Ends are pairs of address and port; of a query both have its identifier. `sum_ok` is None where there is
-    no checksum that can be looked at, `is_sent` where the frame does not tell whether the captured machine sent it.
+    """A packet. Ends are pairs of address and port; of a query both have its identifier. `sum_ok` is None where there
+    is no checksum that can be looked at, `is_sent` where the frame does not tell whether the captured machine sent it.
     `content` is what no translator changes, the ends apart."""
 
     number = file = flags = sequence = acknowledged = type = code = payload = 0
@@ -137,7 +139,8 @@ class Packet:
 
 
 def packet_of(data: bytes, side: str, time: int, depth: int | None = None) -> Packet | None:
-    """Returns the packet of an IPv4 datagram, or None where it is none. Payloads are compared up to a depth in bytes."""
+    """Returns the packet of an IPv4 datagram, or None where it is none. Payloads are compared up to a depth, in bytes,
+    of the datagram."""
     first, total, identification, fragment, ttl, protocol, source, destination = HEADER.unpack_from(data)
     header, size = (first & 15) * 4, len(data)
     if header < 20 or size < header or first >> 4 != 4:
@@ -158,7 +161,7 @@ def packet_of(data: bytes, side: str, time: int, depth: int | None = None) -> Pa
 
 
 def fill(packet: Packet, body: bytes, length: int, depth: int | None = None):
-    """Fills in the transport header and what is behind it. The body may be shorter than its length, where it was cut."""
+    """Fills in the transport header and what is behind it. The body is shorter than its length where it was cut."""
     source, destination, protocol, size = packet.source[0], packet.destination[0], packet.protocol, len(body)
     begin = sequence = first = second = 0
     if size < length:
@@ -193,8 +196,8 @@ def fill(packet: Packet, body: bytes, length: int, depth: int | None = None):
 
 
 def judge_sum(packet: Packet, body: bytes, checksum: int, pseudo: int):
-    """Finds whether a checksum is right. One that is the sum of the pseudo header alone is yet to be made, by the card:
-    nothing is known of it."""
+    """Finds whether a checksum is right. One that is the sum of the pseudo header alone is yet to be made, by the
+    card: nothing is known of it."""
     number = int.from_bytes(body, "big")
     packet.sum_ok = ((number << 8 if len(body) & 1 else number) + pseudo) % 0xFFFF == 0
     if not packet.sum_ok and (checksum - pseudo) % 0xFFFF == 0:
@@ -220,8 +223,8 @@ def quoted_in(data: bytes) -> Quoted | None:
 @dataclasses.dataclass
 class Plan:
     """What is known before captures are paired: the pool, how far the outside clock is ahead, in nanoseconds, how deep
-    payloads are compared (None: whole), which sides have each packet twice, whether the gateway ends connections itself
-    and makes its own, and whether one file is of both sides, so that a leak cannot be told."""
+    payloads are compared (None: whole), which sides have each packet twice, whether the gateway ends connections
+    itself and makes its own, and whether one file is of both sides, so that a leak cannot be told."""
 
     pool: set
     ahead: int = 0
@@ -245,8 +248,8 @@ class Side:
         return [self.packets_of(it, at if len(captures) > 1 else 0) for at, it in enumerate(captures, 1)]
 
     def is_copy(self, frame: Frame, data: bytes) -> bool:
-        """Whether the same packet was there just before: at another interface, or, where each is there twice, in the same
-        way."""
+        """Whether the same packet was there just before: at another interface, or, where each is there twice, in the
+        same way."""
         if frame.interface.link == COOKED_2:
             return self.copies.has(frame, data)
         last = self.seen.pop(data, None)

@@ -1,5 +1,5 @@
-"""What should have come in, by the proved program: each packet from outside, at the inside endpoint that the gateway's number
-stood for, goes through the definition of napt, under the gateway's own timers and filter."""
+"""What should have come in, by the proved program: each packet from outside, at the inside endpoint that the gateway's
+number stood for, goes through the definition of napt, under the gateway's own timers and filter."""
 import dataclasses
 import json
 import pathlib
@@ -25,8 +25,8 @@ FILTERING = {UDP: "4787 REQ-8", TCP: "5382 REQ-3"}
 
 @dataclasses.dataclass
 class Followed:
-    """A packet from outside, the inside endpoint that it was for, the rows that it may show, and what the definition does
-    with it."""
+    """A packet from outside, the inside endpoint that it was for, the rows that it may show, and what the definition
+    does with it."""
 
     pair: Pair
     inside: Endpoint
@@ -36,7 +36,8 @@ class Followed:
 
 
 def changed(data: bytearray, at: int, value: bytes, *sums: int):
-    """Puts a value into its place, and updates checksums by the difference, so that a wrong one stays wrong (RFC 1624)."""
+    """Puts a value into its place, and updates checksums by the difference, so that a wrong one stays wrong (RFC
+    1624)."""
     before, data[at : at + len(value)] = int.from_bytes(data[at : at + len(value)], "big"), value
     for place in sums:
         checksum = struct.unpack_from("!H", data, place)[0]
@@ -113,8 +114,8 @@ class Replay(Judge):
         return self
 
     def configuration(self, protocol: int) -> str:
-        """Returns napt's configuration with the gateway's own filter for a protocol, and its own timers where they are long
-        enough."""
+        """Returns napt's configuration with the gateway's own filter for a protocol, and its own timers where they are
+        long enough."""
         lifetimes, kind = self.gateway.lifetimes, self.gateway.filters[protocol].kind
         lines = [f"pool = {json.dumps([dotted(it) for it in sorted(self.plan.pool)])}"]
         lines += [f"inside = {json.dumps([str(it) for it in self.given.prefixes.networks])}"]
@@ -139,8 +140,8 @@ class Replay(Judge):
                         it.is_let_in, it.cause = outcome["outcome"] == "to-inside", outcome["cause"]
 
     def conclude(self):
-        """Judges what comes in by what the definition did. What the gateway's own timers, or a RST, ended is for other rows
-        to say."""
+        """Judges what comes in by what the definition did. What the gateway's own timers, or a RST, ended is for other
+        rows to say."""
         for name in {name for it in self.followed for name in it.rows}:
             if name in FILTERING.values():
                 self.rows[name].judged_by = BY_DEFINITION

@@ -1,6 +1,6 @@
-"""The requirements of requirements.csv: the name, level (RFC 2119) and section of each, what it asks, what traffic shows it,
-its rule with the word that it is given, the protocol that it is of, where it is of one, and whether it is of segments, which a
-gateway does not show that ends connections itself."""
+"""The requirements of requirements.csv: the name, level (RFC 2119) and section of each, what it asks, what traffic
+shows it, its rule with the word that it is given, the protocol that it is of, where it is of one, and whether it is of
+segments, which a gateway does not show that ends connections itself."""
 import csv
 import dataclasses
 import pathlib

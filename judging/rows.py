@@ -49,8 +49,8 @@ class Row:
             self.shown.append((*(it.last_pair for it in live), *evidence))
 
     def breaks(self, *evidence, live: list[Mapping] = (), ages: list = (), is_absence: bool = False):
-        """Counts an occasion on which it was broken, if mappings lived, or were so old. Where a packet is missing, or may
-        be, nobody is accused by captures that are not whole."""
+        """Counts an occasion on which it was broken, if mappings lived, or were so old. Where a packet is missing, or
+        may be, nobody is accused by captures that are not whole."""
         evidence, ages = (evidence, ages) if ages else aged(evidence, live)
         if not ages or not self.is_assumed(False, evidence, ages):
             self.broken += self.weight
@@ -65,8 +65,8 @@ class Row:
         (self.meets if is_met else self.breaks)(*evidence, live=live)
 
     def is_assumed(self, is_met: bool, evidence: tuple, ages: list[tuple[str, int]]) -> bool:
-        """Keeps an occasion until the gateway's timers are known, and returns whether that is needed: a mapping was not
-        used just now. Those of mappings that were used last are kept longest."""
+        """Keeps an occasion until the gateway's timers are known, and returns whether that is needed: a mapping was
+        not used just now. Those of mappings that were used last are kept longest."""
         longest, kept = max(gap for _, gap in ages), self.assumed[is_met]
         if longest <= AT_ONCE:
             return False
@@ -76,8 +76,8 @@ class Row:
         return True
 
     def resolve(self, lifetimes: Lifetimes):
-        """Counts what was kept: each mapping has to be younger than the gateway's own timer; to accuse, others must have
-        lived as long."""
+        """Counts what was kept: each mapping has to be younger than the gateway's own timer; to accuse, others must
+        have lived as long."""
         for is_met, kept in enumerate(self.assumed):
             for *_, evidence, ages in sorted(kept, key=lambda it: it[:2], reverse=True):
                 is_young = all(gap < (lifetimes.shortest(kind) or gap + 1) for kind, gap in ages)

@@ -1,11 +1,11 @@
-"""The rule of each requirement, on each occasion that pairs show. A rule is given a moment, of the kinds that its signature
-names. What it asks is in requirements.csv, with the section of the RFC; rules that differ in a word have that word there, too,
-which is `word` here."""
+"""The rule of each requirement, on each occasion that pairs show. A rule is given a moment, of the kinds that its
+signature names. What it asks is in requirements.csv, with the section of the RFC; rules that differ in a word have
+that word there, too, which is `word` here."""
 import collections
 
-from judging.gateway import ADDRESS_PORT, AFTER_ERROR, ELSEWHERE, LEAST, NO_ONE, RESET, SEGMENT, SIMULTANEOUS, SOON, SUDDEN
-from judging.gateway import TIMER, UNREFRESHED, Departure, Error, Fragmentable, Fragmented, Gateway, Incoming, TooLarge
-from judging.gateway import Turned, Unforwarded, Unsolicited
+from judging.gateway import ADDRESS_PORT, AFTER_ERROR, ELSEWHERE, LEAST, NO_ONE, RESET, SEGMENT, SIMULTANEOUS, SOON
+from judging.gateway import SUDDEN, TIMER, UNREFRESHED, Departure, Error, Fragmentable, Fragmented, Gateway, Incoming
+from judging.gateway import TooLarge, Turned, Unforwarded, Unsolicited
 from judging.packets import ERROR, ICMP, OF_TCP, OF_UDP, PROTOCOLS, RST, SYN, TCP, UDP, Plan, dotted
 from judging.pairing import ALTERED, GATEWAY_PORTS, HAIRPIN, IN, OUT, SURE, Departed, Pair
 from judging.rows import Row
@@ -23,7 +23,8 @@ NEARLY = 0.95
 
 
 class End:
-    """The end of the captures: the gateway, all rows by their names, the plan, and the filtering that the user expects."""
+    """The end of the captures: the gateway, all rows by their names, the plan, and the filtering that the user
+    expects."""
 
     protocol, siblings, cousins = None, (), ()
 
@@ -64,8 +65,8 @@ class Rules(Row):
         self.no_overloading(it)
 
     def no_overloading(self, it: Departure):
-        """Also if their remotes differ. It could have failed where another one had the number that an endpoint lacks, for
-        other remotes."""
+        """Also if their remotes differ. It could have failed where another one had the number that an endpoint lacks,
+        for other remotes."""
         for other in it.holders:
             self.breaks(it.pair, live=[other])
         if it.rival:
@@ -155,7 +156,8 @@ class Rules(Row):
         before."""
         kind, lifetimes = self.word, it.lifetimes
         least, alive, lost = LEAST[kind], lifetimes.alive.get(kind), lifetimes.lost.get(kind)
-        said = [f"{what} {found[0] / SECOND:.0f} s" for what, found in (("survived", alive), ("gone after", lost)) if found]
+        seen = ("survived", alive), ("gone after", lost)
+        said = [f"{what} {found[0] / SECOND:.0f} s" for what, found in seen if found]
         differ = alive and lost and alive[0] > lost[0]
         self.note = ", ".join(said) + (" (they differ, by the state of the mapping)" if differ else "")
         if lost and lost[0] < least:
@@ -171,7 +173,8 @@ class Rules(Row):
             if it.cause == UNREFRESHED:
                 self.breaks(it.holder, it.pair)
             elif it.is_let_in and it.is_known and mapping.sent > 1:
-                gap, age = max(mapping.longest_gap, it.pair.time - mapping.last_any) // SECOND, it.pair.time - mapping.first
+                gap = max(mapping.longest_gap, it.pair.time - mapping.last_any) // SECOND
+                age = it.pair.time - mapping.first
                 if age > ages.get(gap, (10 * SECOND,))[0]:
                     ages[gap] = (age, mapping.last_pair, it.pair)
         elif it.lifetimes.is_one(OF_UDP):
@@ -180,8 +183,8 @@ class Rules(Row):
                     self.meets(*evidence)
 
     def refreshes_nothing(self, it: Incoming | End):
-        """An error, or what the filter refused, does not refresh: the mapping was gone although that came within the timer,
-        and it never lived longer than the timer because of that."""
+        """An error, or what the filter refused, does not refresh: the mapping was gone although that came within the
+        timer, and it never lived longer than the timer because of that."""
         if type(it) is End:
             for kind, quiet, *evidence in self.later["lived"]:
                 if it.lifetimes.is_one(kind) and quiet >= it.lifetimes.shortest(kind):
@@ -215,14 +218,14 @@ class Rules(Row):
     # WHAT COMES IN
 
     def filtering(self, it: End):
-        """Who is let in by a mapping is independent of the remote, or depends on its address alone; and it is one of both,
-        at all times."""
+        """Who is let in by a mapping is independent of the remote, or depends on its address alone; and it is one of
+        both, at all times."""
         found = it.gateway.filters[self.requirement.protocol]
         let_in, refused = found.occasions(True), found.occasions(False)
         self.note = found.kind or ""
         if found.kind == NO_ONE:
-            counts = ((which, found.counts[which, True], found.counts[which, False]) for which in found.seen)
-            self.note = "; ".join(f"from another {which}: {let} let in, {not_let} not" for which, let, not_let in counts)
+            counts = ((it, found.counts[it, True], found.counts[it, False]) for it in found.seen)
+            self.note = "; ".join(f"from another {what}: {many} let in, {others} not" for what, many, others in counts)
             self.breaks(*let_in[0], *refused[0], is_absence=True)
         elif found.kind and it.expected and found.kind != it.expected:
             self.breaks(*(let_in or refused)[0], is_absence=True)
