@@ -11,7 +11,7 @@ from judging.packets import ERROR, OF_TCP, OF_UDP, SIDES, Endpoint, Packet, Plan
 from judging.packets import endpoint_text, ends_text, named
 from reading.captures import BAD_WORDS, SECOND, Fault
 
-OUT, IN, HAIRPIN, DEPARTURE = "out", "in", "hairpin", "departure"
+OUT, IN, HAIRPIN = "out", "in", "hairpin"
 # how a departure was found: alone with its content; the most likely of several; as the SYN of a gateway that ends
 # connections itself; or with another payload
 SURE, LIKELY, CONNECTION, ALTERED = "sure", "likely", "connection", "altered"
@@ -239,11 +239,10 @@ class Pairing:
             now = packet.time
             while departures and departures[0].time + slack <= now:
                 self.depart(departures.popleft())
-            way = self.way_inside(packet) if packet.side == "inside" else self.way_outside(packet)
-            if way is DEPARTURE:
-                departures.append(packet)
-            elif way:
-                self.arrive(way, packet)
+            if packet.side == "inside":
+                self.take_inside(packet)
+            else:
+                self.take_outside(packet)
             while queue and ((head := queue[0]).departure or head.time + WINDOW < now or head.leak):
                 self.decide(queue.popleft())
         while departures:
@@ -255,22 +254,26 @@ class Pairing:
             self.silent.clear()
         self.take_silent()
 
-    def way_inside(self, packet: Packet) -> str | None:
-        """Returns which way a packet at the inside goes that arrived; or that it departed; or None."""
+    def take_inside(self, packet: Packet):
         destination = packet.destination[0]
         is_from, is_to = self.prefixes[packet.source[0]], self.prefixes[destination]
         if is_from and not is_to and (destination in self.pool or is_forwarded(destination)):
             # one that the machine itself sent was captured at its other interface
-            return None if packet.is_sent else HAIRPIN if destination in self.pool else OUT
-        return DEPARTURE if is_to and packet.is_sent is not False else None
+            if not packet.is_sent:
+                self.arrive(HAIRPIN if destination in self.pool else OUT, packet)
+        elif is_to and packet.is_sent is not False:
+            self.departures.append(packet)
 
-    def way_outside(self, packet: Packet) -> str | None:
+    def take_outside(self, packet: Packet):
         source, destination = packet.source[0], packet.destination[0]
         is_from = self.prefixes[source]
         if self.prefixes[destination] or is_from and (packet.is_sent is False or self.plan.is_one_file):
-            return None
-        # where neither is in the pool, the source may be an address of it that was not seen yet
-        return IN if not is_from and source not in self.pool and destination in self.pool else DEPARTURE
+            return
+        if not is_from and source not in self.pool and destination in self.pool:
+            self.arrive(IN, packet)
+        else:
+            # where neither is in the pool, the source may be an address of it that was not seen yet
+            self.departures.append(packet)
 
     def take_silent(self):
         for item in self.silent:
@@ -280,6 +283,10 @@ class Pairing:
     def decide(self, item: Pair | Departed):
         """Hands on an item whose fate is known. Arrivals of which nothing left, and the gateway's own packets after
         them, wait until something leaves again."""
+        if item.departure and not self.silent and not item.arrival.pieces:
+            self.pairs += 1
+            self.take(item)
+            return
         if type(item) is Pair:
             if item.arrival.pieces:
                 self.in_pieces.remove(item)
@@ -337,7 +344,7 @@ class Pairing:
     def chosen(self, way: str, key: tuple, packet: Packet) -> Pair | None:
         """Returns the waiting pair of a departure: the first one of its sender; of several senders that with its
         identification."""
-        row = self.waiting[way].get(key)
+        row = self.waiting[way].pop(key, None)
         if row is None:
             return None
         best = row[0]
@@ -349,7 +356,9 @@ class Pairing:
                 # so are all that wait with it
                 for it in row:
                     it.how = LIKELY
-        self.drop(best)
+            row.remove(best)
+            self.waiting[way][key] = row
+        best.key = None
         is_kept = best.arrival.identification == packet.identification
         self.identifications[is_kept] += 1
         if best.how is None:
