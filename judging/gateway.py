@@ -338,7 +338,7 @@ class Gateway:
         self.judge, self.tell = judge, judge.tell
         # mappings by protocol and inside endpoint, and by protocol and external endpoint; and the last mapping of each
         # host by protocol
-        self.mappings, self.of_host = {}, {}
+        self.mappings, self.of_host = collections.defaultdict(dict), {}
         self.lifetimes, self.filters = Lifetimes(), {UDP: Filter(), TCP: Filter()}
         # what waits for an answer of the gateway's own, by the time of its end; refusals whose reason is known at the
         # end
@@ -386,7 +386,7 @@ class Gateway:
 
     def with_end(self, protocol: int, end: Endpoint) -> tuple[Mapping, ...]:
         """Returns the mappings with an inside or external endpoint."""
-        return self.mappings.get(protocol << 48 | end[0] << 16 | end[1], ())
+        return self.mappings[protocol].get(end, ())
 
     def add(self, mapping: Mapping):
         """Adds a mapping, in the place of old ones that its number had, of which some are kept."""
@@ -394,8 +394,7 @@ class Gateway:
             found = self.with_end(mapping.protocol, end)
             if end is mapping.external and len(found) >= MOST_ENDED:
                 found = tuple(it for it in found if it.must_live(mapping.first)) or found[-1:]
-            # a number takes less memory than a tuple, and less time to look for
-            self.mappings[mapping.protocol << 48 | end[0] << 16 | end[1]] = (*found, mapping)
+            self.mappings[mapping.protocol][end] = (*found, mapping)
 
     def doubt(self, pair: Pair):
         """Concludes nothing from mappings whose packet it may be, since several hosts sent the same."""
@@ -454,7 +453,8 @@ class Gateway:
     def sweep(self):
         """Forgets mappings that are over for long."""
         now = self.swept = self.now
-        self.mappings = {end: it for end, it in self.mappings.items() if not all(one.is_over(now) for one in it)}
+        for protocol, found in self.mappings.items():
+            self.mappings[protocol] = {end: it for end, it in found.items() if not all(one.is_over(now) for one in it)}
         self.of_host = {key: it for key, it in self.of_host.items() if not it.is_over(now)}
 
     # OUT
