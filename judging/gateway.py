@@ -104,7 +104,8 @@ class Mapping:
         """It is made, or made again after its timer."""
         self.first, self.remotes, self.longest_gap = pair.time, {}, 0
         self.error, self.refused, self.sent, self.received = None, None, 0, 0
-        self.sessions = {at: it for at, it in self.sessions.items() if pair.time - it.last < LEAST[it.kind]}
+        for remote in [at for at, it in self.sessions.items() if pair.time - it.last >= LEAST[it.kind]]:
+            del self.sessions[remote]
 
     def kind_to(self, remote: Endpoint | None) -> str:
         """Returns the kind of timer that holds for a remote."""
