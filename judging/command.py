@@ -1,10 +1,9 @@
 """The command line of judge."""
+import argparse
 import gc
-import os
 import pathlib
 import re
 import shutil
-import signal
 import sys
 import tempfile
 
@@ -16,20 +15,21 @@ from judging.packets import SIDES, Prefixes
 from judging.pairing import Given
 from judging.replay import Replay
 from judging.requirements import REQUIREMENTS
-from reading.captures import BAD_OUTPUT, BAD_WORDS, STANDARD_INPUT, Fault, Words, address, file_of, prefix, shown
+from reading.captures import BAD_WORDS, STANDARD_INPUT, Fault, file_of, shown
+from reading.program import Words, address, prefix, run_program, say
 
 # the number is the first in CHANGES
 VERSION = "0.1.0\nnot proved: tested by tests/judge"
 KINDS = {"independent": INDEPENDENT, "address": ADDRESS, "address-port": ADDRESS_PORT}
-COMMANDS = ("log", "replay")
+COMMANDS = {None: Judge, "log": Log, "replay": Replay}
 
 
-def key_of(text):
+def key_of(text: str) -> list[str]:
     """Returns what names a requirement, whatever its spelling: 4787-1, RFC4787 REQ-1 and '4787 REQ-1' are one."""
     return re.sub(r"rfc|req|[^0-9a-z.]+", " ", text.lower()).split()
 
 
-def selected(names):
+def selected(names: list[str]) -> list[str]:
     """Returns the names of the requirements that words stand for: an RFC for all of it, a number for its parts too."""
     found = []
     for key, name in ((key_of(it), it) for it in names):
@@ -37,12 +37,11 @@ def selected(names):
         if not more:
             raise Fault(BAD_WORDS, f"{name!r} is no requirement, as '4787 REQ-1' is one (see docs/JUDGE.md)")
         found += more
-    return found
+    return list(dict.fromkeys(found))
 
 
-def parsed(words, called):
-    parser = Words(prog=called, add_help=False, allow_abbrev=False)
-    command = words[0] if words[:1] and words[0] in COMMANDS else None
+def parsed(words: list[str], called: str) -> argparse.Namespace:
+    parser, command = Words(called), words[0] if words[:1] and words[0] in COMMANDS else None
     for side in SIDES:
         parser.add_argument(f"--{side}", metavar="FILE", nargs="+", action="extend", required=True)
         parser.add_argument(f"--{side}-interface", metavar="NAME")
@@ -61,7 +60,7 @@ def parsed(words, called):
     return given
 
 
-def read_twice(paths, room):
+def read_twice(paths: list[str], room: str) -> list[str]:
     """Returns the paths of captures, each read twice: standard input is kept in a file."""
     kept = pathlib.Path(room) / "standard-input"
     if STANDARD_INPUT in paths:
@@ -70,7 +69,7 @@ def read_twice(paths, room):
     return [str(kept) if it == STANDARD_INPUT else it for it in paths]
 
 
-def refuse_twice(given):
+def refuse_twice(given: argparse.Namespace) -> bool:
     """Refuses a file that is named twice on one side, and returns whether one is named on both."""
     files = {side: {} for side in SIDES}
     for side, named in files.items():
@@ -83,62 +82,37 @@ def refuse_twice(given):
     return bool(files["inside"].keys() & files["outside"].keys()) and given.inside_interface is None
 
 
-def run(given, program):
+def run(given: argparse.Namespace, program: str):
     """Judges, and writes to standard output."""
     is_one_file = refuse_twice(given)
     names = selected(given.only) if given.only else [it.name for it in REQUIREMENTS]
     with tempfile.TemporaryDirectory(prefix="judge-") as room:
         files = [read_twice(getattr(given, side), room) for side in SIDES]
-        pool, interfaces = given.pool and {int(it) for it in given.pool}, (given.inside_interface, given.outside_interface)
-        what = Given(*files, Prefixes(given.inside_prefix), pool, KINDS.get(given.filter), interfaces, is_one_file)
-        plan = what.plan()
-        if given.command == "replay":
-            judge = Replay(what, plan, given.explain or explain_of(program))
-        else:
-            judge = (Log if given.command == "log" else Judge)(what, plan)
-        judge.run()
-    notes = list(judge.notes())
-    if given.command == "log":
-        notes.append("the log is inferred from pairs: an entry is sure from its first packet to its last use")
-    print(*(f"{program}: {line}\n" for line in notes), sep="", end="", file=sys.stderr)
+        pool, interfaces = given.pool and set(map(int, given.pool)), (given.inside_interface, given.outside_interface)
+        prefixes, kind = Prefixes(given.inside_prefix), KINDS.get(given.filter)
+        what = Given(*files, prefixes, pool, kind, interfaces, is_one_file)
+        more = [given.explain or explain_of(program)] if given.command == "replay" else []
+        judge = COMMANDS[given.command](what, what.plan(), *more).run()
+    for line in judge.notes():
+        say(program, line)
     if given.command == "log":
         judge.write(sys.stdout)
         return
-    rows = [judge.rows[name] for name in dict.fromkeys(names)]
-    for line in report.lines(rows, {side: getattr(given, side) for side in SIDES}) if given.json else report.table(rows):
+    rows, files = [judge.rows[name] for name in names], {side: getattr(given, side) for side in SIDES}
+    for line in report.lines(rows, files) if given.json else report.table(rows):
         print(line)
 
 
-def explain_of(program):
+def explain_of(program: str) -> str:
     """Returns the program that knows the definition: beside this one, or on the path."""
     name = "napt-explain" if program == "napt-judge" else "explain"
     beside = pathlib.Path(sys.argv[0]).resolve().parent / name
     return str(beside) if beside.exists() else shutil.which("napt-explain") or name
 
 
-def main(words, program, called, text):
+def main(words: list[str], program: str, called: str, text: str) -> int:
     """Runs the words of a call, and returns the status. `text` is the help."""
-    if "--help" in words or "-h" in words:
-        print(text.replace("./judge", called), end="")
-        return 0
-    if words in (["--version"], ["-V"]):
-        print(f"{program} {VERSION}")
-        return 0
-    for ends in (signal.SIGTERM, signal.SIGHUP):
-        signal.signal(ends, lambda number, _: sys.exit(128 + number))
     # nothing that is kept refers to itself: looking for that takes a third of the time
     gc.disable()
-    try:
-        run(parsed(words, called), program)
-        sys.stdout.flush()
-    except Fault as fault:
-        print(f"{program}: {fault}", file=sys.stderr)
-        return fault.status
-    except BrokenPipeError:
-        os.dup2(os.open(os.devnull, os.O_WRONLY), 1)
-    except OSError as error:
-        print(f"{program}: {error.filename or 'standard output'}: {error.strerror}", file=sys.stderr)
-        return BAD_OUTPUT
-    except KeyboardInterrupt:
-        return 128 + signal.SIGINT
-    return 0
+    text = text.replace("./judge", called)
+    return run_program(words, program, VERSION, text, lambda words: run(parsed(words, called), program))

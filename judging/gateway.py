@@ -1,15 +1,15 @@
-"""What pairs show of a gateway: its mappings, how long they live and whom they let in. Numbers are taken as the gateway chose them.
-A mapping must be live while the least timer that the RFCs allow has not ended since its last packet out; only then a packet that
-does not come in speaks against the gateway. What else follows depends on the gateway's own timers and filter, which are known at
-the end."""
+"""What pairs show of a gateway: its mappings, how long they live and whom they let in. Numbers are taken as the
+gateway chose them. A mapping must be live while the least timer that the RFCs allow has not ended since its last
+packet out; only then a packet that does not come in speaks against the gateway. What else follows depends on the
+gateway's own timers and filter, which are known at the end."""
 import collections
-import copy
 import dataclasses
 import heapq
 import itertools
 
 from judging.packets import ACK, ERROR, FIN, ICMP, OF_TCP, OF_UDP, QUERIES, QUERY, REPLIES, RST, SYN, TCP, UDP
-from judging.pairing import ALTERED, HAIRPIN, IN, LIKELY, OUT, SURE, Departed, Pair, Seen
+from judging.packets import PROTOCOLS, Endpoint, Packet, Plan, Prefixes
+from judging.pairing import ALTERED, GATEWAY_PORTS, HAIRPIN, IN, LIKELY, OUT, SURE, Departed, Pair, Seen
 from reading.captures import SECOND
 
 # kinds of mappings and sessions, and their least timers (RFC 4787, REQ-5; RFC 5508, REQ-2; RFC 5382, REQ-5)
@@ -20,25 +20,29 @@ LONGEST, SHORTEST = max(LEAST.values()), min(LEAST.values())
 SOON, SURELY = 5 * SECOND, 10 * SECOND
 # what is asked of the gateway's own packets is kept so long: the answer to a SYN (RFC 5382, REQ-4), and any other
 ANSWER_TO_SYN, ANSWER = 12 * SECOND, 3 * SECOND
-# a gateway's timers may be so much longer than they must. Mappings that are over then are looked for each time that the second has
-# passed
+# a gateway's timers may be so much longer than they must. Mappings that are over then are looked for each time that
+# the second has passed
 MARGIN, SWEEP = 600 * SECOND, 600 * SECOND
-# how many refusals are kept whose reason is known at the end, how many endpoints of the gateway itself, and ended mappings of a
-# number
+# how many refusals are kept whose reason is known at the end, how many endpoints of the gateway itself, and ended
+# mappings of a number
 MOST_UNDECIDED, MOST_ENDS, MOST_ENDED = 256, 10_000, 4
 # what every host and every link takes whole (RFC 791)
 LEAST_MTU = 576
 # kinds of filtering (RFC 4787, section 5)
-INDEPENDENT, ADDRESS, ADDRESS_PORT, NO_ONE = "endpoint-independent", "address-dependent", "address- and port-dependent", "not one"
-# why a packet to an external endpoint did not come in: not before something was sent there; a SYN that meets a SYN; a segment of a
-# live connection; after a RST; after an ICMP error; at once; though packets out had refreshed the mapping; by the timer; at another
-# host
+INDEPENDENT, ADDRESS, ADDRESS_PORT = "endpoint-independent", "address-dependent", "address- and port-dependent"
+NO_ONE = "not one"
+# why a packet to an external endpoint did not come in: not before something was sent there; a SYN that meets a SYN; a
+# segment of a live connection; after a RST; after an ICMP error; at once; though packets out had refreshed the
+# mapping; by the timer; at another host
 STRANGER, SIMULTANEOUS, SEGMENT, RESET, AFTER_ERROR, SUDDEN, UNREFRESHED, TIMER, ELSEWHERE = (
     "stranger", "simultaneous", "segment", "reset", "after an error", "sudden", "not refreshed", "timer", "elsewhere")
+# what all segments of connections to which nothing happened have, so that no rule tells them apart
+USUAL = "usual"
 
 
 class Session:
-    """A connection through a mapping of TCP, by its flags (RFC 7857, section 2), and the kind of timer that holds for it."""
+    """A connection through a mapping of TCP, by its flags (RFC 7857, section 2), and the kind of timer that holds for
+    it."""
 
     __slots__ = ("opened_out", "opened_in", "closed_out", "closed_in", "reset", "last", "acknowledged", "met", "kind")
 
@@ -47,10 +51,10 @@ class Session:
         self.reset, self.last, self.acknowledged, self.kind = None, 0, None, TRANSITORY
 
     @property
-    def is_closing(self):
+    def is_closing(self) -> bool:
         return self.reset is not None or self.closed_out and self.closed_in
 
-    def take(self, pair, is_out):
+    def take(self, pair: Pair, is_out: bool):
         """Takes a segment that went through."""
         flags, self.last = pair.arrival.flags, pair.time
         if flags & (SYN | FIN | RST):
@@ -61,52 +65,56 @@ class Session:
             self.closed_out |= closes and is_out
             self.closed_in |= closes and not is_out
             self.reset = pair if flags & RST else self.reset
-            self.kind = ESTABLISHED if self.opened_out and self.opened_in and not self.is_closing else TRANSITORY
+            is_open = self.opened_out and self.opened_in and not self.is_closing
+            self.kind = ESTABLISHED if is_open else TRANSITORY
 
 
 class Mapping:
-    """A mapping of an inside endpoint to an external one. `remotes` has when a packet last left for each, `tried` the external
-    endpoints to which it sent hairpins. One that is not sure was there before a packet left, or has packets that may be of others:
-    nothing is concluded from it."""
+    """A mapping of an inside endpoint to an external one. `remotes` has when a packet last left for each, `tried` the
+    external endpoints to which it sent hairpins. One that is not sure was there before a packet left, or has packets
+    that may be of others: nothing is concluded from it."""
 
     __slots__ = (
         "protocol", "inside", "external", "first", "last_out", "last_any", "longest_gap", "last", "remotes", "tried",
         "sessions", "error", "refused", "sent", "received", "is_unsure",
     )
 
-    def __init__(self, inside, external, pair, is_unsure=False):
-        self.protocol, self.inside, self.external, self.tried, self.is_unsure = pair.protocol, inside, external, (), is_unsure
-        self.last_out, self.last_any, self.last, self.sessions = pair.time, pair.time, None, {}
+    def __init__(self, inside: Endpoint, external: Endpoint, pair: Pair, is_unsure: bool = False):
+        self.protocol, self.inside, self.external = pair.protocol, inside, external
+        self.tried, self.is_unsure, self.last, self.sessions = (), is_unsure, None, {}
+        self.last_out = self.last_any = pair.time
         self.begin(pair)
 
     @property
-    def last_pair(self):
+    def last_pair(self) -> Seen:
         """The last packet that went through."""
         way, remote, flags, time, *numbers = self.last
         ends = (remote, self.external, self.inside) if way is IN else (self.inside, remote, self.external)
         return Seen(way, self.protocol, *ends, flags, time, numbers)
 
-    def use(self, pair, remote):
+    def use(self, pair: Pair, remote: Endpoint):
         """A packet goes through."""
         came, left, time = pair.arrival, pair.departure, pair.time
         if time - self.last_any > self.longest_gap:
             self.longest_gap = time - self.last_any
-        self.last_any, self.last = time, (pair.way, remote, came.flags, time, came.file, came.number, left.file, left.number)
+        self.last_any = time
+        self.last = (pair.way, remote, came.flags, time, came.file, came.number, left.file, left.number)
 
-    def begin(self, pair):
+    def begin(self, pair: Pair):
         """It is made, or made again after its timer."""
         self.first, self.remotes, self.longest_gap = pair.time, {}, 0
         self.error, self.refused, self.sent, self.received = None, None, 0, 0
-        self.sessions = {it: session for it, session in self.sessions.items() if pair.time - session.last < LEAST[session.kind]}
+        for remote in [at for at, it in self.sessions.items() if pair.time - it.last >= LEAST[it.kind]]:
+            del self.sessions[remote]
 
-    def kind_to(self, remote):
+    def kind_to(self, remote: Endpoint | None) -> str:
         """Returns the kind of timer that holds for a remote."""
         if self.protocol != TCP:
             return OF_UDP if self.protocol == UDP else OF_ICMP
         session = self.sessions.get(remote)
         return session.kind if session else TRANSITORY
 
-    def age(self, time):
+    def age(self, time: int) -> tuple[str, int]:
         """Returns the kind of the timer that ends last, and how long it has run."""
         if self.protocol != TCP:
             return self.kind_to(None), time - self.last_out
@@ -116,12 +124,16 @@ class Mapping:
                 end, kind = it.last + LEAST[it.kind], it.kind
         return kind, time - end + LEAST[kind]
 
-    def must_live(self, time):
+    def must_live(self, time: int) -> bool:
         """Whether no timer that the RFCs allow can have ended it."""
         if time - self.last_out < SHORTEST and (self.sessions or self.protocol != TCP):
             return True
         kind, gap = self.age(time)
         return gap < LEAST[kind]
+
+    def is_over(self, time: int) -> bool:
+        """Whether hardly any gateway still has it."""
+        return time - self.last_any > LEAST[self.age(time)[0]] + MARGIN
 
 
 # MOMENTS IN WHICH A REQUIREMENT CAN BE MET OR BROKEN
@@ -134,34 +146,36 @@ class Moment:
     pair: Pair
 
     @property
-    def protocol(self):
+    def protocol(self) -> int:
         return self.pair.protocol
 
 
 @dataclasses.dataclass(slots=True)
 class Departure(Moment):
-    """A packet that left by a mapping that is new, or to a remote that is new to it; as it was before. `others` are the live
-    mappings of the same endpoint with other numbers, `holders` the live mappings of other endpoints with this number, and `rival`
-    one of another endpoint that lives with the number that this one lacks, for other remotes. `before` is the last mapping that had
-    its number. `siblings` are live mappings of the host of the same protocol, `cousins` of others."""
+    """A packet that left by a mapping that is new, or to a remote that is new to it; as it was before. `others` are
+    the live mappings of the same endpoint with other numbers, `holders` the live mappings of other endpoints with this
+    number, and `rival` one of another endpoint that lives with the number that this one lacks, for other remotes.
+    `before` is the last mapping that had its number. `siblings` are live mappings of the host of the same protocol,
+    `cousins` of others."""
 
-    inside: tuple
-    external: tuple
-    remote: tuple
+    inside: Endpoint
+    external: Endpoint
+    remote: Endpoint
     mapping: Mapping | None
     is_new: bool
     others: list
     holders: list
     rival: Mapping | None = None
     before: Mapping | None = None
-    siblings: list = ()
-    cousins: list = ()
+    siblings: tuple = ()
+    cousins: tuple = ()
 
 
 @dataclasses.dataclass(slots=True)
 class Incoming(Moment):
-    """A packet to the external endpoint of a mapping: whether it came in, or why not. `gap` is how long ago its session, or a
-    packet to its remote, was there, `quiet` the same of the mapping. `is_known`: something was sent to its remote before."""
+    """A packet to the external endpoint of a mapping: whether it came in, or why not. `gap` is how long ago its
+    session, or a packet to its remote, was there, `quiet` the same of the mapping. `is_known`: something was sent to
+    its remote before."""
 
     mapping: Mapping
     session: Session | None = None
@@ -173,20 +187,11 @@ class Incoming(Moment):
     cause: str | None = None
     holder: Seen | None = None
 
-    def alike(self):
-        """Returns what all segments of connections to which nothing happened have, so that no rule tells them apart, or None."""
-        is_usual = self.session and self.is_let_in and not (self.cause or self.session.reset or self.pair.arrival.flags & SYN)
-        return Incoming if is_usual and not self.mapping.error and not self.mapping.refused else None
-
-    def as_it_was(self):
-        """Returns it with its mapping and session as they are now."""
-        return dataclasses.replace(self, mapping=copy.copy(self.mapping), session=copy.copy(self.session))
-
 
 @dataclasses.dataclass(slots=True)
 class Error(Moment):
-    """An ICMP error about a mapping: `mapping` is the live one that its quoted datagram belongs to, where there is one, `host` the
-    one to which it went. `is_known` says whether anybody had the quoted endpoint."""
+    """An ICMP error about a mapping: `mapping` is the live one that its quoted datagram belongs to, where there is
+    one, `host` the one to which it went. `is_known` says whether anybody had the quoted endpoint."""
 
     mapping: Mapping | None
     is_known: bool
@@ -197,23 +202,24 @@ class Error(Moment):
     is_own_source: bool = False
 
     @property
-    def protocol(self):
+    def protocol(self) -> int:
         return self.pair.arrival.quoted.protocol
 
-    def is_good(self, way, *needed):
+    def is_good(self, way: str, *needed) -> bool:
         """Whether it goes a way, has nothing for which it may be dropped, and what is needed is there."""
         return self.pair.way is way and not self.is_bad and all(needed)
 
     @property
-    def live(self):
+    def live(self) -> list[Mapping]:
         """What has to live so that the gateway may not drop it."""
         return [self.mapping] if self.mapping and not self.pair.departure else []
 
 
 @dataclasses.dataclass(slots=True)
 class Turned(Moment):
-    """A packet from inside to the live external endpoint of an inside host: `mine` are the sender's live mappings. `opens` says
-    which kinds of filtering let it in for sure, `is_untranslated` whether it came in with its inside source."""
+    """A packet from inside to the live external endpoint of an inside host: `mine` are the sender's live mappings.
+    `opens` says which kinds of filtering let it in for sure, `is_untranslated` whether it came in with its inside
+    source."""
 
     mapping: Mapping
     mine: list
@@ -223,7 +229,8 @@ class Turned(Moment):
 
 @dataclasses.dataclass(slots=True)
 class Waiting(Moment):
-    """What waits for so long for a packet of the gateway's own that answers it, and how long the captures go on after it."""
+    """What waits for so long for a packet of the gateway's own that answers it, and how long the captures go on after
+    it."""
 
     answer: Departed | None = None
     span: int = ANSWER
@@ -235,10 +242,10 @@ class Unsolicited(Waiting):
 
     span: int = ANSWER_TO_SYN
 
-    def is_answer(self, packet):
+    def is_answer(self, packet: Packet) -> bool:
         came = self.pair.arrival
         if packet.kind == OF_TCP:
-            return bool(packet.flags & RST) and (packet.destination, packet.source) == (came.source, came.destination)
+            return bool(packet.flags & RST) and is_reply(packet, came)
         is_error = packet.kind == ERROR and packet.side == came.side
         return is_error and (packet.quoted.source, packet.quoted.destination) == (came.source, came.destination)
 
@@ -246,7 +253,7 @@ class Unsolicited(Waiting):
 class TooLarge(Waiting):
     """A packet with DF that did not leave, and the gateway's 'fragmentation needed' to its sender."""
 
-    def is_answer(self, packet):
+    def is_answer(self, packet: Packet) -> bool:
         is_needed = (packet.side, packet.kind, packet.type, packet.code) == ("inside", ERROR, 3, 4)
         return is_needed and packet.destination[0] == self.pair.arrival.source[0]
 
@@ -254,9 +261,8 @@ class TooLarge(Waiting):
 class Unforwarded(Waiting):
     """A good packet from inside that did not leave, and a segment of the gateway's own that refuses it."""
 
-    def is_answer(self, packet):
-        came = self.pair.arrival
-        return packet.kind == OF_TCP and (packet.destination, packet.source) == (came.source, came.destination)
+    def is_answer(self, packet: Packet) -> bool:
+        return packet.kind == OF_TCP and is_reply(packet, self.pair.arrival)
 
 
 class Fragmented(Moment):
@@ -267,45 +273,51 @@ class Fragmentable(Moment):
     """A datagram without DF that left."""
 
 
+def is_reply(packet: Packet, came: Packet) -> bool:
+    return (packet.destination, packet.source) == (came.source, came.destination)
+
+
 class Lifetimes:
-    """How long mappings of each kind were seen to live, and after how long they were gone, with the packets that show it."""
+    """How long mappings of each kind were seen to live, and after how long they were gone, with the packets that show
+    it."""
 
     def __init__(self):
         self.alive, self.lost = {}, {}
         # of mappings from which one packet went out, and none came in
         self.alive_alone = 0
 
-    def lose(self, it):
+    def lose(self, it: Incoming):
         if it.kind not in self.lost or it.gap < self.lost[it.kind][0]:
             self.lost[it.kind] = (it.gap, it.holder, it.pair)
 
-    def longest(self, kind):
+    def longest(self, kind: str) -> int:
         return self.alive[kind][0] if kind in self.alive else 0
 
-    def shortest(self, kind):
+    def shortest(self, kind: str) -> int | None:
         """Returns after how long one was gone, or None."""
         return self.lost[kind][0] if kind in self.lost else None
 
-    def is_one(self, kind):
+    def is_one(self, kind: str) -> bool:
         """Whether one timer explains what was seen: it was gone after longer than any other lived."""
         return kind in self.lost and self.longest(kind) <= self.lost[kind][0]
 
 
 class Filter:
-    """Who was let in by live mappings: by other ports of a remote to which something was sent, and by other addresses."""
+    """Who was let in by live mappings: other ports of a remote to which something was sent, and other addresses."""
 
     def __init__(self):
         self.seen, self.counts = {it: ([], []) for it in ("port", "address")}, collections.Counter()
 
-    def note(self, which, is_let_in, *evidence):
+    def note(self, which: str, is_let_in: bool, *evidence):
         self.counts[which, is_let_in] += 1
         if len(self.seen[which][is_let_in]) < 2:
             self.seen[which][is_let_in].append(evidence)
 
     @property
-    def kind(self):
+    def kind(self) -> str | None:
         """Returns the kind of filtering, or None where it is not known."""
-        port_in, port_out, address_in, address_out = (self.counts[which, it] for which in self.seen for it in (True, False))
+        port_in, port_out, address_in, address_out = (
+            self.counts[which, is_let_in] for which in self.seen for is_let_in in (True, False))
         if address_in and address_out or not address_in and port_in and port_out:
             return NO_ONE
         if address_in:
@@ -314,29 +326,29 @@ class Filter:
             return ADDRESS if address_out else None
         return ADDRESS_PORT if port_out else None
 
-    def occasions(self, is_let_in):
+    def occasions(self, is_let_in: bool) -> list[tuple]:
         """Returns the evidence of those that were let in, or not."""
         return self.seen["port"][is_let_in] + self.seen["address"][is_let_in]
 
 
 class Gateway:
-    """What is known of a gateway so far. It tells each moment in which a requirement can be met or broken. `follows` is given each
-    packet from outside with the mapping that its number stands for, and whether something was sent to its remote before."""
+    """What is known of a gateway so far. It tells a judge each moment in which a requirement can be met or broken."""
 
-    def __init__(self, prefixes, plan, tell, follows=None):
+    def __init__(self, prefixes: Prefixes, plan: Plan, judge):
         self.prefixes, self.pool, self.ends_connections = prefixes, plan.pool, plan.ends_connections
-        self.tell, self.follows = tell, follows
-        # mappings by protocol and inside endpoint, and by protocol and external endpoint; and the last mapping of each host by
-        # protocol
-        self.mappings, self.of_host = {}, {}
+        self.judge, self.tell = judge, judge.tell
+        # mappings by protocol and inside endpoint, and by protocol and external endpoint; and the last mapping of each
+        # host by protocol
+        self.mappings, self.of_host = collections.defaultdict(dict), {}
         self.lifetimes, self.filters = Lifetimes(), {UDP: Filter(), TCP: Filter()}
-        # what waits for an answer of the gateway's own, by the time of its end; refusals whose reason is known at the end
+        # what waits for an answer of the gateway's own, by the time of its end; refusals whose reason is known at the
+        # end
         self.waiting, self.undecided, self.order = [], [], itertools.count()
         self.likely = self.now = self.swept = self.largest = self.errors_of_remotes = self.lost = 0
         # endpoints from which packets left alone, and those of nobody to which packets came
         self.alone, self.nobodys = collections.Counter(), set()
 
-    def take(self, item):
+    def take(self, item: Pair | Departed):
         """Takes a pair, or what departed alone, in order of time."""
         if item.time > self.now:
             self.now = item.time
@@ -351,35 +363,41 @@ class Gateway:
                 self.sweep()
             self.take_pair(item)
 
-    def take_pair(self, pair):
-        came, way = pair.arrival, pair.way
-        self.tell(pair)
+    def take_pair(self, pair: Pair):
+        came, left, way = pair.arrival, pair.departure, pair.way
+        key = left and alike(pair)
+        if key is None or not self.judge.has_enough(key):
+            self.tell(pair, key)
         if came.pieces:
             self.tell(Fragmented(pair))
-        if came.protocol == UDP and came.may_fragment and way is OUT and pair.how is SURE:
+        if came.may_fragment and came.protocol == UDP and way is OUT and pair.how is SURE:
             self.tell(Fragmentable(pair))
-        if way is OUT and pair.departure:
-            if came.length > self.largest and not came.pieces and not pair.departure.pieces:
+        if way is OUT and left:
+            if came.length > self.largest and not came.pieces and not left.pieces:
                 self.largest = came.length
         elif way is OUT and not came.may_fragment and came.length > LEAST_MTU and came.kind in (OF_UDP, OF_TCP):
             self.wait(TooLarge(pair))
         # one that was cut may have a wrong checksum, for which it was dropped
-        if pair.how == ALTERED or came.is_cut and not pair.departure:
+        if pair.how == ALTERED or came.is_cut and not left:
             return
         if came.kind == ERROR:
             self.take_error(pair)
         elif came.kind in (OF_UDP, OF_TCP, QUERY):
             (self.take_out if way is OUT else self.take_in if way is IN else self.take_hairpin)(pair)
 
-    def with_end(self, protocol, end):
+    def with_end(self, protocol: int, end: Endpoint) -> tuple[Mapping, ...]:
         """Returns the mappings with an inside or external endpoint."""
-        return self.mappings.get(number_of_end(protocol, end), ())
+        return self.mappings[protocol].get(end, ())
 
-    def add(self, mapping):
+    def add(self, mapping: Mapping):
+        """Adds a mapping, in the place of old ones that its number had, of which some are kept."""
         for end in (mapping.inside, mapping.external):
-            self.mappings.setdefault(number_of_end(mapping.protocol, end), []).append(mapping)
+            found = self.with_end(mapping.protocol, end)
+            if end is mapping.external and len(found) >= MOST_ENDED:
+                found = tuple(it for it in found if it.must_live(mapping.first)) or found[-1:]
+            self.mappings[mapping.protocol][end] = (*found, mapping)
 
-    def doubt(self, pair):
+    def doubt(self, pair: Pair):
         """Concludes nothing from mappings whose packet it may be, since several hosts sent the same."""
         self.likely += 1
         came, left = pair.arrival, pair.departure
@@ -387,7 +405,7 @@ class Gateway:
             for it in self.with_end(came.protocol, end):
                 it.is_unsure = True
 
-    def take_alone(self, item):
+    def take_alone(self, item: Departed):
         """Takes a packet that left without having arrived."""
         packet = item.packet
         if item.is_leak:
@@ -396,7 +414,9 @@ class Gateway:
         for *_, it in self.waiting:
             if not it.answer and it.is_answer(packet):
                 it.answer = item
-        if packet.kind == OF_TCP and (packet.flags & RST or self.ends_connections) or packet.kind not in (OF_UDP, OF_TCP, QUERY):
+        if packet.kind == OF_TCP and (packet.flags & RST or self.ends_connections):
+            return
+        if packet.kind not in (OF_UDP, OF_TCP, QUERY):
             return
         end = packet.protocol, packet.source
         is_own = packet.side == "outside" and not any(it.must_live(item.time) for it in self.with_end(*end))
@@ -406,16 +426,16 @@ class Gateway:
             self.lost += 1
 
     @property
-    def lost_arrivals(self):
-        """How many packets left whose arrival is not in the captures. What leaves from an endpoint of the gateway itself, to which
-        packets come that go nowhere, does not count."""
+    def lost_arrivals(self) -> int:
+        """How many packets left whose arrival is not in the captures. What leaves from an endpoint of the gateway
+        itself, to which packets come that go nowhere, does not count."""
         return self.lost + sum(count for end, count in self.alone.items() if end not in self.nobodys)
 
-    def wait(self, moment):
+    def wait(self, moment: Waiting):
         """Waits for an answer of the gateway's own."""
         heapq.heappush(self.waiting, (moment.pair.time + moment.span, next(self.order), moment))
 
-    def end_waits(self, now):
+    def end_waits(self, now: int):
         """Tells what waited long enough for an answer."""
         while self.waiting and self.waiting[0][0] < now:
             self.tell(heapq.heappop(self.waiting)[2])
@@ -433,16 +453,14 @@ class Gateway:
 
     def sweep(self):
         """Forgets mappings that are over for long."""
-        self.swept = self.now
-        self.mappings = {end: found for end, found in self.mappings.items() if not all(self.is_over(it) for it in found)}
-        self.of_host = {key: it for key, it in self.of_host.items() if not self.is_over(it)}
-
-    def is_over(self, mapping):
-        return self.now - mapping.last_any > LEAST[mapping.age(self.now)[0]] + MARGIN
+        now = self.swept = self.now
+        for protocol, found in self.mappings.items():
+            self.mappings[protocol] = {end: it for end, it in found.items() if not all(one.is_over(now) for one in it)}
+        self.of_host = {key: it for key, it in self.of_host.items() if not it.is_over(now)}
 
     # OUT
 
-    def take_out(self, pair):
+    def take_out(self, pair: Pair):
         came = pair.arrival
         if came.kind == QUERY and came.type not in QUERIES:
             return
@@ -452,12 +470,14 @@ class Gateway:
             if not (came.protocol == TCP and self.ends_connections):
                 self.wait(Unforwarded(pair))
 
-    def leave(self, pair, remote):
+    def leave(self, pair: Pair, remote: Endpoint):
         """Takes a packet that left from an external endpoint, as a hairpin too."""
         protocol, time, external = pair.protocol, pair.time, pair.departure.source
         mine = self.with_end(protocol, pair.arrival.source)
-        mapping = mine[0] if mine and mine[0].external == external else next((it for it in mine if it.external == external), None)
-        if not mapping or not mapping.is_unsure and (len(mine) > 1 or remote not in mapping.remotes or not mapping.must_live(time)):
+        is_alone = len(mine) == 1 and mine[0].external == external
+        mapping = mine[0] if is_alone else next((it for it in mine if it.external == external), None)
+        is_usual = is_alone and remote in mapping.remotes and mapping.must_live(time)
+        if not is_usual and not (mapping and mapping.is_unsure):
             mapping = self.leave_anew(pair, remote, mapping, mine)
         if protocol == TCP and not mapping.is_unsure:
             self.session_out(mapping, pair, remote)
@@ -466,22 +486,23 @@ class Gateway:
         mapping.refused = None
         mapping.sent += 1
 
-    def leave_anew(self, pair, remote, mapping, mine):
+    def leave_anew(self, pair: Pair, remote: Endpoint, mapping: Mapping | None, mine: tuple[Mapping, ...]) -> Mapping:
         """Tells of a packet that left by a mapping that is new, or to a new remote, and returns its mapping."""
         protocol, time, inside, external = pair.protocol, pair.time, pair.arrival.source, pair.departure.source
-        others = [it for it in mine if it.external != external and not it.is_unsure and it.must_live(time)]
-        holders = self.with_end(protocol, external)
-        foreign = [it for it in holders if it.inside != inside and not it.is_unsure]
+        holders, others, foreign, live = self.with_end(protocol, external), (), (), ()
+        if mine:
+            others = [it for it in mine if it.external != external and not it.is_unsure and it.must_live(time)]
+        if holders:
+            foreign = [it for it in holders if it.inside != inside and not it.is_unsure]
+            live = [it for it in foreign if it.must_live(time)]
         is_new = mapping is None or not mapping.must_live(time)
-        it = Departure(pair, inside, external, remote, mapping, is_new, others, [it for it in foreign if it.must_live(time)])
+        it = Departure(pair, inside, external, remote, mapping, is_new, others, live)
         if is_new:
             self.add_neighbours(it, foreign)
         self.lose_others(it)
         self.tell(it)
         if mapping is None:
             mapping = Mapping(inside, external, pair)
-            if len(holders) >= MOST_ENDED:
-                holders[:] = [it for it in holders if it.must_live(time)] or holders[-1:]
             self.add(mapping)
         elif is_new:
             mapping.begin(pair)
@@ -489,22 +510,31 @@ class Gateway:
             self.of_host[inside[0], protocol] = mapping
         return mapping
 
-    def add_neighbours(self, it, foreign):
-        """Adds to a departure by a new mapping what else lives: of its host, and with the number that it may have wanted."""
+    def add_neighbours(self, it: Departure, foreign: list[Mapping]):
+        """Adds to a departure by a new mapping what else lives: of its host, and with the number that it may have
+        wanted."""
         time = it.pair.time
         if it.external[1] != it.inside[1]:
-            wanted = self.with_end(it.protocol, (it.external[0], it.inside[1]))
-            rivals = (o for o in wanted if o.inside != it.inside and not o.is_unsure and it.remote not in o.remotes)
-            it.rival = next((o for o in rivals if o.must_live(time)), None)
-        it.before = max((o for o in foreign if not o.must_live(time)), key=lambda o: o.last_out, default=None)
+            for other in self.with_end(it.protocol, (it.external[0], it.inside[1])):
+                is_foreign = other.inside != it.inside and not other.is_unsure
+                if is_foreign and it.remote not in other.remotes and other.must_live(time):
+                    it.rival = other
+                    break
+        if foreign:
+            it.before = max((o for o in foreign if o not in it.holders), key=lambda o: o.last_out, default=None)
         if len(self.pool) > 1:
-            lives = [o for protocol in (ICMP, TCP, UDP) if (o := self.of_host.get((it.inside[0], protocol))) and o.must_live(time)]
-            it.siblings = [o for o in lives if o.protocol == it.protocol and o.inside != it.inside]
-            it.cousins = [o for o in lives if o.protocol != it.protocol]
+            for protocol in PROTOCOLS:
+                other = self.of_host.get((it.inside[0], protocol))
+                if not other or not other.must_live(time):
+                    continue
+                if protocol != it.protocol:
+                    it.cousins += (other,)
+                elif other.inside != it.inside:
+                    it.siblings = (other,)
 
-    def lose_others(self, it):
-        """A remote that sees another number than before shows that the mapping of that was gone, or that there never was one
-        mapping."""
+    def lose_others(self, it: Departure):
+        """A remote that sees another number than before shows that the mapping of that was gone, or that there never
+        was one mapping."""
         for o in it.others if it.protocol != TCP or not self.ends_connections else ():
             newer = it.mapping is None or it.mapping.last_any < o.last_any
             if it.remote in o.remotes and newer and (it.pair.time - o.last_any >= SOON or o.error):
@@ -512,9 +542,9 @@ class Gateway:
                 gap = it.pair.time - (session.last if session else o.remotes[it.remote])
                 self.refuse(Incoming(it.pair, o, session, o.kind_to(it.remote), gap, gap))
 
-    def session_out(self, mapping, pair, remote):
+    def session_out(self, mapping: Mapping, pair: Pair, remote: Endpoint):
         flags, session = pair.arrival.flags, mapping.sessions.get(remote)
-        if session is None or session.is_closing and flags & (SYN | ACK) == SYN:
+        if session is None or flags & (SYN | ACK) == SYN and session.is_closing:
             session = mapping.sessions[remote] = Session()
         if session.reset and pair.way is OUT and not flags & (SYN | RST):
             self.tell(Incoming(pair, mapping, session, session.kind, is_let_in=True, cause=RESET))
@@ -524,21 +554,21 @@ class Gateway:
 
     # IN
 
-    def take_in(self, pair):
+    def take_in(self, pair: Pair):
         came = pair.arrival
         if not (came.kind == QUERY and came.type in QUERIES or came.pieces) and came.is_clean:
             remote = (came.source[0], 0) if came.kind == QUERY else came.source
             self.come(pair, remote, pair.departure and pair.departure.destination)
 
-    def come(self, pair, remote, target):
-        """Takes a packet to an external endpoint, from outside or as a hairpin, that went to an inside endpoint or nowhere."""
-        came, time = pair.arrival, pair.time
+    def come(self, pair: Pair, remote: Endpoint, target: Endpoint | None):
+        """Takes a packet to an external endpoint, from outside or as a hairpin, that went to an inside endpoint or
+        nowhere."""
+        came, time, mapping = pair.arrival, pair.time, None
         holders = self.with_end(came.protocol, came.destination)
         if came.protocol == TCP and self.ends_connections:
             if came.is_syn and not holders:
                 self.wait(Unsolicited(pair))
             return
-        mapping = None
         for it in holders:
             if it.is_unsure:
                 return
@@ -550,13 +580,13 @@ class Gateway:
             if target and (holder or live and not mapping):
                 self.tell(Incoming(pair, holder or live[0], is_known=bool(holder), cause=ELSEWHERE))
                 return
-            mapping = mapping or holder or (live or holders or [None])[-1]
+            mapping = mapping or holder or (live or holders or (None,))[-1]
         if mapping is None:
             self.come_to_nobody(pair, target)
         else:
             self.come_to(pair, mapping, remote, target)
 
-    def come_to_nobody(self, pair, target):
+    def come_to_nobody(self, pair: Pair, target: Endpoint | None):
         """A number that nobody has: it is a redirect, or was there before the captures, if something goes in by it."""
         if target:
             mapping = Mapping(target, pair.arrival.destination, pair, is_unsure=True)
@@ -568,37 +598,40 @@ class Gateway:
         if pair.arrival.is_syn:
             self.wait(Unsolicited(pair))
 
-    def come_to(self, pair, mapping, remote, target):
+    def come_to(self, pair: Pair, mapping: Mapping, remote: Endpoint, target: Endpoint | None):
         """Takes a packet to the external endpoint of a mapping."""
-        time, is_tcp, last = pair.time, mapping.protocol == TCP, mapping.remotes.get(remote)
-        if self.follows:
-            self.follows(pair, mapping, last is not None)
-        session = mapping.sessions.get(remote) if is_tcp else None
+        time, last = pair.time, mapping.remotes.get(remote)
+        self.judge.follow(pair, mapping, last is not None)
+        session = mapping.sessions.get(remote)
         quiet = time - (session.last if session else mapping.last_any)
         gap = time - (session.last if session else mapping.last_out if last is None else last)
-        it = Incoming(pair, mapping, session, mapping.kind_to(remote), gap, quiet, last is not None, bool(target))
-        if it.is_known and not target:
-            self.refuse(it)
-            return
-        if not it.is_known:
-            it.cause = STRANGER
-            if mapping.protocol in self.filters and not any(remote[0] == tried[0] for tried in mapping.tried):
-                self.note_filter(it, remote)
-        elif gap < LONGEST + MARGIN:
-            if it.kind == OF_UDP and mapping.sent == 1 and not mapping.received:
+        kind = session.kind if session else mapping.kind_to(remote)
+        is_usual = last is not None and target and session and not (
+            session.reset or mapping.error or mapping.refused or pair.arrival.flags & SYN)
+        if last is not None and target and gap < LONGEST + MARGIN:
+            if kind == OF_UDP and mapping.sent == 1 and not mapping.received:
                 self.lifetimes.alive_alone = max(self.lifetimes.alive_alone, quiet)
-            if quiet > self.lifetimes.longest(it.kind):
-                self.lifetimes.alive[it.kind] = (quiet, mapping.last_pair, pair)
-        self.tell(it)
+            if quiet > self.lifetimes.longest(kind):
+                self.lifetimes.alive[kind] = (quiet, mapping.last_pair, pair)
+        if not (is_usual and self.judge.has_enough(USUAL)):
+            it = Incoming(pair, mapping, session, kind, gap, quiet, last is not None, bool(target))
+            if not target and it.is_known:
+                self.refuse(it)
+                return
+            if not it.is_known:
+                it.cause = STRANGER
+                if mapping.protocol in self.filters and not any(remote[0] == tried[0] for tried in mapping.tried):
+                    self.note_filter(it, remote)
+            self.tell(it, USUAL if is_usual else None)
         if not target:
             mapping.refused = pair
             return
         mapping.use(pair, remote)
         mapping.received += 1
-        if is_tcp:
+        if mapping.protocol == TCP:
             (session or mapping.sessions.setdefault(remote, Session())).take(pair, False)
 
-    def note_filter(self, it, remote):
+    def note_filter(self, it: Incoming, remote: Endpoint):
         """Notes whether a stranger was let in by a mapping that must be live."""
         is_syn, (kind, age) = it.pair.arrival.is_syn, it.mapping.age(it.pair.time)
         if it.protocol == TCP and not is_syn or not it.is_let_in and age > max(self.lifetimes.longest(kind), SURELY):
@@ -608,7 +641,7 @@ class Gateway:
         if is_syn and not it.is_let_in:
             self.wait(Unsolicited(it.pair))
 
-    def refuse(self, it):
+    def refuse(self, it: Incoming):
         """Finds why a packet of a known remote did not come in, or keeps the question until the end."""
         session, came, is_soon, it.holder = it.session, it.pair.arrival, it.gap < SOON, it.mapping.last_pair
         of_segment = session if it.pair.way is not OUT else None
@@ -640,17 +673,17 @@ class Gateway:
             if len(self.undecided) > MOST_UNDECIDED:
                 heapq.heappop(self.undecided)
 
-    def cause_at_end(self, it):
-        """Returns why a packet of a known remote did not come in, by the lifetimes that were seen until the end: an error, or a
-        packet out that did not refresh, if others lived as long without."""
+    def cause_at_end(self, it: Incoming) -> str:
+        """Returns why a packet of a known remote did not come in, by the lifetimes that were seen until the end: an
+        error, or a packet out that did not refresh, if others lived as long without."""
         seen = {AFTER_ERROR: self.lifetimes.longest(it.kind), UNREFRESHED: self.lifetimes.alive_alone}
         return it.cause if it.gap <= seen[it.cause] else TIMER
 
     # HAIRPINS AND ERRORS
 
-    def take_hairpin(self, pair):
+    def take_hairpin(self, pair: Pair):
         came, left, time = pair.arrival, pair.departure, pair.time
-        if came.kind not in (OF_UDP, OF_TCP) or not came.is_clean or came.protocol == TCP and self.ends_connections:
+        if came.kind == QUERY or not came.is_clean or came.protocol == TCP and self.ends_connections:
             return
         owner = next((it for it in self.with_end(came.protocol, came.destination) if it.must_live(time)), None)
         if not owner or owner.is_unsure:
@@ -658,14 +691,15 @@ class Gateway:
         senders = self.with_end(came.protocol, came.source)
         for it in senders:
             it.tried = {*it.tried, came.destination}
-        mine, is_untranslated = [it for it in senders if it.must_live(time)], bool(left) and left.source[0] in self.prefixes
+        mine = [it for it in senders if it.must_live(time)]
+        is_untranslated = bool(left) and left.source[0] in self.prefixes
         if left or came.protocol != TCP or came.is_syn:
             self.tell(Turned(pair, owner, mine, open_for(senders, owner), is_untranslated))
         if left and not is_untranslated:
             self.leave(pair, came.destination)
             self.come(pair, left.source, left.destination)
 
-    def take_error(self, pair):
+    def take_error(self, pair: Pair):
         came, left, quoted, time = pair.arrival, pair.departure, pair.arrival.quoted, pair.time
         if not came.header_ok or quoted.protocol == TCP and self.ends_connections:
             return
@@ -686,29 +720,34 @@ class Gateway:
         elif left and live:
             it.is_right = any(o.external == left.quoted.destination for o in with_it)
             it.is_own_source = left.source[0] in self.pool
-        if self.follows and pair.way is IN and with_it:
-            self.follows(pair, it.mapping or with_it[-1], True)
+        if pair.way is IN and with_it:
+            self.judge.follow(pair, it.mapping or with_it[-1], True)
         self.tell(it)
         noted = it.host if left else live if quoted.protocol == UDP and it.is_from_remote else None
         if pair.way is IN and noted and not is_bad:
             noted.error = pair
 
-    def take_turned_error(self, it, senders):
+    def take_turned_error(self, it: Error, senders: list[Mapping]):
         """Finds whose an error about a hairpin is, and returns whether it is one."""
         quoted, left = it.pair.arrival.quoted, it.pair.departure
-        it.mapping = next((o for o in self.with_end(quoted.protocol, quoted.source) if o.must_live(it.pair.time)), None)
+        owners = self.with_end(quoted.protocol, quoted.source)
+        it.mapping = next((o for o in owners if o.must_live(it.pair.time)), None)
         if left and it.mapping:
             ends = (left.quoted.source, left.destination[0]) == (it.mapping.inside, it.mapping.inside[0])
             it.is_right = ends and any(o.external == left.quoted.destination for o in senders)
         return senders and it.mapping
 
 
-def number_of_end(protocol, end):
-    """Returns an endpoint as a number, which takes less memory than a tuple, and less time to look for."""
-    return protocol << 48 | end[0] << 16 | end[1]
+def alike(pair: Pair) -> tuple:
+    """Returns what all pairs have that no rule about pairs can tell from this one."""
+    came, left = pair.arrival, pair.departure
+    return (
+        pair.way, pair.how, pair.protocol, came.kind, came.sum_ok, left.sum_ok, came.is_offloaded, left.is_offloaded,
+        left.header_ok, came.ttl - left.ttl, came.may_fragment == left.may_fragment, came.payload == left.payload,
+        came.payload > 0 and came.destination[1] in GATEWAY_PORTS)
 
 
-def open_for(senders, owner):
+def open_for(senders: list[Mapping], owner: Mapping) -> tuple:
     """Returns the kinds of filtering under which a mapping lets in one of the senders."""
     if any(it.external in owner.remotes or it.external in owner.tried for it in senders):
         return INDEPENDENT, ADDRESS, ADDRESS_PORT, None
@@ -717,6 +756,6 @@ def open_for(senders, owner):
     return (INDEPENDENT,)
 
 
-def is_sent_alone(mapping):
+def is_sent_alone(mapping: Mapping) -> bool:
     """Whether only packets out can have kept it."""
     return mapping.protocol == UDP and mapping.sent > 1 and not mapping.received

@@ -1,10 +1,13 @@
 """The judge: captures of both sides in, a row for each requirement out."""
 import collections
+import copy
+import dataclasses
 import itertools
+from collections.abc import Iterator
 
-from judging.gateway import Gateway, Incoming
-from judging.packets import PROTOCOLS, dotted
-from judging.pairing import Pair, Pairing
+from judging.gateway import Gateway, Incoming, Mapping
+from judging.packets import PROTOCOLS, Plan, dotted
+from judging.pairing import Departed, Given, Pair, Pairing
 from judging.requirements import REQUIREMENTS
 from judging.rows import MOST_KEPT
 from judging.rules import End, Rules
@@ -14,7 +17,7 @@ from reading.captures import SECOND
 class Judge:
     """Judges the pairs of two captures."""
 
-    def __init__(self, given, plan, keeps_data=False):
+    def __init__(self, given: Given, plan: Plan, keeps_data: bool = False):
         self.given, self.plan = given, plan
         self.inside, self.outside = given.sides(plan, keeps_data)
         self.rows = {it.name: Rules(it) for it in REQUIREMENTS}
@@ -23,38 +26,42 @@ class Judge:
         for it in REQUIREMENTS:
             for moment, protocol in itertools.product(it.moments, (*PROTOCOLS, None)):
                 if it.protocol in (None, protocol) or moment is End:
-                    self.rules[moment, protocol].append(getattr(self.rows[it.name], it.rule))
-        # of what is alike the first one, and how many they are: the rules judge some, and one for all others
+                    self.rules[moment, protocol].append(getattr(self.rows[it.name], it.method))
+        # of what is alike how many they are, and the first one: the rules judge some, and that for all others
         self.alike = {}
-        self.gateway = Gateway(given.prefixes, plan, self.tell, self.follow)
+        self.gateway = Gateway(given.prefixes, plan, self)
         self.pairing = Pairing(given.prefixes, plan, self.take)
 
-    def take(self, item):
-        """Takes a pair, or what departed alone."""
+    def take(self, item: Pair | Departed):
         self.gateway.take(item)
 
-    def follow(self, pair, mapping, is_known):
-        """Takes a packet from outside with the mapping that its number stands for; is_known: something was sent to its remote
-        before."""
+    def follow(self, pair: Pair, mapping: Mapping, is_known: bool):
+        """Takes a packet from outside with the mapping that its number stands for; is_known: something was sent to its
+        remote before."""
 
-    def tell(self, moment):
-        if type(moment) in (Pair, Incoming) and (key := moment.alike()):
-            if (group := self.alike.get(key)) is None:
-                group = self.alike[key] = [moment.as_it_was(), 0]
-            group[1] += 1
-            if group[1] > MOST_KEPT:
-                return
+    def has_enough(self, key: object) -> bool:
+        """Counts one more moment with a key, and returns whether enough of them were told."""
+        if (group := self.alike.get(key)) is None:
+            return False
+        group[0] += 1
+        return group[0] > MOST_KEPT
+
+    def tell(self, moment, key: object = None):
+        """Judges a moment. Of those with one key no rule tells one from another."""
+        if key and key not in self.alike:
+            self.alike[key] = [1, as_it_was(moment)]
         self.judge(moment)
 
     def judge(self, moment):
-        for rule in self.rules[type(moment), moment.protocol if moment.protocol in PROTOCOLS else None]:
+        kind, protocol = type(moment), moment.protocol
+        for rule in self.rules[kind, protocol if protocol in PROTOCOLS else None]:
             rule(moment)
 
-    def run(self):
+    def run(self) -> "Judge":
         """Reads both captures to their ends, and returns itself."""
-        self.pairing.run(self.inside.packets(), self.outside.packets())
+        self.pairing.run(self.inside.streams() + self.outside.streams())
         self.gateway.end()
-        for moment, count in self.alike.values():
+        for count, moment in self.alike.values():
             if count > MOST_KEPT:
                 self.weigh(count - MOST_KEPT)
                 self.judge(moment)
@@ -62,29 +69,37 @@ class Judge:
         for row in self.rows.values():
             row.is_whole = not self.gateway.lost_arrivals
             row.resolve(self.gateway.lifetimes)
-        self.tell(End(self.gateway, self.rows, self.plan, self.given.filtering))
+        self.judge(End(self.gateway, self.rows, self.plan, self.given.filtering))
         for row in self.rows.values():
             row.resolve(self.gateway.lifetimes)
             if self.gateway.ends_connections and row.requirement.is_of_segments:
                 row.needs = "a gateway that translates segments: this one ends connections itself"
         return self
 
-    def weigh(self, weight):
+    def weigh(self, weight: int):
         for row in self.rows.values():
             row.weight = weight
 
-    def notes(self):
+    def notes(self) -> Iterator[str]:
         """Yields what is to be known of the captures beside the verdicts, line by line."""
-        addresses = ", ".join(dotted(it) for it in sorted(self.plan.pool))
-        yield f"{self.inside.read + self.outside.read} packets, {self.pairing.pairs} pairs; external addresses: {addresses}"
+        count, addresses = self.inside.read + self.outside.read, ", ".join(map(dotted, sorted(self.plan.pool)))
+        yield f"{count} packets, {self.pairing.pairs} pairs; external addresses: {addresses}"
         if self.plan.ahead:
             yield f"the outside clock is {self.plan.ahead / SECOND:.3f} s ahead"
         for found, what in (
             (self.gateway.lost_arrivals,
              "packets left without having arrived: the captures are not whole, and missing packets accuse nobody"),
             (self.gateway.likely, "pairs are not sure, since several hosts sent the same: they are left out"),
-            (self.pairing.not_judged, "packets arrived at the end, of which nothing left any more: they are not judged"),
+            (self.pairing.not_judged,
+             "packets arrived at the end, of which nothing left any more: they are not judged"),
             (self.inside.doubles + self.outside.doubles, "packets are there twice, and taken once"),
         ):
             if found:
                 yield f"{found} {what}"
+
+
+def as_it_was(moment):
+    """Returns a moment with its mapping and session as they are now."""
+    if type(moment) is Incoming:
+        return dataclasses.replace(moment, mapping=copy.copy(moment.mapping), session=copy.copy(moment.session))
+    return moment

@@ -1,17 +1,19 @@
 """The log of a gateway's own mappings, from its pairs alone, in the format of `explain log` (docs/FORMATS.md)."""
 import csv
 import dataclasses
+from collections.abc import Iterator
+from typing import TextIO
 
-from judging.gateway import LEAST, OF_ICMP, OF_UDP, TRANSITORY
+from judging.gateway import LEAST, OF_ICMP, TRANSITORY
 from judging.judge import Judge
-from judging.packets import ICMP, OF_TCP, QUERY, TCP, UDP, dotted
-from judging.pairing import CONNECTION, IN, OUT, SURE
+from judging.packets import ICMP, OF_TCP, OF_UDP, QUERY, TCP, UDP, Endpoint, Packet, Plan, dotted
+from judging.pairing import CONNECTION, IN, OUT, SURE, Departed, Given, Pair
 from reading.captures import date
 
 FIELDS = (
     "observationTimeNanoseconds", "time", "natEvent", "protocolIdentifier", "sourceIPv4Address", "sourceTransportPort",
-    "postNATSourceIPv4Address", "postNAPTSourceTransportPort", "natQuotaExceededEvent", "binding", "redirect", "packets_out",
-    "packets_in", "flowEndNanoseconds", "last_use",
+    "postNATSourceIPv4Address", "postNAPTSourceTransportPort", "natQuotaExceededEvent", "binding", "redirect",
+    "packets_out", "packets_in", "flowEndNanoseconds", "last_use",
 )
 MADE, ENDED = 8, 9
 # what each row has in a field that only quotas use, and that nothing reads
@@ -26,14 +28,14 @@ class Entry:
 
     number: int
     protocol: int
-    inside: tuple
-    external: tuple
+    inside: Endpoint
+    external: Endpoint
     first: int
     last: int
     sent: int = 0
     received: int = 0
 
-    def row(self, event):
+    def row(self, event: int) -> tuple:
         """Returns the row of its making, with its first packet, or of its end, with all."""
         is_made = event == MADE
         time, last = (self.first, self.first) if is_made else (self.last + 1, self.last)
@@ -43,24 +45,24 @@ class Entry:
 
 
 class Log(Judge):
-    """A judge that keeps entries. Between the first and the last packet of an entry its host had the number for sure: nobody else
-    sent by it, or was sent to, and it was never silent for as long as a timer may be. When the gateway ended it no capture
-    shows."""
+    """A judge that keeps entries. Between the first and the last packet of an entry its host had the number for sure:
+    nobody else sent by it, or was sent to, and it was never silent for as long as a timer may be. When the gateway
+    ended it no capture shows."""
 
-    def __init__(self, given, plan):
+    def __init__(self, given: Given, plan: Plan):
         super().__init__(given, plan)
         self.open, self.entries = {}, []
 
-    def take(self, item):
+    def take(self, item: Pair | Departed):
         super().take(item)
-        if item.departure and item.how in (SURE, CONNECTION) and item.arrival.kind in (OF_TCP, "udp", QUERY):
+        if item.departure and item.how in (SURE, CONNECTION) and item.arrival.kind in (OF_TCP, OF_UDP, QUERY):
             came, left = item.arrival, item.departure
             if item.way is not IN and left.source[0] not in self.given.prefixes:
                 self.use(came, left, came.source, left.source, True)
             if item.way is not OUT:
                 self.use(came, left, left.destination, came.destination, False)
 
-    def use(self, came, left, inside, external, is_out):
+    def use(self, came: Packet, left: Packet, inside: Endpoint, external: Endpoint, is_out: bool):
         """An entry is used from when a packet arrived to when it left."""
         key, times = (came.protocol, external), sorted((came.time, left.time))
         entry = self.open.get(key)
@@ -71,7 +73,11 @@ class Log(Judge):
         entry.sent += is_out
         entry.received += not is_out
 
-    def write(self, file):
+    def notes(self) -> Iterator[str]:
+        yield from super().notes()
+        yield "the log is inferred from pairs: an entry is sure from its first packet to its last use"
+
+    def write(self, file: TextIO):
         """Writes all rows in order of time, ends first."""
         rows = [entry.row(event) for entry in self.entries for event in (MADE, ENDED)]
         writer = csv.writer(file, lineterminator="\n")

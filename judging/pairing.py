@@ -1,21 +1,24 @@
 """Pairs what arrived at a gateway with what left it, while both captures are read."""
 import collections
 import dataclasses
+import functools
 import itertools
 import statistics
+from collections.abc import Callable, Iterator
 from typing import NamedTuple
 
-from judging.packets import ERROR, OF_TCP, OF_UDP, SIDES, Prefixes, Side, ends_text, endpoint_text, named
+from judging.packets import ERROR, OF_TCP, OF_UDP, SIDES, Endpoint, Packet, Plan, Prefixes, Side
+from judging.packets import endpoint_text, ends_text, named
 from reading.captures import BAD_WORDS, SECOND, Fault
 
 OUT, IN, HAIRPIN = "out", "in", "hairpin"
-# how a departure was found: alone with its content; the most likely of several; as the SYN of a gateway that ends connections
-# itself; or with another payload
+# how a departure was found: alone with its content; the most likely of several; as the SYN of a gateway that ends
+# connections itself; or with another payload
 SURE, LIKELY, CONNECTION, ALTERED = "sure", "likely", "connection", "altered"
 # a packet leaves within so long after it arrived, and where there are two clocks, which may drift, so long before
 WINDOW, ONE_CLOCK, TWO_CLOCKS = 2 * SECOND, SECOND // 500, SECOND // 20
-# of a gateway that has ended: so many arrivals and so long at the end, of which nothing leaves; and how many are kept until it is
-# known
+# of a gateway that has ended: so many arrivals and so long at the end, of which nothing leaves; and how many are kept
+# until it is known
 FEW_SILENT, LONG_SILENT, MOST_SILENT = 20, 5 * SECOND, 10_000
 # a gateway keeps identifications where it kept so many times more of them than it changed
 KEEPS = 20
@@ -26,15 +29,16 @@ SAMPLE = 10_000
 
 
 class Pair:
-    """An arrival and its departure, where it has one. `leak` is what left to the outside in the place of that: the packet as it
-    came, or a hairpin that did not turn back. `made` is what a gateway made of the pieces of a datagram that it did not put
-    together."""
+    """An arrival and its departure, where it has one. `leak` is what left to the outside in the place of that: the
+    packet as it came, or a hairpin that did not turn back. `made` is what a gateway made of the pieces of a datagram
+    that it did not put together."""
 
     __slots__ = ("time", "way", "arrival", "protocol", "departure", "how", "leak", "made", "key")
 
-    def __init__(self, way, arrival, key=None):
-        self.time, self.way, self.arrival, self.protocol, self.key = arrival.time, way, arrival, arrival.protocol, key
-        self.departure, self.how, self.leak, self.made = None, None, None, ()
+    def __init__(self, way: str, arrival: Packet, key: tuple | None = None):
+        self.time, self.way, self.arrival = arrival.time, way, arrival
+        self.protocol, self.departure, self.how = arrival.protocol, None, None
+        self.leak, self.made, self.key = None, (), key
 
     @property
     def places(self):
@@ -42,28 +46,16 @@ class Pair:
         left = self.departure or self.leak
         return self.arrival.place, left and left.place
 
-    def text(self):
+    def text(self) -> str:
         """Returns the pair as the table shows it: the numbers of both packets, and what was changed."""
         came, left = self.arrival, self.departure
         if not left:
-            return f"{came.name} ({came.text()}): {f'left to the outside, {self.leak.name}' if self.leak else 'nothing left'}"
+            fate = f"left to the outside, {self.leak.name}" if self.leak else "nothing left"
+            return f"{came.name} ({came.text()}): {fate}"
+        changed = f"to {endpoint_text(left.destination)}" if self.way is IN else f"as {endpoint_text(left.source)}"
         if came.kind == ERROR or self.way is HAIRPIN:
             changed = f"> {left.text()}"
-        else:
-            changed = f"as {endpoint_text(left.source)}" if self.way is OUT else f"to {endpoint_text(left.destination)}"
         return f"{came.name}>{left.name} ({came.text()} {changed})"
-
-
-    def alike(self):
-        """Returns what all pairs have that no rule about pairs can tell from this one."""
-        came, left = self.arrival, self.departure
-        return left and (
-            self.way, self.how, self.protocol, came.kind, came.sum_ok, left.sum_ok, came.is_offloaded, left.is_offloaded,
-            left.header_ok, came.ttl - left.ttl, came.may_fragment, left.may_fragment, came.payload == left.payload,
-            came.payload > 0 and came.destination[1] in GATEWAY_PORTS)
-
-    def as_it_was(self):
-        return self
 
 
 class Departed:
@@ -71,26 +63,27 @@ class Departed:
 
     departure = leak = None
 
-    def __init__(self, packet, is_leak=False):
-        self.time, self.packet, self.protocol, self.is_leak, self.is_claimed = packet.time, packet, packet.protocol, is_leak, False
+    def __init__(self, packet: Packet, is_leak: bool = False):
+        self.time, self.packet, self.protocol = packet.time, packet, packet.protocol
+        self.is_leak, self.is_claimed = is_leak, False
 
     @property
     def places(self):
         return None, self.packet.place
 
-    def text(self):
+    def text(self) -> str:
         return f"{self.packet.name} ({self.packet.text()})"
 
 
 class Seen(NamedTuple):
-    """A packet that went through a mapping before: its way, ends and flags, the end that it got, its time, and the files and
-    numbers of arrival and departure."""
+    """A packet that went through a mapping before: its way, ends and flags, the end that it got, its time, and the
+    files and numbers of arrival and departure."""
 
     way: str
     protocol: int
-    source: tuple
-    destination: tuple
-    end: tuple
+    source: Endpoint
+    destination: Endpoint
+    end: Endpoint
     flags: int
     time: int
     numbers: list
@@ -100,29 +93,16 @@ class Seen(NamedTuple):
         sides = {OUT: SIDES, IN: SIDES[::-1], HAIRPIN: ("inside", "inside")}[self.way]
         return [(side, *self.numbers[at : at + 2]) for side, at in zip(sides, (0, 2))]
 
-    def text(self):
+    def text(self) -> str:
+        changed = f"{'to' if self.way is IN else 'as'} {endpoint_text(self.end)}"
         ends = ends_text(self.protocol, self.source, self.destination, self.flags)
-        return f"{'>'.join(named(*it) for it in self.places)} ({ends} {'to' if self.way is IN else 'as'} {endpoint_text(self.end)})"
-
-
-@dataclasses.dataclass
-class Plan:
-    """What is known before captures are paired: the pool, how far the outside clock is ahead, in nanoseconds, how deep payloads are
-    compared, which sides have each packet twice, whether the gateway ends connections itself and makes its own, and whether one
-    file is of both sides, so that a leak cannot be told."""
-
-    pool: set
-    ahead: int = 0
-    depth: int | None = None
-    doubles: tuple = ()
-    ends_connections: bool = False
-    is_one_file: bool = False
+        return f"{'>'.join(named(*it) for it in self.places)} ({ends} {changed})"
 
 
 @dataclasses.dataclass
 class Given:
-    """What is judged: the files of each side, the inside prefixes, and what the user knows: the pool, the kind of filtering that
-    was configured, and the names of the interfaces of both sides in the captures."""
+    """What is judged: the files of each side, the inside prefixes, and what the user knows: the pool, the kind of
+    filtering that was configured, and the names of the interfaces of both sides in the captures."""
 
     inside: list
     outside: list
@@ -132,22 +112,18 @@ class Given:
     interfaces: tuple = (None, None)
     is_one_file: bool = False
 
-    def sides(self, plan=None, keeps_data=False):
-        """Opens the captures, and returns both sides."""
-        sides = [Side(*it, keeps_data) for it in zip(SIDES, (self.inside, self.outside), self.interfaces)]
-        for side in sides if plan else ():
-            side.depth, side.is_double, side.ahead = plan.depth, side.name in plan.doubles, plan.ahead * (side.name == "outside")
-        return sides
+    def sides(self, plan: Plan, keeps_data: bool = False) -> list[Side]:
+        return [Side(*it, plan, keeps_data) for it in zip(SIDES, (self.inside, self.outside), self.interfaces)]
 
-    def plan(self):
-        """Finds what is to be known before both sides are paired, from the first packets of each. Where they are the other way
-        round, or have nothing in common, a fault says so."""
-        sides = self.sides()
+    def plan(self) -> Plan:
+        """Finds what is to be known before both sides are paired, from the first packets of each. Where they are the
+        other way round, or have nothing in common, a fault says so."""
+        sides = self.sides(Plan(set()))
         packets = [sampled(it) for it in sides]
         pool = self.pool or pool_of(*packets, self.prefixes)
         if not pool and all(packets):
             # one may begin long before the other
-            sides, begin = self.sides(), max(it[0].time for it in packets)
+            sides, begin = self.sides(Plan(set())), max(it[0].time for it in packets)
             packets = [sampled(it, begin - 10 * SECOND) for it in sides]
             pool = pool_of(*packets, self.prefixes)
         if not pool:
@@ -158,14 +134,29 @@ class Given:
         return Plan(set(pool), ahead, depth, doubles, is_ending, self.is_one_file)
 
 
-def sampled(side, begin=0):
+def merged(first: Iterator[Packet], second: Iterator[Packet]) -> Iterator[Packet]:
+    """Yields the packets of two captures by time (in half of the time of heapq.merge)."""
+    one, other = next(first, None), next(second, None)
+    while one and other:
+        if one.time <= other.time:
+            yield one
+            one = next(first, None)
+        else:
+            yield other
+            other = next(second, None)
+    yield from filter(None, (one, other))
+    yield from first
+    yield from second
+
+
+def sampled(side: Side, begin: int = 0) -> list[Packet]:
     """Returns the first packets of a side from a time on."""
-    return list(itertools.islice((it for it in side.packets() if it.time >= begin), SAMPLE))
+    return list(itertools.islice((it for it in functools.reduce(merged, side.streams()) if it.time >= begin), SAMPLE))
 
 
-def pool_of(inside, outside, prefixes):
-    """Returns the external addresses: the sources at the outside of what, but for its source, was sent inside; of a gateway that
-    ends connections itself, of SYNs to the same remote."""
+def pool_of(inside: list[Packet], outside: list[Packet], prefixes: Prefixes) -> set[int]:
+    """Returns the external addresses: the sources at the outside of what, but for its source, was sent inside; of a
+    gateway that ends connections itself, of SYNs to the same remote."""
     sent = [it for it in inside if it.source[0] in prefixes]
     left = [it for it in outside if it.source[0] not in prefixes]
     keys, ends = {it.key(True) for it in sent}, {it.destination for it in sent if it.is_syn}
@@ -174,9 +165,9 @@ def pool_of(inside, outside, prefixes):
     return {address for address, count in found.items() if count * 1000 >= max(found.values())}
 
 
-def ahead_of(inside, outside, prefixes, pool):
-    """Returns how far the outside clock is ahead, from contents that are at each side once: half of the difference of both
-    delays."""
+def ahead_of(inside: list[Packet], outside: list[Packet], prefixes: Prefixes, pool: set[int]) -> int:
+    """Returns how far the outside clock is ahead, from contents that are at each side once: half of the difference of
+    both delays."""
     delays = []
     for is_out in (True, False):
         places = [collections.defaultdict(list), collections.defaultdict(list)]
@@ -193,56 +184,58 @@ def ahead_of(inside, outside, prefixes, pool):
     return int(delays[0]) if delays and abs(delays[0]) > SECOND else 0
 
 
-def ends_connections(inside, outside, prefixes):
-    """Whether a gateway ends connections itself: its SYNs are none that inside hosts sent, but go to the same remotes."""
+def ends_connections(inside: list[Packet], outside: list[Packet], prefixes: Prefixes) -> bool:
+    """Whether a gateway ends connections itself: its SYNs are none of inside hosts, but go to the same remotes."""
     syns = [it for it in inside if it.is_syn and it.source[0] in prefixes]
     left = [it for it in outside if it.is_syn and it.source[0] not in prefixes]
-    ends = {it.destination for it in syns}
-    return not {it.key(True) for it in syns} & {it.key(True) for it in left} and any(it.destination in ends for it in left)
+    ends, keys = {it.destination for it in syns}, {it.key(True) for it in syns}
+    return keys.isdisjoint(it.key(True) for it in left) and any(it.destination in ends for it in left)
 
 
-def share_of_doubles(packets):
+def share_of_doubles(packets: list[Packet]) -> float:
     """Returns which part of packets has an equal one just before it."""
     seen, count = {}, 0
     for it in packets:
-        key = (it.source, it.destination, it.identification, it.ttl, it.kind, it.content())
+        key = (it.source, it.destination, it.identification, it.ttl, it.kind, it.content)
         count += it.time - seen.get(key, -SECOND) <= SECOND // 1000
         seen[key] = it.time
     return count / max(len(packets), 1)
 
 
-def refuse(packets, prefixes):
+def refuse(packets: list[list[Packet]], prefixes: Prefixes):
     """Says why there are no pairs."""
     ends = [sum(it.source[0] in prefixes or it.destination[0] in prefixes for it in side) for side in packets]
     for side, name in zip(packets, SIDES):
         if not side:
             raise Fault(BAD_WORDS, f"the captures of --{name} have no packet of IPv4")
     if ends[1] > ends[0]:
-        raise Fault(BAD_WORDS, "--outside has more packets from or to --inside-prefix than --inside: the sides seem to be swapped")
-    if not ends[0]:
-        raise Fault(BAD_WORDS, "the captures of --inside have no packet from or to --inside-prefix")
-    raise Fault(BAD_WORDS, "nothing that inside hosts sent is in the captures of --outside: they are not of one gateway and time")
+        why = "--outside has more packets from or to --inside-prefix than --inside: the sides seem to be swapped"
+    elif not ends[0]:
+        why = "the captures of --inside have no packet from or to --inside-prefix"
+    else:
+        why = "nothing that inside hosts sent is in the captures of --outside: they are not of one gateway and time"
+    raise Fault(BAD_WORDS, why)
 
 
 class Pairing:
-    """Pairs the packets of both sides. `take` gets pairs in the order in which they arrived, and what departed alone in its place,
-    each once it is known what became of it: what has not left within the window never will."""
+    """Pairs the packets of both sides. `take` gets pairs in the order in which they arrived, and what departed alone
+    in its place, each once it is known what became of it: what has not left within the window never will."""
 
-    def __init__(self, prefixes, plan, take):
+    def __init__(self, prefixes: Prefixes, plan: Plan, take: Callable):
         self.prefixes, self.plan, self.pool, self.take = prefixes, plan, plan.pool, take
         # what waits for its departure, by its content
         self.waiting = {OUT: {}, IN: {}, HAIRPIN: {}}
         self.departures, self.queue, self.silent = collections.deque(), collections.deque(), []
-        # what has departed alone, by what an application gateway leaves, or by the remote of a SYN; and arrivals in pieces
+        # what has departed alone, by what an application gateway leaves, or by the remote of a SYN; arrivals in pieces
         self.alone, self.in_pieces = collections.defaultdict(list), []
         # how many identifications were changed, and how many kept
         self.identifications = [0, 0]
         self.pairs = self.not_judged = 0
 
-    def run(self, inside, outside):
+    def run(self, streams: list[Iterator[Packet]]):
         """Pairs the packets of both sides until they end."""
         departures, queue, slack = self.departures, self.queue, TWO_CLOCKS if self.plan.ahead else ONE_CLOCK
-        for packet in merged(inside, outside):
+        for packet in functools.reduce(merged, streams):
             now = packet.time
             while departures and departures[0].time + slack <= now:
                 self.depart(departures.popleft())
@@ -261,14 +254,35 @@ class Pairing:
             self.silent.clear()
         self.take_silent()
 
+    def take_inside(self, packet: Packet):
+        destination = packet.destination[0]
+        is_from, is_to = self.prefixes[packet.source[0]], self.prefixes[destination]
+        if is_from and not is_to and (destination in self.pool or is_forwarded(destination)):
+            # one that the machine itself sent was captured at its other interface
+            if not packet.is_sent:
+                self.arrive(HAIRPIN if destination in self.pool else OUT, packet)
+        elif is_to and packet.is_sent is not False:
+            self.departures.append(packet)
+
+    def take_outside(self, packet: Packet):
+        source, destination = packet.source[0], packet.destination[0]
+        is_from = self.prefixes[source]
+        if self.prefixes[destination] or is_from and (packet.is_sent is False or self.plan.is_one_file):
+            return
+        if not is_from and source not in self.pool and destination in self.pool:
+            self.arrive(IN, packet)
+        else:
+            # where neither is in the pool, the source may be an address of it that was not seen yet
+            self.departures.append(packet)
+
     def take_silent(self):
         for item in self.silent:
             self.take(item)
         self.silent.clear()
 
-    def decide(self, item):
-        """Hands on an item whose fate is known. Arrivals of which nothing left, and the gateway's own packets after them, wait
-        until something leaves again."""
+    def decide(self, item: Pair | Departed):
+        """Hands on an item whose fate is known. Arrivals of which nothing left, and the gateway's own packets after
+        them, wait until something leaves again."""
         if item.departure and not self.silent and not item.arrival.pieces:
             self.pairs += 1
             self.take(item)
@@ -285,105 +299,85 @@ class Pairing:
             if item.is_claimed or not item.is_leak and self.is_made_of_pieces(item):
                 return
             is_silent = bool(self.silent) and not item.is_leak
-        if is_silent and len(self.silent) < MOST_SILENT:
-            self.silent.append(item)
-        elif is_silent:
-            self.not_judged += 1
-        else:
+        if not is_silent:
             if self.silent:
                 self.take_silent()
             self.take(item)
-
-    def take_inside(self, packet):
-        destination = packet.destination[0]
-        is_from, is_to = self.prefixes[packet.source[0]], self.prefixes[destination]
-        if is_from and not is_to and (destination in self.pool or is_forwarded(destination)):
-            # one that the machine itself sent was captured at its other interface
-            if not packet.is_sent:
-                self.arrive(HAIRPIN if destination in self.pool else OUT, packet)
-        elif is_to and packet.is_sent is not False:
-            self.departures.append(packet)
-
-    def take_outside(self, packet):
-        source, destination = packet.source[0], packet.destination[0]
-        is_from = self.prefixes[source]
-        if self.prefixes[destination] or is_from and (packet.is_sent is False or self.plan.is_one_file):
-            return
-        if not is_from and source not in self.pool and destination in self.pool:
-            self.arrive(IN, packet)
+        elif len(self.silent) < MOST_SILENT:
+            self.silent.append(item)
         else:
-            # where neither is in the pool, the source may be an address of it that was not seen yet
-            self.departures.append(packet)
+            self.not_judged += 1
 
-    def arrive(self, way, packet):
-        key = packet.content() if way is HAIRPIN else packet.key(way is OUT)
+    def arrive(self, way: str, packet: Packet):
+        key = packet.content if way is HAIRPIN else packet.key(way is OUT)
         pair = Pair(way, packet, key)
         self.queue.append(pair)
         if packet.pieces:
             self.in_pieces.append(pair)
         self.waiting[way].setdefault(key, []).append(pair)
 
-    def depart(self, packet):
+    def depart(self, packet: Packet):
         """Finds the arrival of a packet that left."""
         source, destination = packet.source[0], packet.destination[0]
+        is_inside, pair = self.prefixes[source], None
         if packet.side == "outside":
-            if self.prefixes[source]:
+            if is_inside:
                 self.leak(packet)
             elif pair := self.chosen(OUT, packet.key(True), packet):
                 pair.departure = packet
                 self.pool.add(source)
             elif source in self.pool:
-                if destination in self.pool and (pair := self.chosen(HAIRPIN, packet.content(), packet)):
+                if destination in self.pool and (pair := self.chosen(HAIRPIN, packet.content, packet)):
                     pair.leak, pair.how = packet, None
                 else:
                     self.leave_alone(packet)
             return
-        pair, is_between = None, self.prefixes[source]
-        if is_between or source in self.pool:
-            pair = self.chosen(HAIRPIN, packet.content(), packet)
-        if not pair and not is_between:
+        if is_inside or source in self.pool:
+            pair = self.chosen(HAIRPIN, packet.content, packet)
+        if not pair and not is_inside:
             pair = self.chosen(IN, packet.key(False), packet)
         if pair:
             pair.departure = packet
-        elif not is_between or packet.kind == ERROR:
+        elif not is_inside or packet.kind == ERROR:
             self.leave_alone(packet)
 
-    def chosen(self, way, key, packet):
-        """Returns the waiting pair of a departure: the first one of its sender; of several senders that with its identification."""
-        row = self.waiting[way].get(key)
+    def chosen(self, way: str, key: tuple, packet: Packet) -> Pair | None:
+        """Returns the waiting pair of a departure: the first one of its sender; of several senders that with its
+        identification."""
+        row = self.waiting[way].pop(key, None)
         if row is None:
             return None
         best = row[0]
-        if len(row) == 1:
-            del self.waiting[way][key]
-            best.key = None
-        else:
-            same = [it for it in row if it.arrival.identification == packet.identification and it.arrival.length == packet.length]
+        if len(row) > 1:
+            told = packet.identification, packet.length
+            same = [it for it in row if (it.arrival.identification, it.arrival.length) == told]
             best = (same or row)[0]
-            if len({(it.arrival.source, it.arrival.destination) for it in row}) > 1:
-                if len({(it.arrival.source, it.arrival.destination) for it in same}) != 1 or not packet.identification:
-                    # so are all that wait with it
-                    for it in row:
-                        it.how = LIKELY
-            self.drop(best)
+            if is_of_several(row) and (not same or is_of_several(same) or not packet.identification):
+                # so are all that wait with it
+                for it in row:
+                    it.how = LIKELY
+            row.remove(best)
+            self.waiting[way][key] = row
+        best.key = None
         is_kept = best.arrival.identification == packet.identification
         self.identifications[is_kept] += 1
-        changed, kept = self.identifications
-        # of a gateway that keeps identifications it is the packet of another host, whose own arrival is not in the captures
-        best.how = best.how or (LIKELY if not is_kept and kept > KEEPS * changed else SURE)
+        if best.how is None:
+            # of a gateway that keeps identifications it is the packet of another host, whose arrival is not in the
+            # captures
+            changed, kept = self.identifications
+            best.how = LIKELY if not is_kept and kept > KEEPS * changed else SURE
         return best
 
-    def drop(self, pair):
+    def drop(self, pair: Pair):
         """Takes a pair from those that wait."""
-        waiting = self.waiting[pair.way]
-        row = waiting[pair.key]
+        row = self.waiting[pair.way][pair.key]
         if len(row) == 1:
-            del waiting[pair.key]
+            del self.waiting[pair.way][pair.key]
         else:
             row.remove(pair)
         pair.key = None
 
-    def leave_alone(self, packet):
+    def leave_alone(self, packet: Packet):
         """Notes a departure without an arrival, by what may still be found to be its arrival."""
         item = Departed(packet)
         if not self.is_made_of_pieces(item):
@@ -391,7 +385,7 @@ class Pairing:
             for key in keys_alone(packet) if packet.side == "outside" else ():
                 self.alone[key].append(item)
 
-    def leak(self, packet):
+    def leak(self, packet: Packet):
         """Notes a packet that left as it came."""
         for pair in self.waiting[OUT].get(packet.key(True), ()):
             if pair.arrival.source == packet.source:
@@ -400,59 +394,55 @@ class Pairing:
                 break
         self.queue.append(Departed(packet, is_leak=True))
 
-    def forget(self, item):
+    def forget(self, item: Departed):
         for key in keys_alone(item.packet) if item.packet.side == "outside" and not item.is_leak else ():
             self.alone[key].remove(item)
             if not self.alone[key]:
                 del self.alone[key]
 
-    def end_wait(self, pair):
-        """Looks for another departure of a pair that has none: with another payload, or of a connection that the gateway ends
-        itself."""
+    def end_wait(self, pair: Pair):
+        """Looks for another departure of a pair that has none: with another payload, or of a connection that the
+        gateway ends itself."""
         if pair.key is not None:
             self.drop(pair)
-        came = pair.arrival
-        for how, key in zip((ALTERED, CONNECTION)[: 1 + self.plan.ends_connections], keys_alone(came) if pair.way is OUT else ()):
+        ways = (ALTERED, CONNECTION) if self.plan.ends_connections else (ALTERED,)
+        for how, key in zip(ways, keys_alone(pair.arrival) if pair.way is OUT else ()):
             for item in self.alone.get(key, ()):
-                if not item.is_claimed and (how is ALTERED or item.packet.is_syn) and 0 <= item.time - pair.time < SECOND:
+                is_like = how is ALTERED or item.packet.is_syn
+                if is_like and not item.is_claimed and 0 <= item.time - pair.time < SECOND:
                     item.is_claimed, pair.departure, pair.how = True, item.packet, how
                     return
 
-    def is_made_of_pieces(self, item):
+    def is_made_of_pieces(self, item: Departed) -> bool:
         """Whether a departure was made of the pieces of a datagram that waits; that notes it."""
         left = item.packet
         for pair in self.in_pieces:
             came = pair.arrival
-            is_like = left.side != came.side and left.protocol == came.protocol and abs(item.time - pair.time) < SECOND // 10
-            if is_like and not pair.departure and (left.destination[0] == came.destination[0] or left.source[0] == came.source[0]):
+            has_end = left.destination[0] == came.destination[0] or left.source[0] == came.source[0]
+            is_like = left.side != came.side and left.protocol == came.protocol and not pair.departure
+            if is_like and has_end and abs(item.time - pair.time) < SECOND // 10:
                 pair.made += (left,)
                 return True
         return False
 
 
-def keys_alone(packet):
-    """Returns by what a departure of UDP or TCP is found whose payload was changed, and by what a SYN of the gateway's own."""
+def is_of_several(pairs: list[Pair]) -> bool:
+    """Whether arrivals have different ends."""
+    return len({(it.arrival.source, it.arrival.destination) for it in pairs}) > 1
+
+
+def keys_alone(packet: Packet) -> tuple:
+    """Returns by what a departure of UDP or TCP is found whose payload was changed, and by what a SYN of the gateway's
+    own."""
     if packet.kind not in (OF_UDP, OF_TCP):
         return ()
     # identifications of 0 tell nothing (RFC 6864)
-    altered = packet.identification and (packet.kind, packet.destination, packet.identification, packet.sequence)
+    number = packet.identification
+    altered = number and (packet.kind, packet.destination, number, packet.sequence)
     return (altered, packet.destination) if packet.is_syn else (altered,)
 
 
-def is_forwarded(address):
-    """Whether a gateway forwards what is for an address: not for multicast, broadcast, link-local or this host (RFC 6890)."""
+def is_forwarded(address: int) -> bool:
+    """Whether a gateway forwards what is for an address: not for multicast, broadcast, link-local or this host
+    (RFC 6890)."""
     return address < 0xE0000000 and address >> 16 != 0xA9FE and address >> 24 not in (0, 127)
-
-
-def merged(*sides):
-    """Yields the packets of two sides by time."""
-    first, second = (next(it, None) for it in sides)
-    while first and second:
-        if first.time <= second.time:
-            yield first
-            first = next(sides[0], None)
-        else:
-            yield second
-            second = next(sides[1], None)
-    yield from filter(None, (first, second))
-    yield from itertools.chain(*sides)

@@ -1,5 +1,5 @@
-"""What should have come in, by the proved program: each packet from outside, at the inside endpoint that the gateway's number stood
-for, goes through the definition of napt, under the gateway's own timers and filter."""
+"""What should have come in, by the proved program: each packet from outside, at the inside endpoint that the gateway's
+number stood for, goes through the definition of napt, under the gateway's own timers and filter."""
 import dataclasses
 import json
 import pathlib
@@ -7,11 +7,11 @@ import struct
 import subprocess
 import tempfile
 
-from judging.gateway import ADDRESS, ADDRESS_PORT, ESTABLISHED, INDEPENDENT, LEAST, OF_ICMP, OF_UDP, RESET, TIMER, TRANSITORY
-from judging.gateway import Incoming
+from judging.gateway import ADDRESS, ADDRESS_PORT, ESTABLISHED, INDEPENDENT, LEAST, OF_ICMP, RESET, TIMER, TRANSITORY
+from judging.gateway import Incoming, Mapping
 from judging.judge import Judge
-from judging.packets import ERROR, ICMP, QUERY, TCP, UDP, dotted, write_capture
-from judging.pairing import IN, Pair
+from judging.packets import ERROR, ICMP, OF_UDP, QUERY, TCP, UDP, Endpoint, Packet, Plan, dotted, write_capture
+from judging.pairing import IN, Departed, Given, Pair
 from judging.rows import BY_DEFINITION, Row
 from reading.captures import BAD_WORDS, SECOND, Fault
 
@@ -25,18 +25,19 @@ FILTERING = {UDP: "4787 REQ-8", TCP: "5382 REQ-3"}
 
 @dataclasses.dataclass
 class Followed:
-    """A packet from outside, the inside endpoint that it was for, the rows that it may show, and what the definition does with
-    it."""
+    """A packet from outside, the inside endpoint that it was for, the rows that it may show, and what the definition
+    does with it."""
 
     pair: Pair
-    inside: tuple
+    inside: Endpoint
     rows: list
     is_let_in: bool = False
     cause: str | None = None
 
 
-def changed(data, at, value, *sums):
-    """Puts a value into its place, and updates checksums by the difference, so that a wrong one stays wrong (RFC 1624)."""
+def changed(data: bytearray, at: int, value: bytes, *sums: int):
+    """Puts a value into its place, and updates checksums by the difference, so that a wrong one stays wrong (RFC
+    1624)."""
     before, data[at : at + len(value)] = int.from_bytes(data[at : at + len(value)], "big"), value
     for place in sums:
         checksum = struct.unpack_from("!H", data, place)[0]
@@ -44,7 +45,7 @@ def changed(data, at, value, *sums):
         struct.pack_into("!H", data, place, 0xFFFF - total)
 
 
-def change_end(data, place, port_place, end, protocol):
+def change_end(data: bytearray, place: int, port_place: int, end: Endpoint, protocol: int):
     """Gives an IPv4 packet another end: its address at a place, and its port at another of the transport."""
     body = (data[0] & 15) * 4
     sum_at = body + SUM_OF[protocol]
@@ -53,7 +54,7 @@ def change_end(data, place, port_place, end, protocol):
     changed(data, body + port_place, struct.pack("!H", end[1]), *[sum_at] * has_sum)
 
 
-def sent_inside(packet, inside):
+def sent_inside(packet: Packet, inside: Endpoint) -> bytes:
     """Returns the bytes of a packet from outside as if it had been sent to an inside endpoint."""
     data, body = bytearray(packet.data), (packet.data[0] & 15) * 4
     if packet.kind != ERROR:
@@ -61,14 +62,14 @@ def sent_inside(packet, inside):
         return bytes(data)
     changed(data, DESTINATION, struct.pack("!I", inside[0]), SUM_PLACE)
     quoted, protocol = data[body + 8 :], packet.quoted.protocol
-    pad = b"\0" * (len(quoted) % 2)
+    pad = bytes(len(quoted) % 2)
     change_end(quoted, SOURCE, 4 if protocol == ICMP else 0, inside, protocol)
     data += pad
     changed(data, body + 8, quoted + pad, body + 2)
     return bytes(data[: len(packet.data)])
 
 
-def rows_of(pair, mapping, is_known):
+def rows_of(pair: Pair, mapping: Mapping, is_known: bool) -> list[str]:
     """Returns the names of the requirements that a packet from outside may show."""
     came = pair.arrival
     if came.kind == ERROR:
@@ -88,48 +89,50 @@ def rows_of(pair, mapping, is_known):
 class Replay(Judge):
     """A judge whose verdicts on what comes in are those of napt's definition."""
 
-    def __init__(self, given, plan, explain):
+    def __init__(self, given: Given, plan: Plan, explain: str):
         super().__init__(given, plan, keeps_data=True)
         self.explain, self.sent, self.followed, self.timed_out = explain, [], [], set()
 
-    def tell(self, moment):
+    def tell(self, moment, key: object = None):
         if type(moment) is Incoming and moment.cause in (TIMER, RESET):
             self.timed_out.add(id(moment.pair))
-        super().tell(moment)
+        super().tell(moment, key)
 
-    def follow(self, pair, mapping, is_known):
+    def follow(self, pair: Pair, mapping: Mapping, is_known: bool):
         if pair.way is IN and pair.arrival.data:
             self.followed.append(Followed(pair, mapping.inside, rows_of(pair, mapping, is_known)))
 
-    def take(self, item):
+    def take(self, item: Pair | Departed):
         super().take(item)
         if type(item) is Pair and item.way is not IN and item.arrival.data:
             self.sent.append((item.time, item.arrival.data))
 
-    def run(self):
+    def run(self) -> "Replay":
         super().run()
         self.ask()
         self.conclude()
         return self
 
-    def configuration(self, protocol):
-        """Returns napt's configuration with the gateway's own filter for a protocol, and its own timers where they are long
-        enough."""
+    def configuration(self, protocol: int) -> str:
+        """Returns napt's configuration with the gateway's own filter for a protocol, and its own timers where they are
+        long enough."""
         lifetimes, kind = self.gateway.lifetimes, self.gateway.filters[protocol].kind
-        timers = {name: max(LEAST[it], lifetimes.longest(it) + SECOND - 1) // SECOND for name, it in TIMERS.items()}
-        listed = ([dotted(it) for it in sorted(self.plan.pool)], [str(it) for it in self.given.prefixes.networks])
-        lines = [f"{name} = {json.dumps(it)}" for name, it in zip(("pool", "inside"), listed)]
+        lines = [f"pool = {json.dumps([dotted(it) for it in sorted(self.plan.pool)])}"]
+        lines += [f"inside = {json.dumps([str(it) for it in self.given.prefixes.networks])}"]
         lines += [f'filter = "{FILTERS.get(kind, FILTERS[INDEPENDENT])}"', 'parity = "free"', "[timers]"]
-        return "\n".join(lines + [f"{name} = {seconds}" for name, seconds in timers.items()]) + "\n"
+        for name, it in TIMERS.items():
+            lines.append(f"{name} = {max(LEAST[it], lifetimes.longest(it) + SECOND - 1) // SECOND}")
+        return "\n".join(lines) + "\n"
 
     def ask(self):
         """Runs the program under the filter of each protocol, and notes what it does with what was followed."""
-        if len(self.plan.pool) > MOST_ADDRESSES:
-            raise Fault(BAD_WORDS, f"napt has {MOST_ADDRESSES} external addresses at most, and this gateway {len(self.plan.pool)}")
-        with tempfile.TemporaryDirectory(prefix="judge-") as room:
-            room = pathlib.Path(room)
+        if (many := len(self.plan.pool)) > MOST_ADDRESSES:
+            raise Fault(BAD_WORDS, f"napt has {MOST_ADDRESSES} external addresses at most, and this gateway {many}")
+        with tempfile.TemporaryDirectory(prefix="judge-") as folder:
+            room = pathlib.Path(folder)
+            replies = [(it.pair.time, sent_inside(it.pair.arrival, it.inside)) for it in self.followed]
             write_capture(room / "inside.pcap", self.sent)
-            write_capture(room / "replies.pcap", [(it.pair.time, sent_inside(it.pair.arrival, it.inside)) for it in self.followed])
+            write_capture(room / "replies.pcap", replies)
             for protocol in (UDP, TCP):
                 (room / "napt.toml").write_text(self.configuration(protocol))
                 for it, outcome in zip(self.followed, asked(self.explain, room), strict=True):
@@ -137,27 +140,27 @@ class Replay(Judge):
                         it.is_let_in, it.cause = outcome["outcome"] == "to-inside", outcome["cause"]
 
     def conclude(self):
-        """Judges what comes in by what the definition did. What the gateway's own timers, or a RST, ended is for other rows to
-        say."""
+        """Judges what comes in by what the definition did. What the gateway's own timers, or a RST, ended is for other
+        rows to say."""
         for name in {name for it in self.followed for name in it.rows}:
             if name in FILTERING.values():
                 self.rows[name].judged_by = BY_DEFINITION
             else:
                 self.rows[name] = Row(self.rows[name].requirement, BY_DEFINITION)
         for it in self.followed:
-            did = it.pair.departure is not None
+            did, had_none = it.pair.departure is not None, it.cause == "no-binding"
             for row in (self.rows[name] for name in it.rows):
-                if did == it.is_let_in and (did or it.cause != "no-binding"):
+                if did == it.is_let_in and (did or not had_none):
                     row.meets(it.pair)
                 elif it.is_let_in and not did and id(it.pair) not in self.timed_out:
                     row.breaks(it.pair, "the definition lets it in")
-                elif did and not it.is_let_in and it.cause != "no-binding":
+                elif did and not it.is_let_in and not had_none:
                     row.breaks(it.pair, f"the definition drops it: {it.cause}", is_absence=True)
 
 
-def asked(explain, room):
+def asked(explain: str, room: pathlib.Path) -> list[dict]:
     """Returns what the program does with each reply, as objects of `explain show --json`."""
-    words = [explain, "show", "--config", "napt.toml", "--inside", "inside.pcap", "--replies", "replies.pcap", "--json"]
+    words = [explain, *"show --config napt.toml --inside inside.pcap --replies replies.pcap --json".split()]
     try:
         answer = subprocess.run(words, cwd=room, stdin=subprocess.DEVNULL, capture_output=True, text=True, check=False)
     except OSError as error:

@@ -1,5 +1,6 @@
-"""The requirements of requirements.csv: the name, level (RFC 2119) and section of each, what it asks, what traffic shows it, its
-rule, the protocol that it is of, where it is of one, and whether a gateway shows it that ends connections itself."""
+"""The requirements of requirements.csv: the name, level (RFC 2119) and section of each, what it asks, what traffic
+shows it, its rule with the word that it is given, the protocol that it is of, where it is of one, and whether it is of
+segments, which a gateway does not show that ends connections itself."""
 import csv
 import dataclasses
 import pathlib
@@ -25,12 +26,16 @@ class Requirement:
     is_of_segments: bool
 
     @property
-    def rfc(self):
+    def rfc(self) -> int:
         return int(self.name.split()[0])
 
     @property
-    def moments(self):
-        kind = typing.get_type_hints(getattr(Rules, self.rule))["it"]
+    def method(self) -> str:
+        return self.rule.split()[0]
+
+    @property
+    def moments(self) -> tuple:
+        kind = typing.get_type_hints(getattr(Rules, self.method))["it"]
         return typing.get_args(kind) or (kind,)
 
 

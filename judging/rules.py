@@ -1,11 +1,12 @@
-"""The rule of each requirement: what the RFC asks, on each occasion that pairs show. A rule is given a moment, of the kinds that
-its signature names."""
+"""The rule of each requirement, on each occasion that pairs show. A rule is given a moment, of the kinds that its
+signature names. What it asks is in requirements.csv, with the section of the RFC; rules that differ in a word have
+that word there, too, which is `word` here."""
 import collections
 
-from judging.gateway import ADDRESS_PORT, AFTER_ERROR, ELSEWHERE, ESTABLISHED, LEAST, NO_ONE, OF_ICMP, RESET, SEGMENT, SIMULTANEOUS
-from judging.gateway import SOON, SUDDEN, TIMER, TRANSITORY, UNREFRESHED
-from judging.gateway import Departure, Error, Fragmentable, Fragmented, Incoming, TooLarge, Turned, Unforwarded, Unsolicited
-from judging.packets import ERROR, ICMP, OF_TCP, OF_UDP, PROTOCOLS, RST, SYN, TCP, UDP, dotted
+from judging.gateway import ADDRESS_PORT, AFTER_ERROR, ELSEWHERE, LEAST, NO_ONE, RESET, SEGMENT, SIMULTANEOUS, SOON
+from judging.gateway import SUDDEN, TIMER, UNREFRESHED, Departure, Error, Fragmentable, Fragmented, Gateway, Incoming
+from judging.gateway import TooLarge, Turned, Unforwarded, Unsolicited
+from judging.packets import ERROR, ICMP, OF_TCP, OF_UDP, PROTOCOLS, RST, SYN, TCP, UDP, Plan, dotted
 from judging.pairing import ALTERED, GATEWAY_PORTS, HAIRPIN, IN, OUT, SURE, Departed, Pair
 from judging.rows import Row
 from reading.captures import SECOND
@@ -16,18 +17,20 @@ MOST_DATAGRAMS, FEW_CHANGED, NEAR = 10_000, 8, 2
 REST, SILENT, ANSWERED = 120 * SECOND, 6 * SECOND, 12 * SECOND
 # a fragment of a datagram may be about in the network for so long
 FRAGMENTS_LIVE = 120 * SECOND
-ETHERNET_MTU = 1500
+ETHERNET_MTU, LEAST_HIGH_PORT = 1500, 1024
 # a timer was seen to be long enough where a mapping lived for such a part of it
 NEARLY = 0.95
 
 
 class End:
-    """The end of the captures: the gateway, all rows by their names, the plan, and the filtering that the user expects."""
+    """The end of the captures: the gateway, all rows by their names, the plan, and the filtering that the user
+    expects."""
 
     protocol, siblings, cousins = None, (), ()
 
-    def __init__(self, gateway, rows, plan, expected=None):
-        self.gateway, self.rows, self.plan, self.expected, self.lifetimes = gateway, rows, plan, expected, gateway.lifetimes
+    def __init__(self, gateway: Gateway, rows: dict[str, Row], plan: Plan, expected: str | None = None):
+        self.gateway, self.rows, self.plan, self.expected = gateway, rows, plan, expected
+        self.lifetimes = gateway.lifetimes
 
 
 class Rules(Row):
@@ -36,8 +39,7 @@ class Rules(Row):
     # MAPPINGS AND NUMBERS
 
     def same_endpoint_for_each_remote(self, it: Departure | End):
-        """RFC 4787 4.1, RFC 5382 4.1, RFC 5508 3.1: the mapping is used again for what its endpoint sends to any other remote. An
-        endpoint that kept its number says little: the gateway may only keep numbers."""
+        """An endpoint that kept its number says little: the gateway may only keep numbers."""
         if type(it) is End:
             if not self.met and self.memory["kept"]:
                 self.needs = f"an endpoint whose number was changed (all {self.memory['kept']} kept theirs)"
@@ -46,7 +48,8 @@ class Rules(Row):
         is_new_remote = mapping is None or remote not in mapping.remotes
         for other in it.others:
             if remote in other.remotes:
-                if (mapping is None or mapping.last_any < other.last_any) and time - other.last_any < SOON and not other.error:
+                is_older = mapping is None or mapping.last_any < other.last_any
+                if is_older and time - other.last_any < SOON and not other.error:
                     self.breaks(it.pair, live=[other])
             elif is_new_remote:
                 self.memory["changed"] += 1
@@ -58,52 +61,35 @@ class Rules(Row):
                 self.memory["kept"] += 1
 
     def one_identifier(self, it: Departure):
-        """RFC 5508 3.1, REQ-1a: the same, and an external identifier is that of one host."""
         self.same_endpoint_for_each_remote(it)
         self.no_overloading(it)
 
     def no_overloading(self, it: Departure):
-        """RFC 4787 4.2.1, RFC 5382 7.1: an external endpoint has one inside endpoint at a time, also if their remotes differ. It
-        could have failed where another one had the number that an endpoint lacks, for other remotes."""
+        """Also if their remotes differ. It could have failed where another one had the number that an endpoint lacks,
+        for other remotes."""
         for other in it.holders:
             self.breaks(it.pair, live=[other])
         if it.rival:
             self.meets(it.pair, live=[it.rival])
 
-    def low_ports_stay_low(self, it: Departure):
-        """RFC 4787 4.2.1, REQ-3a: a port below 1024 is mapped to one below."""
-        if it.is_new and it.protocol != ICMP and it.inside[1] < 1024:
-            self.judge(it.external[1] < 1024, it.pair)
-
-    def high_ports_stay_high(self, it: Departure):
-        """RFC 4787 4.2.1, REQ-3a: a port from 1024 on is mapped to one of these."""
-        if it.is_new and it.protocol != ICMP and it.inside[1] >= 1024:
-            self.judge(it.external[1] >= 1024, it.pair)
+    def ports_stay(self, it: Departure):
+        if it.is_new and it.protocol != ICMP and (it.inside[1] < LEAST_HIGH_PORT) == (self.word == "low"):
+            self.judge((it.external[1] < LEAST_HIGH_PORT) == (self.word == "low"), it.pair)
 
     def parity(self, it: Departure):
-        """RFC 4787 4.2.2: an even port is mapped to an even one, an odd one to an odd one. One that is kept shows nothing."""
+        """A number that is kept shows nothing."""
         if it.is_new and it.external[1] != it.inside[1]:
             self.judge((it.external[1] ^ it.inside[1]) & 1 == 0, it.pair)
 
-    def judge_addresses(self, it, others):
-        """Judges whether other mappings of the host have the same external address, of which there have to be two."""
+    def one_address(self, it: Departure | End):
+        """For all endpoints of one protocol (siblings), or also of others (cousins)."""
         if type(it) is End:
             self.needs = "" if len(it.plan.pool) > 1 else "two external addresses"
-            return
-        for other in others:
+        for other in getattr(it, self.word):
             self.judge(other.external[0] == it.external[0], it.pair, live=[other])
 
-    def paired_addresses(self, it: Departure | End):
-        """RFC 4787 4.1, RFC 6888 3: all endpoints of a host have one external address."""
-        self.judge_addresses(it, it.siblings)
-
-    def one_address_for_protocols(self, it: Departure | End):
-        """RFC 7857 4: so it is of all protocols."""
-        self.judge_addresses(it, it.cousins)
-
     def numbers_rest(self, it: Departure | End):
-        """RFC 6888 3, REQ-8: a number is not given to another endpoint within 120 seconds after its mapping has ended. The mapping
-        lived at least as long as others did, and at most until others were gone."""
+        """The mapping lived at least as long as others did, and at most until others were gone."""
         if type(it) is Departure:
             if it.before:
                 times = (it.pair.time - it.before.last_out, it.pair.time - it.before.last_any)
@@ -118,7 +104,7 @@ class Rules(Row):
                 self.meets(before, pair)
 
     def hard_to_guess(self, it: Departure | End):
-        """RFC 7857 9, RFC 6056: numbers that are not kept follow neither on the one before nor on the inside number."""
+        """Numbers that are not kept follow neither on the one before nor on the inside number (RFC 6056)."""
         memory = self.memory
         if type(it) is End:
             if memory["changed"] >= FEW_CHANGED:
@@ -126,15 +112,15 @@ class Rules(Row):
                 self.note = f"{memory['changed']} changed, {near}"
                 self.judge(memory["near"] * 3 <= memory["changed"], *(pair for pair, in self.later["pairs"][1:4]))
         elif it.is_new and it.protocol != ICMP and it.inside[1] != it.external[1]:
-            others = (it.inside[1], memory.get("before", it.external[1]))
-            memory["near"] += any(0 < it.external[1] - number <= NEAR for number in others)
+            number = it.external[1]
+            is_near = 0 < number - it.inside[1] <= NEAR or 0 < number - memory.get("before", number) <= NEAR
+            memory["near"] += is_near
             memory["changed"] += 1
-            memory["before"] = it.external[1]
+            memory["before"] = number
             self.keep("pairs", it.pair)
 
     def identifications_differ(self, it: Fragmentable):
-        """RFC 7857 10, RFC 6864 5.3.1: two hosts behind one address do not have one identification at a time, where fragments are
-        possible."""
+        """Two hosts behind one address do not have one at a time, where fragments are possible (RFC 6864, 5.3.1)."""
         came, left, time = it.pair.arrival, it.pair.departure, it.pair.time
         tables = [self.memory.setdefault(name, collections.OrderedDict()) for name in ("left", "came")]
         keys = [(left.source[0], came.destination[0], packet.identification) for packet in (left, came)]
@@ -150,14 +136,14 @@ class Rules(Row):
                 table.popitem(last=False)
 
     def deterministic(self, it: End):
-        """RFC 4787 8: mapping and filtering stay the same, whatever other hosts do."""
+        """Mapping and filtering stay the same."""
         for protocol, mapping in ((UDP, "4787 REQ-1"), (TCP, "5382 REQ-1")):
             found, filtered = it.rows[mapping], it.gateway.filters[protocol]
-            same = found.met + found.memory["kept"]
-            if same and found.broken and found.memory["changed"]:
+            same, changed = found.met + found.memory["kept"], found.memory["changed"]
+            if same and found.broken and changed:
                 self.breaks(*found.evidence[0])
-                changed = found.memory["changed"]
-                self.note = f"mapping of {PROTOCOLS[protocol].upper()}: independent {same} times, not {changed} times"
+                name = PROTOCOLS[protocol].upper()
+                self.note = f"mapping of {name}: independent {same} times, not {changed} times"
             elif found.met and same > 3 and not found.broken:
                 self.meets(*found.shown[0])
             if filtered.kind == NO_ONE:
@@ -165,10 +151,13 @@ class Rules(Row):
 
     # TIMERS
 
-    def lives(self, end, kind):
-        """A mapping that is not used lives as long as it must: some came in after nearly that time, and none was gone before."""
-        least, alive, lost = LEAST[kind], end.lifetimes.alive.get(kind), end.lifetimes.lost.get(kind)
-        said = [f"{what} {found[0] / SECOND:.0f} s" for what, found in (("survived", alive), ("gone after", lost)) if found]
+    def lives(self, it: End):
+        """A mapping that is not used lives as long as it must: some came in after nearly that time, and none was gone
+        before."""
+        kind, lifetimes = self.word, it.lifetimes
+        least, alive, lost = LEAST[kind], lifetimes.alive.get(kind), lifetimes.lost.get(kind)
+        seen = ("survived", alive), ("gone after", lost)
+        said = [f"{what} {found[0] / SECOND:.0f} s" for what, found in seen if found]
         differ = alive and lost and alive[0] > lost[0]
         self.note = ", ".join(said) + (" (they differ, by the state of the mapping)" if differ else "")
         if lost and lost[0] < least:
@@ -176,32 +165,16 @@ class Rules(Row):
         elif alive and alive[0] >= least * NEARLY:
             self.meets(*alive[1:])
 
-    def udp_lives(self, it: End):
-        """RFC 4787 4.3, REQ-5: a UDP mapping lives at least two minutes."""
-        self.lives(it, OF_UDP)
-
-    def query_lives(self, it: End):
-        """RFC 5508 3.2: a query's mapping lives at least 60 seconds."""
-        self.lives(it, OF_ICMP)
-
-    def connection_lives(self, it: End):
-        """RFC 5382 5: an established connection may be idle for 2 hours and 4 minutes."""
-        self.lives(it, ESTABLISHED)
-
-    def opening_lives(self, it: End):
-        """RFC 5382 5: one that opens or closes may be idle for 4 minutes."""
-        self.lives(it, TRANSITORY)
-
     def packets_out_refresh(self, it: Incoming | End):
-        """RFC 4787 4.3, REQ-6: a packet out refreshes the mapping. It does where one that was never quiet for the gateway's timer
-        is older."""
+        """They do where a mapping that was never quiet for the gateway's timer is older."""
         ages = self.memory.setdefault("ages", {})
         if type(it) is Incoming:
             mapping = it.mapping
             if it.cause == UNREFRESHED:
                 self.breaks(it.holder, it.pair)
             elif it.is_let_in and it.is_known and mapping.sent > 1:
-                gap, age = max(mapping.longest_gap, it.pair.time - mapping.last_any) // SECOND, it.pair.time - mapping.first
+                gap = max(mapping.longest_gap, it.pair.time - mapping.last_any) // SECOND
+                age = it.pair.time - mapping.first
                 if age > ages.get(gap, (10 * SECOND,))[0]:
                     ages[gap] = (age, mapping.last_pair, it.pair)
         elif it.lifetimes.is_one(OF_UDP):
@@ -209,9 +182,9 @@ class Rules(Row):
                 if gap * SECOND < it.lifetimes.shortest(OF_UDP) < age:
                     self.meets(*evidence)
 
-    def refreshes_nothing(self, it, name):
-        """Something else than a packet that goes through does not refresh: the mapping was gone although that came within the
-        timer, and it never lived longer than the timer because of that. It is what the mapping has of that name."""
+    def refreshes_nothing(self, it: Incoming | End):
+        """An error, or what the filter refused, does not refresh: the mapping was gone although that came within the
+        timer, and it never lived longer than the timer because of that."""
         if type(it) is End:
             for kind, quiet, *evidence in self.later["lived"]:
                 if it.lifetimes.is_one(kind) and quiet >= it.lifetimes.shortest(kind):
@@ -220,23 +193,15 @@ class Rules(Row):
                 if it.lifetimes.is_one(kind) and apart <= it.lifetimes.longest(kind):
                     self.meets(*evidence)
             return
-        mapping, time, other = it.mapping, it.pair.time, getattr(it.mapping, name)
+        mapping, time, other = it.mapping, it.pair.time, getattr(it.mapping, self.word)
         if it.protocol != TCP and other and other.time > mapping.last_any:
+            evidence = mapping.last_pair, other, it.pair
             if it.is_let_in and it.is_known:
-                self.keep("lived", it.kind, time - mapping.last_any, mapping.last_pair, other, it.pair)
+                self.keep("lived", it.kind, time - mapping.last_any, *evidence)
             elif it.cause == TIMER:
-                self.keep("gone", it.kind, max(time - other.time, other.time - mapping.last_any), mapping.last_pair, other, it.pair)
-
-    def errors_refresh_nothing(self, it: Incoming | End):
-        """RFC 5508 4.3: an ICMP error refreshes no mapping."""
-        self.refreshes_nothing(it, "error")
-
-    def refused_refresh_nothing(self, it: Incoming | End):
-        """RFC 7857 7: what the filter drops refreshes no mapping."""
-        self.refreshes_nothing(it, "refused")
+                self.keep("gone", it.kind, max(time - other.time, other.time - mapping.last_any), *evidence)
 
     def resets_leave_time(self, it: Incoming):
-        """RFC 7857 2.2: a RST is translated, and its session lives 4 minutes more."""
         if it.session and it.session.reset:
             if it.cause == RESET and not it.is_let_in:
                 self.breaks(it.session.reset, it.pair)
@@ -244,7 +209,6 @@ class Rules(Row):
                 self.meets(it.session.reset, it.pair)
 
     def errors_end_nothing(self, it: Incoming):
-        """RFC 4787 9, RFC 5382 7.3, REQ-10: an ICMP error ends no mapping."""
         if it.is_known and it.mapping.error:
             if it.cause == AFTER_ERROR:
                 self.breaks(it.mapping.error, it.pair)
@@ -254,14 +218,14 @@ class Rules(Row):
     # WHAT COMES IN
 
     def filtering(self, it: End):
-        """RFC 4787 5, RFC 5382 4.3: who is let in by a mapping is independent of the remote, or depends on its address alone; and
-        it is one of both, at all times."""
+        """Who is let in by a mapping is independent of the remote, or depends on its address alone; and it is one of
+        both, at all times."""
         found = it.gateway.filters[self.requirement.protocol]
         let_in, refused = found.occasions(True), found.occasions(False)
         self.note = found.kind or ""
         if found.kind == NO_ONE:
-            counts = ((which, found.counts[which, True], found.counts[which, False]) for which in found.seen)
-            self.note = "; ".join(f"from another {which}: {let} let in, {not_let} not" for which, let, not_let in counts)
+            counts = ((it, found.counts[it, True], found.counts[it, False]) for it in found.seen)
+            self.note = "; ".join(f"from another {what}: {many} let in, {others} not" for what, many, others in counts)
             self.breaks(*let_in[0], *refused[0], is_absence=True)
         elif found.kind and it.expected and found.kind != it.expected:
             self.breaks(*(let_in or refused)[0], is_absence=True)
@@ -271,21 +235,18 @@ class Rules(Row):
             self.meets(*let_in[0], *(refused or let_in[1:] or let_in)[0])
 
     def delivered(self, it: Incoming):
-        """RFC 3022 2.2: what comes to an external endpoint goes to the host that has it."""
         if it.cause is None and it.is_let_in and it.is_known:
             self.meets(it.pair)
         elif it.cause in (SUDDEN, ELSEWHERE):
             self.breaks(it.mapping.last_pair, it.pair, is_absence=it.cause == ELSEWHERE and not it.is_known)
 
     def each_segment_passes(self, it: Incoming):
-        """RFC 5382 4.2: every valid sequence of segments passes."""
         if it.cause == SEGMENT:
             self.breaks(it.holder, it.pair)
         elif it.cause is None and it.is_let_in and not it.pair.arrival.is_syn:
             self.meets(it.pair)
 
     def simultaneous_open(self, it: Incoming):
-        """RFC 5382 4.2, REQ-2a: a SYN comes in from a remote to which a SYN was sent."""
         if it.cause == SIMULTANEOUS:
             self.breaks(it.holder, it.pair)
         elif it.cause is None and it.is_let_in and it.pair.arrival.is_syn and it.session:
@@ -293,7 +254,6 @@ class Rules(Row):
                 self.meets(it.pair)
 
     def syn_is_not_answered(self, it: Unsolicited):
-        """RFC 5382 4.3, REQ-4: a SYN that is not let in is not answered for 6 seconds."""
         early = it.answer and it.answer.time - it.pair.time
         if it.answer and early < SILENT:
             self.breaks(it.pair, f"answered by {it.answer.text()} after {early / SECOND:.3f} s", is_absence=True)
@@ -301,14 +261,12 @@ class Rules(Row):
             self.meets(it.pair)
 
     def syn_is_answered_late(self, it: Unsolicited):
-        """RFC 5382 4.3, REQ-4: after 6 seconds it is answered by 'port unreachable'."""
         if not it.answer and it.span >= ANSWERED:
             self.breaks(it.pair)
         elif it.answer and it.answer.time - it.pair.time >= SILENT:
             self.meets(it.pair, it.answer)
 
     def queries_pass(self, it: Incoming | Unforwarded):
-        """RFC 5508 3.1: queries leave, and their replies come in."""
         if type(it) is Unforwarded:
             if not it.answer:
                 self.breaks(it.pair)
@@ -318,20 +276,19 @@ class Rules(Row):
     # HAIRPINS
 
     def turns_back(self, it: Turned | End):
-        """RFC 4787 6, RFC 5382 7.2: what a host sends to the external endpoint of another one goes to that one, if its filter lets
-        the sender in. Which filter the gateway has is known at the end."""
-        if type(it) is Turned:
-            if it.pair.departure:
-                self.meets(it.pair)
-            else:
-                self.keep("missing", it.opens, it.mapping.last_pair, it.pair, [it.mapping.age(it.pair.time)])
-            return
-        for opens, before, pair, ages in self.later["missing"]:
-            if it.gateway.filters[self.requirement.protocol].kind in opens or None in opens:
-                self.breaks(before, pair, ages=ages)
+        """If the filter of the one to whom it is sent lets the sender in. Which filter the gateway has is known at the
+        end."""
+        if type(it) is End:
+            kind = it.gateway.filters[self.requirement.protocol].kind
+            for opens, before, pair, ages in self.later["missing"]:
+                if kind in opens or None in opens:
+                    self.breaks(before, pair, ages=ages)
+        elif it.pair.departure:
+            self.meets(it.pair)
+        else:
+            self.keep("missing", it.opens, it.mapping.last_pair, it.pair, [it.mapping.age(it.pair.time)])
 
     def turns_back_translated(self, it: Turned):
-        """RFC 4787 6, REQ-9a: it comes from the sender's external endpoint."""
         left = it.pair.departure
         if it.is_untranslated:
             self.breaks(it.pair)
@@ -342,99 +299,88 @@ class Rules(Row):
             self.meets(it.pair)
 
     def errors_turn_back(self, it: Error):
-        """RFC 5508 5: an error about a hairpin goes to its sender, with the ends that the sender knows."""
+        """To the sender of the hairpin, with the ends that it knows."""
         if it.pair.way is HAIRPIN and not it.is_bad:
             self.judge(it.pair.departure is not None and it.is_right, it.pair, live=it.live)
 
     # ICMP ERRORS
 
     def errors_from_all(self, it: Error | End):
-        """RFC 4787 9, REQ-12a: an error is not filtered by its source, which may be a router."""
+        """Their source may be a router."""
         if type(it) is End:
             if self.broken and not it.gateway.errors_of_remotes:
-                self.needs, self.broken, self.absent = "errors of the remotes themselves that go in (here none does)", 0, 0
+                self.needs = "errors of the remotes themselves that go in (here none does)"
+                self.broken = self.absent = 0
         elif it.is_good(IN, not it.is_from_remote, it.pair.departure or it.mapping):
             self.judge(it.pair.departure is not None, it.pair, live=it.live)
 
     def tcp_errors_pass(self, it: Error):
-        """RFC 5382 7.3, REQ-9: an error about a connection is translated."""
         if it.is_good(IN, it.is_known, it.pair.departure or it.mapping):
             self.judge(it.pair.departure is not None, it.pair, live=it.live)
 
-    def judge_dropped(self, it, is_one):
-        """Judges whether errors of a kind are dropped, which shows something only where good ones pass."""
+    def dropped(self, it: Error | End, is_one: bool):
+        """Errors of a kind are dropped, which shows something only where good ones pass."""
         if type(it) is End:
             self.needs = "" if it.rows["5508 REQ-4"].met else "good errors that go in (here none does)"
-        elif is_one(it):
+        elif is_one:
             self.judge(not it.pair.departure, it.pair, live=it.live)
 
     def wrong_errors_end(self, it: Error | End):
-        """RFC 5508 4.1, REQ-3: an error whose ICMP checksum is wrong is dropped."""
-        self.judge_dropped(it, lambda it: it.pair.arrival.sum_ok is False and it.mapping)
+        self.dropped(it, type(it) is Error and it.pair.arrival.sum_ok is False and it.mapping)
 
     def wrong_quotations_end(self, it: Error | End):
-        """RFC 5508 4.1, REQ-3a: so is one that quotes an IP header whose checksum is wrong."""
-        self.judge_dropped(it, lambda it: it.pair.arrival.sum_ok is not False and it.is_bad and it.mapping)
+        self.dropped(it, type(it) is Error and it.pair.arrival.sum_ok is not False and it.is_bad and it.mapping)
 
     def foreign_errors_end(self, it: Error | End):
-        """RFC 5508 4.2.1, REQ-4: an error from outside about an endpoint that nobody has is dropped."""
-        if type(it) is Error and it.is_good(IN, not it.is_known, it.pair.departure):
+        is_one = type(it) is Error and it.is_good(IN, not it.is_known)
+        if is_one and it.pair.departure:
             self.breaks(it.pair, is_absence=True)
         else:
-            self.judge_dropped(it, lambda it: it.is_good(IN, not it.is_known))
+            self.dropped(it, is_one)
 
     def errors_come_in(self, it: Error):
-        """RFC 5508 4.2.1, REQ-4: an error from outside about a mapping goes to the host that has it (c)."""
         if it.is_good(IN, it.host):
             self.judge(it.pair.departure.destination[0] == it.host.inside[0], it.pair)
         elif it.is_good(IN, it.mapping, not it.pair.departure):
             self.breaks(it.pair, live=it.live)
 
     def quotes_inside(self, it: Error):
-        """RFC 5508 4.2.1, REQ-4a: the quoted source is the inside endpoint again."""
         if it.is_good(IN, it.pair.departure, it.mapping):
             self.judge(it.host is not None, it.mapping.last_pair, it.pair)
 
     def type_stays(self, it: Error):
-        """RFC 5508 4.2, REQ-4b and REQ-5b: type and code of an error stay."""
         came, left = it.pair.arrival, it.pair.departure
-        if it.is_good(it.pair.way, left):
+        if left and not it.is_bad:
             self.judge((came.type, came.code) == (left.type, left.code), it.pair)
 
     def errors_go_out(self, it: Error):
-        """RFC 5508 4.2.2, REQ-5: an error from inside about a mapping goes out."""
         if it.is_good(OUT, it.pair.departure or it.mapping):
             self.judge(it.pair.departure is not None, it.pair, live=it.live)
 
     def quotes_outside(self, it: Error):
-        """RFC 5508 4.2.2, REQ-5a: the quoted destination is the external endpoint again."""
         if it.is_good(OUT, it.pair.departure, it.mapping):
             self.judge(it.is_right, it.mapping.last_pair, it.pair)
 
     def errors_have_own_source(self, it: Error):
-        """RFC 5508 4.2.2, REQ-5c: it comes from the translator's address."""
         if it.is_good(OUT, it.pair.departure, it.mapping):
             self.judge(it.is_own_source, it.pair)
 
     def inner_sums(self, it: Error):
-        """RFC 5508 4.2, RFC 3022 4.3: checksums of the quoted headers are right again: of IP, and where all is there of the
-        transport."""
-        if it.is_good(it.pair.way, it.pair.departure):
+        """Those of IP, and where all is there of the transport."""
+        if it.pair.departure and not it.is_bad:
             came, left = it.pair.arrival.quoted, it.pair.departure.quoted
             self.judge(left.header_ok and not (came.sum_ok is True and left.sum_ok is False), it.pair)
 
     # REWRITING
 
     def forwarded(self, it: Pair | Unforwarded):
-        """RFC 3022 2.2: what inside hosts send leaves."""
         if type(it) is Unforwarded:
             if not it.answer:
                 self.breaks(it.pair)
         elif it.way is OUT and it.departure:
-            self.judge(True, it)
+            self.meets(it)
 
     def no_leak(self, it: Departed | End):
-        """RFC 3022 2.2: nothing leaves with an inside address."""
         if type(it) is Departed:
             self.breaks(it)
             return
@@ -443,16 +389,14 @@ class Rules(Row):
         self.needs = "a capture of each interface" if it.plan.is_one_file else ""
 
     def header_sum(self, it: Pair):
-        """RFC 3022 4.1: the checksum of the IP header is right."""
         if it.departure:
             self.judge(it.departure.header_ok, it)
 
     def sums_stay_right(self, it: Pair | End):
-        """RFC 3022 4.1 and 4.2: a right checksum of UDP, TCP or ICMP is right afterwards. What was left to the network card shows
-        nothing."""
+        """What was left to the network card shows nothing."""
         if type(it) is End:
-            if self.memory["offloaded"]:
-                self.note = f"{self.memory['offloaded']} departures have no checksum, or left it to the card: not judged"
+            if count := self.memory["offloaded"]:
+                self.note = f"{count} departures have no checksum, or left it to the card: not judged"
         elif it.how is SURE:
             came, left = it.arrival, it.departure
             if left.is_offloaded or left.kind == OF_UDP and left.sum_ok is None and came.sum_ok is not None:
@@ -461,19 +405,18 @@ class Rules(Row):
                 self.judge(left.sum_ok, it)
 
     def sums_stay_wrong(self, it: Pair):
-        """RFC 1624 3: the sum is updated by the difference, so that a wrong one of UDP or TCP stays wrong."""
+        """The sum is updated by the difference."""
         if it.arrival.sum_ok is False and it.how is SURE and it.arrival.kind in (OF_UDP, OF_TCP):
             if not it.departure.is_offloaded and it.departure.sum_ok is not None:
                 self.judge(it.departure.sum_ok is False, it)
 
     def no_sum_stays(self, it: Pair):
-        """RFC 3022 4.1: UDP without a checksum has none afterwards, or a right one."""
         came, left = it.arrival, it.departure
         if came.sum_ok is None and it.how is SURE and not came.is_offloaded and not left.is_offloaded:
             self.judge(left.sum_ok is not False, it)
 
     def content_stays(self, it: Pair | End):
-        """RFC 3022 4.1: all but addresses, ports, identifiers and checksums stays: flags, sequence numbers and payloads."""
+        """All but addresses, ports, identifiers and checksums."""
         if type(it) is End:
             if self.memory["fragmentation"]:
                 self.note = f"DF differs in {self.memory['fragmentation']}"
@@ -485,7 +428,6 @@ class Rules(Row):
             self.judge(it.arrival.payload == it.departure.payload, it)
 
     def ttl_goes_down(self, it: Pair | End):
-        """RFC 1812 5.3.1: the TTL goes down by one at least."""
         if type(it) is End:
             self.note = ", ".join(f"{-step:+d}: {count}" for step, count in sorted(self.memory.items()))
             self.note += " (mixed)" if self.met and self.broken else ""
@@ -495,14 +437,14 @@ class Rules(Row):
             self.judge(step >= 1, it)
 
     def no_application_gateway(self, it: Pair):
-        """RFC 4787 7, RFC 5382 6: payloads are not changed, also those of protocols that gateways know."""
+        """Also not those of protocols that gateways know."""
         if it.how is ALTERED:
             self.breaks(it, is_absence=True)
         elif it.arrival.destination[1] in GATEWAY_PORTS and it.arrival.payload and it.how is SURE:
             self.meets(it)
 
     def too_large_is_answered(self, it: TooLarge | End):
-        """RFC 4787 10: a packet with DF that is too large for the link outside is answered by 'fragmentation needed'."""
+        """Something larger never left, which the link inside can carry."""
         if type(it) is End:
             for pair, in self.later["large"]:
                 if 0 < it.gateway.largest < pair.arrival.length <= ETHERNET_MTU:
@@ -512,16 +454,8 @@ class Rules(Row):
         else:
             self.keep("large", it.pair)
 
-    def judge_pieces(self, pair):
-        made = [f"made of them: {packet.name} ({packet.text()})" for packet in pair.made]
-        self.judge(pair.departure is not None, pair, f"in the pieces {', '.join(pair.arrival.pieces)}", *made)
-
-    def pieces_in_order_pass(self, it: Fragmented):
-        """RFC 4787 11: fragments that come in order go through."""
-        if it.pair.arrival.is_in_order:
-            self.judge_pieces(it.pair)
-
-    def pieces_out_of_order_pass(self, it: Fragmented):
-        """RFC 4787 11, REQ-14a: so do those that come out of order."""
-        if not it.pair.arrival.is_in_order:
-            self.judge_pieces(it.pair)
+    def pieces_pass(self, it: Fragmented):
+        came = it.pair.arrival
+        if came.is_in_order == (self.word == "in"):
+            made = [f"made of them: {packet.name} ({packet.text()})" for packet in it.pair.made]
+            self.judge(it.pair.departure is not None, it.pair, f"in the pieces {', '.join(came.pieces)}", *made)

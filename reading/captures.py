@@ -1,15 +1,12 @@
 """Reads captures: pcap and pcapng, as they are or compressed, and the IPv4 packets in their frames."""
-import argparse
 import bz2
 import collections
 import contextlib
 import dataclasses
 import datetime
 import gzip
-import ipaddress
 import lzma
 import os
-import re
 import shutil
 import struct
 import subprocess
@@ -150,13 +147,22 @@ class Capture:
         # the high half tells of checksums behind frames
         interface = Interface(struct.unpack(f"{order}16xI", header)[0] & 0xFFFF)
         self.interfaces.append(interface)
-        unpack = struct.Struct(f"{order}IIII").unpack
-        while head := self.take(16, is_first=True):
-            seconds, fraction, captured, original = unpack(head)
-            if captured > MOST_CAPTURED:
-                raise self.damaged(f"a record of {captured} bytes")
-            if (data := self.take(captured)) is not None:
+        unpack, read = struct.Struct(f"{order}IIII").unpack, self.stream.read
+        try:
+            while len(head := read(16)) == 16:
+                seconds, fraction, captured, original = unpack(head)
+                if captured > MOST_CAPTURED:
+                    raise self.damaged(f"a record of {captured} bytes")
+                data = read(captured)
+                if len(data) < captured:
+                    break
                 yield Frame(seconds * SECOND + fraction * unit, data, original, interface)
+            # it is cut unless it ends behind a record
+            self.is_cut |= bool(head)
+        except EOFError:
+            self.is_cut = True
+        except UNREAD as error:
+            raise self.unread(error) from error
 
     def blocks(self):
         """Yields the blocks of a pcapng: the byte order, the type and the body, which is none where a section begins."""
@@ -255,8 +261,6 @@ def number_at(data, at):
 
 def after_link_header(link, data):
     """Returns where the IPv4 packet of a frame begins, behind VLAN tags too."""
-    if link in RAW:
-        return 0
     if link not in WITH_ETHER_TYPE:
         raise LeftOut(f"of link type {link}, {OF_LINKS.get(link, 'which is not read')}")
     at, place = WITH_ETHER_TYPE[link]
@@ -272,13 +276,15 @@ def after_link_header(link, data):
 
 def packet_in(frame):
     """Returns the IPv4 packet of a frame, without link headers, and how long it was before the frame was cut."""
-    at = after_link_header(frame.interface.link, frame.data)
+    at = 0 if frame.interface.link in RAW else after_link_header(frame.interface.link, frame.data)
     packet = frame.data[at:]
-    if len(packet) < LEAST_HEADER:
+    size = len(packet)
+    if size < LEAST_HEADER:
         raise LeftOut("IPv4 packets that end before their addresses do")
     if packet[0] >> 4 != 4:
         raise LeftOut("IPv6" if packet[0] >> 4 == 6 else f"of IP version {packet[0] >> 4}")
-    return packet, max(frame.original - at, len(packet))
+    original = frame.original - at
+    return packet, original if original > size else size
 
 
 class Copies:
@@ -324,28 +330,3 @@ def file_of(path):
         found = os.fstat(0) if path == STANDARD_INPUT else os.stat(path)
         return found.st_dev, found.st_ino
     return None
-
-
-# WORDS OF A COMMAND LINE
-
-class Words(argparse.ArgumentParser):
-    """A parser whose fault names the help of the program, which is called as `prog`."""
-
-    def error(self, message):
-        raise Fault(BAD_WORDS, f"{message} (see {self.prog} --help)")
-
-
-def prefix(text):
-    what = "is no prefix, as 10.0.0.0/8 is one"
-    with contextlib.suppress(ValueError):
-        if re.fullmatch(r"[0-9.]+/(0|[1-9][0-9]?)", text):
-            what = "has bits past its length that are not 0" if ipaddress.IPv4Interface(text) else what
-            return ipaddress.IPv4Network(text)
-    raise argparse.ArgumentTypeError(f"{text!r} {what}")
-
-
-def address(text):
-    try:
-        return ipaddress.IPv4Address(text)
-    except ValueError as error:
-        raise argparse.ArgumentTypeError(f"{text!r} is no address, as 203.0.113.1 is one") from error

@@ -17,7 +17,8 @@ def ip(protocol, source, destination, body, *, ttl=64, identification=None, keep
     flags = 0x4000 * keeps_whole | (piece[0] // 8 | 0x2000 * piece[1] if piece else 0)
     if identification is None:
         identification = 0x1000 + next(numbers) % 50_000
-    header = struct.pack("!BBHHHBBHII", 0x45, 0, 20 + len(body), identification, flags, ttl, protocol, 0, source, destination)
+    fields = 0x45, 0, 20 + len(body), identification, flags, ttl, protocol, 0, source, destination
+    header = struct.pack("!BBHHHBBHII", *fields)
     return header[:10] + struct.pack("!H", summed(header)) + header[12:] + body
 
 
@@ -47,7 +48,8 @@ def icmp(source, destination, kind, code, rest, off=0):
 
 
 def echo(source, destination, identifier, sequence, is_reply=False):
-    return icmp(source, destination, 0 if is_reply else 8, 0, struct.pack("!HH", identifier, sequence) + b"0123456789abcdef")
+    data = struct.pack("!HH", identifier, sequence) + b"0123456789abcdef"
+    return icmp(source, destination, 0 if is_reply else 8, 0, data)
 
 
 def error(source, destination, kind, code, about, off=0, rest=bytes(4)):

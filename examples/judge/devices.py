@@ -23,8 +23,8 @@ LATE = 0.2
 
 
 class Device:
-    """A device that packets are sent through, and the first and the last of its inside hosts. It keeps what arrives and what
-    leaves, in time, of each side."""
+    """A device that packets are sent through, and the first and the last of its inside hosts. It keeps what arrives
+    and what leaves, in time, of each side."""
 
     is_ended = False
 
@@ -115,8 +115,8 @@ class Port:
 
 
 class Live(Device):
-    """A gateway between two interfaces of this machine, and its inside address. It hears of each host by ARP: that in user mode has
-    to."""
+    """A gateway between two interfaces of this machine, and its inside address. It hears of each host by ARP: that in
+    user mode has to."""
 
     def __init__(self, folder, hosts, names, gateway):
         super().__init__(folder, hosts)

@@ -1,5 +1,6 @@
-"""Traffic that shows what a translator does: flows by their steps, and scenarios of inside and outside hosts, each a function, or a
-generator that yields how long it waits, in seconds. A device takes a packet at a side, and gives what came out of it."""
+"""Traffic that shows what a translator does: flows by their steps, and scenarios of inside and outside hosts, each a
+function, or a generator that yields how long it waits, in seconds. A device takes a packet at a side, and gives what
+came out of it."""
 import heapq
 import itertools
 
@@ -16,8 +17,9 @@ BITS = {"S": SYN, "A": ACK, "F": FIN, "R": RST}
 OPEN = ">S <SA >A"
 QUIET = (20, 28, 45, 70, 100, 117, 290, 310, 700)
 KEPT = [f"{wait} > " * times + f"{wait / 2}" for wait, times in ((15, 4), (24, 3), (100, 2), (115, 6))]
-# flows: the protocol, host, port and remote, the steps, and what {} stands for: each is a flow of its own, of the next host and
-# port. > is a packet out and < one in, with the flags of TCP, and + with data; a number is a pause; = sends the last SYNs again
+# flows: the protocol, host, port and remote, the steps, and what {} stands for: each is a flow of its own, of the next
+# host and port. > is a packet out and < one in, with the flags of TCP, and + with data; a number is a pause; = sends
+# the last SYNs again
 FLOWS = {
     "simultaneous_open": (TCP, 43, 6002, 9, ">S 0.2 <S = >SA <SA >A+ <A+", ()),
     "quiet_udp": (UDP, 60, 6700, 16, "> {} <", QUIET),
@@ -51,8 +53,9 @@ class Probe:
         """Sends from inside, and returns the external endpoint, or None."""
         came = packet_of(packet, "inside", 0)
         def is_it(left):
-            is_there = left.side == "outside" and left.destination[0] == came.destination[0] and left.kind == came.kind
-            return is_there and (came.kind == QUERY or left.destination == came.destination) and left.content() == came.content()
+            has_end = came.kind == QUERY or left.destination == came.destination
+            ways = (left.side, left.destination[0], left.kind), ("outside", came.destination[0], came.kind)
+            return ways[0] == ways[1] and has_end and left.content == came.content
         left = self.sent("inside", packet, is_it)
         return left and left.source
 
@@ -60,14 +63,14 @@ class Probe:
         """Sends from outside, and returns what came in."""
         came = packet_of(packet, "outside", 0)
         def is_it(left):
-            return (left.side, left.source[0], left.content()) == ("inside", came.source[0], came.content())
+            return (left.side, left.source[0], left.content) == ("inside", came.source[0], came.content)
         return self.sent("outside", packet, is_it)
 
     def turn(self, packet):
         """Sends from inside to an external endpoint, and returns what came back in."""
         came = packet_of(packet, "inside", 0)
         def is_it(left):
-            return (left.side, left.content()) == ("inside", came.content()) and left.destination != came.destination
+            return (left.side, left.content) == ("inside", came.content) and left.destination != came.destination
         return self.sent("inside", packet, is_it)
 
     def throw(self, side, *packets):
@@ -232,7 +235,8 @@ def other_errors(probe):
         probe.in_(craft.error(ROUTER, external[0], 11, 0, craft.echo(external[0], REMOTES[10], external[1], 5)))
     connection = probe.opened(46, 6120, 10)
     if connection.external:
-        segment = craft.tcp(connection.external, connection.remote, ACK, connection.seen["outside"], connection.next["outside"])
+        numbers = connection.seen["outside"], connection.next["outside"]
+        segment = craft.tcp(connection.external, connection.remote, ACK, *numbers)
         for code, rest in ((1, bytes(4)), (4, b"\0\0\x05\x00")):
             probe.in_(craft.error(ROUTER, connection.external[0], 3, code, segment, rest=rest))
         yield 0.2
@@ -280,9 +284,10 @@ def sums(probe):
 
 def application_gateways(probe):
     me = dotted(probe.host(52)).encode()
-    lines = (b"REGISTER sip:198.51.100.15 SIP/2.0", b"Via: SIP/2.0/UDP %s:6500;branch=z9hG4bK1" % me, b"Max-Forwards: 70",
-             b"From: <sip:me@198.51.100.15>;tag=1", b"To: <sip:me@198.51.100.15>", b"Call-ID: 1@%s" % me, b"CSeq: 1 REGISTER",
-             b"Contact: <sip:me@%s:6500>" % me, b"Expires: 60", b"Content-Length: 0", b"", b"")
+    lines = (b"REGISTER sip:198.51.100.15 SIP/2.0", b"Via: SIP/2.0/UDP %s:6500;branch=z9hG4bK1" % me,
+             b"Max-Forwards: 70", b"From: <sip:me@198.51.100.15>;tag=1", b"To: <sip:me@198.51.100.15>",
+             b"Call-ID: 1@%s" % me, b"CSeq: 1 REGISTER", b"Contact: <sip:me@%s:6500>" % me, b"Expires: 60",
+             b"Content-Length: 0", b"", b"")
     probe.udp((probe.host(52), 6500), (REMOTES[14], 5060), b"\r\n".join(lines))
     connection = probe.opened(52, 6501, 14, 21)
     for side, line in (("outside", b"220 hello"), ("inside", b"USER me"), ("outside", b"230 yes"),
@@ -326,9 +331,9 @@ def quiet_echo(probe, number, wait):
 
 # scenarios, their seconds, and what more each is given
 SCENARIOS = [
-    (mapping, 1), (clash, 2), (clash_of_connections, 2), (filtering, 2), (filtering_of_connections, 16), (echoes, 1), (errors, 2),
-    (wrong_errors, 1), (other_errors, 1), (hairpins, 2), (fragments, 2), (sums, 1), (application_gateways, 1),
-    (error_before_the_end, 310), (refused_before_the_end, 310),
+    (mapping, 1), (clash, 2), (clash_of_connections, 2), (filtering, 2), (filtering_of_connections, 16), (echoes, 1),
+    (errors, 2), (wrong_errors, 1), (other_errors, 1), (hairpins, 2), (fragments, 2), (sums, 1),
+    (application_gateways, 1), (error_before_the_end, 310), (refused_before_the_end, 310),
     *((number_again, wait, number, wait) for number, wait in ((130, 310), (134, 130))),
     *((quiet_echo, wait, number, wait) for number, wait in enumerate((20, 58.5, 70)))]
 
@@ -348,8 +353,8 @@ def scenarios(probe):
 
 
 def run(device, most_seconds, only=()):
-    """Runs all scenarios that take no longer, side by side: those that take longest begin first. Returns the names of those left
-    out."""
+    """Runs all scenarios that take no longer, side by side: those that take longest begin first. Returns the names of
+    those left out."""
     probe, order, todo, left_out = Probe(device), itertools.count(), [], []
     for name, seconds, steps in scenarios(probe):
         if seconds > most_seconds or only and name.split()[0] not in only:
