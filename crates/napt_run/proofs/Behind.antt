@@ -1,6 +1,6 @@
 -- From what passed between captures, after their headers, and outputs to what the run did.
 use Rattle.std.proofs.lemmas.{Grind.common_steps, Bool.Decides.nat_tests}
-use Rattle.std.proofs.Common.{◌≡◌, ◌⊎◌, inl, inr, ℕ, ◌+◌, ◌-◌, ◌^◌, ◌≤◌, ◌<◌, Bool, min, List, [], ◌++◌, length, Option, Some, None, Result, Ok, Err, IsOk, refl, sym, ◌∙◌, ap, ap₂, subst, arith, append-nil, append_assoc}
+use Rattle.std.proofs.Common.{◌≡◌, ◌⊎◌, inl, inr, ℕ, ◌≤◌, List, [], ◌++◌, length, Option, Some, None, Result, Ok, Err, IsOk, refl, sym, ◌∙◌, ap, ap₂, subst, arith, append-nil, append_assoc}
 use Rattle.napt_wire.specs.declared.Side.{Side}
 use Rattle.napt_wire.specs.declared.Side.TheVariants as sides
 use Rattle.napt_capture.specs.declared.device.Sink as sink
@@ -17,8 +17,8 @@ use Rattle.napt_rules.specs.Prelude.{Arrival}
 use Rattle.napt_sequential.specs.Inputs.{InputsCame}
 use Rattle.napt_run.{specs.OutputSinks.{AreTimes, FailsBy, FailsToBegin, IsNew, IsSettled, SinkBegins, SinkTakes, TimedOutcomes, records_text}, proofs.Fronts.{capture_is, front_of, times_of}}
 use Rattle.napt_run.specs.{OutputSinkLaws.{appends_none, breaks_more, grows_more, grows_none, records_text-append, times_first, times_second}, Outputs.{Breaks, OutputGrows}}
-use Rattle.napt_run.specs.CaptureRuns.{FailsAfter, PassesAll, PassesOr, RunPassesEarly, RunPassesHalted, RunPassesTo}
-use Rattle.napt_run.specs.{LogLaws.held, Posts.{AtMostOneMore, ExtentPost, FailedPost, IsBegun, OutputEnds, RunsTo, capture_to, may_have_ended, output_text_by}, Runs.{IfHeld, run_left_of}, Files.files_until}
+use Rattle.napt_run.specs.CaptureRuns.{FailsAfter, PassesAll, PassesOr, RunPassesHalted}
+use Rattle.napt_run.specs.{LogLaws.held, Posts.{AtMostOneMore, ExtentPost, FailedPost, OutputEnds, RunsTo, capture_to, may_have_ended, output_text_by}, Runs.{IfHeld, run_left_of}, Files.files_until}
 use Rattle.napt_run.specs.{Streams.{AreTaken, IsStreamFaultOf, IsOfRun, IsReading, IsSettledBy, capture_text, side_of}, declared.{output.Output.Output, output_sinks.Leaving.Leaving, capture_run.Totals.Totals}}
 use Rattle.napt_run.proofs.{Begun.{ReadBy, read_somehow, read_to_fault, read_well, told}, Breaks.first_within, Counted.all_counted, Ends.{IfHeld-by, IsCapture, broken, ends, grown, grown_if, headed, inside_is, none_held, outside_is, same_text}, Files.{begun_files, files_large}}
 
@@ -389,8 +389,10 @@ module _ {R Q W V : Type 0} {G : source.Ghosts R} {H : source.Ghosts Q} {S : sin
         first_are = begun_of.went_is;
         took_outside = outside_grew;
         took_inside = inside_grew;
-        failed = f.failed (outside_grew.sound (begins.to_outside.sound is_new.sound.0),
-            inside_grew.sound (begins.to_inside.sound is_new.sound.1)) later_times;
+        failed = f.failed (
+          outside_grew.sound (begins.to_outside.sound is_new.sound.0),
+          inside_grew.sound (begins.to_inside.sound is_new.sound.1),
+        ) later_times;
       }
 
   -- the text of both parts

@@ -220,13 +220,16 @@ module _ {P A F W V K : Type 0} {S : sink.Ghosts W} {T : sink.Ghosts V} (tells :
   passes_by (Ok passed) p = record { whole = passes_to None p.whole; bindings = p.bindings; leaves = p.leaves }
   passes_by (Err (pass_faults.Arrival fault)) p = passes_to (Some fault) p
   passes_by (Err (pass_faults.Departure fault)) p = elim p.failed.failed [
-    | inl o ↦ inl (o.of_output, record {
-      inputs = p.inputs;
-      went = outcomes_in p.went;
-      come = p.come;
-      front = outcomes_front tells origin p.inputs p.went p.front;
-      failed = (output_failed p.inputs p.went p.come p.front fault p.failed o).0;
-    })
+    | inl o ↦ inl (
+      o.of_output,
+      record {
+        inputs = p.inputs;
+        went = outcomes_in p.went;
+        come = p.come;
+        front = outcomes_front tells origin p.inputs p.went p.front;
+        failed = (output_failed p.inputs p.went p.come p.front fault p.failed o).0;
+      },
+    )
     | inr l ↦ inr (l.of_log, (log_failed p.inputs p.went p.come p.front fault p.failed l).0)
   ]
   passes_by (Err (pass_faults.Run fault)) p = (halted p).0

@@ -4,7 +4,7 @@ use Rattle.std.proofs.lemmas.{Grind.common_steps, Bool.Decides.nat_tests}
 use Rattle.std.proofs.Common.{◌≡◌, ◌∙◌, ℕ, ◌+◌, List, Option, Result, Ok, Err, ap, refl, subst}
 use Rattle.napt_capture.specs.declared.device.Sink.{Ghosts}
 use Rattle.napt_run.specs.Origins.{OriginModel, ran_by}
-use Rattle.napt_records.specs.{Counts.AreCountsOf, Report.{report_of, report_text}, declared.{Fault.{Fault, TheVariants.{Capture, Run, Write}}, Which.Which}}
+use Rattle.napt_records.specs.{Counts.AreCountsOf, Report.{report_of, report_text}, declared.{Fault.{Fault, TheVariants.{Capture, Run, Write}}}}
 use Rattle.napt_records.specs.declared.Which.TheVariants.{Outside, Inside, Report, Log}
 use Rattle.napt_wire.specs.declared.Side.TheVariants as sides
 use Rattle.napt_rules.specs.{Prelude.{Arrival}, declared.Outcome.Outcome}

@@ -1,5 +1,5 @@
 -- A header of a capture that is refused, or could not be read.
-use Rattle.std.proofs.Common.{◌≡◌, ◌∙◌, ℕ, ◌+◌, List, [], take, drop, Option, Some, Result, Ok, Err, refl, sym, ap, subst, arith}
+use Rattle.std.proofs.Common.{◌≡◌, ◌∙◌, ℕ, ◌+◌, List, [], take, drop, Option, Some, Result, Ok, Err, refl, ap, subst, arith}
 use Rattle.napt_wire.specs.declared.Side.{Side}
 use Rattle.napt_wire.specs.declared.Side.TheVariants as sides
 use Rattle.napt_capture.specs.declared.{fault.CaptureFault.CaptureFault, capture_format.CaptureFormat.CaptureFormat, record_reader.RecordReader.RecordReader}

@@ -13,10 +13,10 @@ use Rattle.napt_records.specs.{RecordMerging.MergedInputs, declared.{Fault.{Faul
 use Rattle.napt_rules.specs.Prelude.{Arrival, Binding, RunEffect, Rules, last_clock, step}
 use Rattle.napt_sequential.{specs.{Traces.traces_from, declared.{fault.RunFault.{RunFault, TheVariants.{Memory, TooMany, Pool}}, passage.{Passage.Passage, Trace.Trace}}}, proofs.JoinedSteps.traces_long}
 use Rattle.napt_run.specs.{LogLaws.held, OutputSinkLaws.{breaks_more, grows_more}, Outputs.{Breaks, OutputGrows}, Origins.OriginModel}
-use Rattle.napt_run.specs.{LogRuns.{EntersAll, EntersFront, IsOfLog, LogFailsOver, Legs, LogsTo, legs_told, traces_by}, LogOrigins.{LoggedOrigin, ending, text_so_far, texts_of, whole_text}, Logs.{LogIsKept, LogPost}}
-use Rattle.napt_run.specs.{Posts.{AtMostOneMore, ExtentPost, FailedPost, FaultPost, OutputEnds, may_have_ended, text_if}, Runs.IfHeld, Streams.{AreTaken, IsSettledBy, stream_ended}}
-use Rattle.napt_run.specs.RunningLogs.{Adds, AreLaws, Closes, Enters, FlushPost, IsReady, LogFails, FailsBy, LogFlushes, LogGoesOnFrom, FailsMore, IsAfterFault, LogHalts, LogIsAt, Opens, ending_with, left_with, rows_in, running_log_of, running_log_traces, last_trace_time}
-use Rattle.napt_run.specs.declared.{output.Output.Output, capture_run.Totals.Totals, log_writer.LogWriter.LogWriter}
+use Rattle.napt_run.specs.{LogRuns.{EntersAll, EntersFront, LogFailsOver, Legs, LogsTo, legs_told, traces_by}, LogOrigins.{LoggedOrigin, ending, text_so_far, texts_of, whole_text}, Logs.{LogPost}}
+use Rattle.napt_run.specs.{Posts.{AtMostOneMore, ExtentPost, FailedPost, FaultPost, OutputEnds, may_have_ended, text_if}, Runs.IfHeld, Streams.{AreTaken, IsSettledBy}}
+use Rattle.napt_run.specs.RunningLogs.{Adds, Closes, Enters, FlushPost, IsReady, LogFails, FailsBy, LogGoesOnFrom, FailsMore, IsAfterFault, LogHalts, LogIsAt, Opens, ending_with, left_with, rows_in, running_log_of, running_log_traces, last_trace_time}
+use Rattle.napt_run.specs.declared.{output.Output.Output, log_writer.LogWriter.LogWriter}
 use Rattle.napt_run.proofs.{Ends.{broken, ends, grown_if, none_held, take_whole}, TraceFronts.{NextInput, next_input}}
 
 -- TEXTS

@@ -27,17 +27,17 @@ module _ {D : Type 0} (S : Ghosts D) (texts : LogTexts) (which : Which) (inside 
   after_success result is extent failed p = record {
     contents = held (λ all. OutputPost texts which (Ok tt) all (S.contents old) (S.contents new))
         (λ all. OutputPost texts which result all (S.contents old) (S.contents new)) inside outside (λ all has. record {
-      inputs = has.inputs;
-      front = has.front;
-      count = has.count;
-      within = subst (λ (t : List Arrival → List ℕ). has.count ≤ length (t has.inputs)) (sym is) has.within;
-      appended = subst (λ (t : List Arrival → List ℕ). Appends (S.contents old) (S.contents new)
-          (take has.count (t has.inputs))) (sym is) has.appended;
-      extent = subst (λ (t : List Arrival → List ℕ). ExtentPost which result all has.inputs has.count
-          (length (t has.inputs))) (sym is)
-          (subst (λ (n : ℕ). ExtentPost which result all has.inputs n (length (texts.whole has.inputs)))
-          (sym has.extent.2) (extent all has.inputs (has.extent.0, has.extent.1, refl)));
-    }) p.contents;
+          inputs = has.inputs;
+          front = has.front;
+          count = has.count;
+          within = subst (λ (t : List Arrival → List ℕ). has.count ≤ length (t has.inputs)) (sym is) has.within;
+          appended = subst (λ (t : List Arrival → List ℕ). Appends (S.contents old) (S.contents new)
+              (take has.count (t has.inputs))) (sym is) has.appended;
+          extent = subst (λ (t : List Arrival → List ℕ). ExtentPost which result all has.inputs has.count
+              (length (t has.inputs))) (sym is)
+              (subst (λ (n : ℕ). ExtentPost which result all has.inputs n (length (texts.whole has.inputs)))
+              (sym has.extent.2) (extent all has.inputs (has.extent.0, has.extent.1, refl)));
+        }) p.contents;
     failed = failed p.failed;
     flushed = λ settled. p.flushed tt;
   }

@@ -1,13 +1,13 @@
 -- What a run leaves over captures that are read as they arrive. Nothing is claimed of the bytes of a reader or a writer
 -- that are not known.
-use Rattle.std.specs.Prelude.{◌≡◌, ◌⊎◌, ℕ, ◌+◌, ◌≤◌, ◌-◌, ◌^◌, min, List, [], length, take, drop, Bool, Option, Result, Ok, Err, IsOk, OnOk}
+use Rattle.std.specs.Prelude.{◌≡◌, ℕ, ◌+◌, ◌≤◌, List, [], length, take, drop, Option, Result, Ok, Err, OnOk}
 use Rattle.std.specs.Io.KnownBytes.{Appends}
 use Rattle.napt_wire.specs.declared.Side.{Side}
 use Rattle.napt_wire.specs.declared.Side.TheVariants as sides
-use Rattle.napt_capture.specs.{Capture.format_in, Reading.{LeavesBytes, IsReadResult, IsReadFault}, Text.{file_header, text}, declared.device.Source.Ghosts}
+use Rattle.napt_capture.specs.{Capture.format_in, Reading.{LeavesBytes, IsReadResult, IsReadFault}, Text.{text}, declared.device.Source.Ghosts}
 use Rattle.napt_capture.specs.declared.{record_reader.RecordReader.RecordReader, fault.CaptureFault.{CaptureFault, TheVariants.{TooLarge, Read, Memory}}}
 use Rattle.napt_capture.specs.declared.device.Sink as sink
-use Rattle.napt_dispatch.specs.{Dispatch.IsFaultUnder, declared.workers.RunSummary.RunSummary}
+use Rattle.napt_dispatch.specs.{declared.workers.RunSummary.RunSummary}
 use Rattle.napt_records.specs.{Output.records_to, Report.report_text, RecordMerging.MergedInputs, declared.{stream_merger.CutFlags.CutFlags, Fault.Fault}}
 use Rattle.napt_records.specs.declared.{Fault.TheVariants.{Capture, Run, Write}, Which.{Which, TheVariants.{Outside, Inside, Report, Log}}}
 use Rattle.napt_laws.specs.Dispatching.{IsFrontOf}

@@ -7,7 +7,9 @@ ghost use Rattle.napt_log_text.specs.Logs.{first_text};
 ghost use Rattle.napt_run.specs.{LogOrigins.{IsTakenAs, origin_from}, Origins.origin_of, RunningLogs.AreLaws};
 
 use crate::start::Start;
-use napt_account::{LogBuilder, LogFromState, SavedLogState, effects_are_the_log, started_logs_go_on};
+use napt_account::{
+    LogBuilder, LogFromState, SavedLogState, effects_are_the_log, started_logs_go_on,
+};
 use napt_config::Config;
 use napt_log_text::{add_first, add_opening, effects_have_the_rows};
 use std::alloc::{AllocError, Global};

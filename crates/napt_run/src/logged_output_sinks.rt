@@ -44,11 +44,7 @@ impl<W: Sink, V: Sink, K: StreamLog> OutcomeSink for LeavingWithLog<'_, '_, '_, 
     ghost is_settled = { λ x. AreSettled K.is_settled x };
 
     #[inline(always)]
-    fn write(
-        &mut self,
-        time: u64,
-        departed: InputResult<K::Told>,
-    ) -> Result<Option<Vec<u8>>, Fault>
+    fn write(&mut self, time: u64, departed: InputResult<K::Told>) -> Result<Option<Vec<u8>>, Fault>
         ensures { MatchResult result
             (λ _. TakesBoth K.enters self.old ((time, departed) ∷ []) self.new)
             (λ fault. FailsEither K.enters K.fails self.old ((time, departed) ∷ []) fault self.new) }

@@ -1,4 +1,4 @@
-use Rattle.std.proofs.{Common.{List, ℕ, Option, Err, Ok, inl, inr, refl}, lemmas.Result.err_from_is_err_and}
+use Rattle.std.proofs.{Common.{List, ℕ, Option, inl, inr, refl}, lemmas.Result.err_from_is_err_and}
 use Rattle.napt_records.specs.declared.Which.TheVariants.{Outside, Inside}
 use Rattle.napt_run.{specs.Origins.{OriginModel, origin_of}, proofs.{BothPassed.before_report, Ends.{capture_ended, inside_is, of_text, outside_is}}}
 use Rattle.napt_run.proofs.start.OriginSetting.stream.Goals as goal
