@@ -10,7 +10,7 @@ use Rattle.napt_records.specs.{StreamMergers.{MergeEndsWith, HandsOutInputs, cut
 use Rattle.napt_records.specs.declared.stream_merger.{StreamMerger.StreamMerger, SideFault.SideFault}
 use Rattle.napt_rules.specs.Prelude.{Arrival}
 use Rattle.napt_sequential.specs.{Inputs.InputsCame, declared.passage.Passage.Passage}
-use Rattle.napt_run.specs.{OutputSinks.{IsOfOutput, SinkFails, IsSettled, SinkTakes, TimedOutcomes}, LogRuns.{IsOfLog, Legs, legs_told}, Runs.run_left_of, declared.output_sinks.Leaving.Leaving}
+use Rattle.napt_run.specs.{OutputSinks.{IsOfOutput, SinkFails, IsSettled, SinkTakes, TimedOutcomes}, LogRuns.{IsLogFault, Legs, legs_told}, Runs.run_left_of, declared.output_sinks.Leaving.Leaving}
 use Rattle.napt_run.specs.declared.capture_run.Totals.{Totals}
 
 -- THE OUTPUTS
@@ -61,7 +61,7 @@ module _ {A F W V : Type 0} {S : sink.Ghosts W} {T : sink.Ghosts V} (origin : Or
   PassesBy (Ok passed) = RunPassesWell passed
   PassesBy (Err (pass_faults.Arrival fault)) = RunPassesTo (Some fault)
   PassesBy (Err (pass_faults.Departure fault)) =
-      (IsOfOutput fault × RunPassesEarly fault) ⊎ (IsOfLog fault × RunPassesHalted)
+      (IsOfOutput fault × RunPassesEarly fault) ⊎ (IsLogFault fault × RunPassesHalted)
   PassesBy (Err (pass_faults.Run fault)) = RunPassesHalted
 
 module _ {R Q W V : Type 0} {G : source.Ghosts R} {H : source.Ghosts Q} {S : sink.Ghosts W} {T : sink.Ghosts V}
@@ -112,7 +112,7 @@ module _ {P A F K : Type 0} (tells : Passage → P) (origin : OriginModel) (hand
     pub first : List Arrival
     pub later : List Arrival
     pub come : HasCome hands ends from (first ++ later) left
-    pub of_log : IsOfLog fault
+    pub of_log : IsLogFault fault
     pub failed : fails old (legs_told tells origin first) fault new
 
   abbrev pub EntersBy : Result RunSummary (PassFault F Fault) → Type 0

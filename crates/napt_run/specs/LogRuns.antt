@@ -23,10 +23,10 @@ legs_told tells origin inputs =
     map (λ trace. (trace.now, tells trace.first, tells trace.second)) (traces_by origin inputs)
 
 -- a log fails so: it could not be written, or not be kept
-abbrev pub IsOfLog : Fault → Type 0
-IsOfLog (Write Log fault) = ⊤
-IsOfLog (Run fault) = ⊤
-IsOfLog other = ⊥
+abbrev pub IsLogFault : Fault → Type 0
+IsLogFault (Write Log fault) = ⊤
+IsLogFault (Run fault) = ⊤
+IsLogFault other = ⊥
 
 module _ {P K : Type 0} (tells : Passage → P) (origin : OriginModel) (enters : K → List (Legs P) → K → Type 0)
     (fails : K → List (Legs P) → Fault → K → Type 0) (is_settled : K → Type 0) (inside outside : Option (List ℕ))
@@ -56,7 +56,7 @@ module _ {P K : Type 0} (tells : Passage → P) (origin : OriginModel) (enters :
   pub record LogFailsOver (fault : Fault) : Type 0 where
     pub inputs : List Arrival
     pub front : IfHeld inside outside (λ all. IsFrontOf inputs all.arrivals)
-    pub of_log : IsOfLog fault
+    pub of_log : IsLogFault fault
     pub failed : fails old (legs_told tells origin inputs) fault new
 
   -- where the run failed, the log may have failed too

@@ -2,7 +2,7 @@
 use Rattle.std.{specs.Prelude.{◌≡◌, ◌⊎◌, ℕ, List, [], ◌++◌, map, refl}, proofs.{Common.{sym, ◌∙◌, subst}, lemmas.List.map-append}}
 use Rattle.napt_capture.specs.declared.device.Sink.{Ghosts}
 use Rattle.napt_dispatch.specs.declared.outcome_sink.InputResult.{InputResult}
-use Rattle.napt_run.specs.{OutputSinks.{IsOfOutput, SinkFails, IsSettled, SinkTakes, TimedOutcomes}, OutputSinkLaws.{takes_none, takes_more}, LogRuns.{IsOfLog, Legs}}
+use Rattle.napt_run.specs.{OutputSinks.{IsOfOutput, SinkFails, IsSettled, SinkTakes, TimedOutcomes}, OutputSinkLaws.{takes_none, takes_more}, LogRuns.{IsLogFault, Legs}}
 use Rattle.napt_records.specs.declared.Fault.{Fault}
 use Rattle.napt_run.specs.declared.logged_output_sinks.LeavingWithLog.{LeavingWithLog}
 
@@ -42,7 +42,7 @@ module _ {P W V K : Type 0} {S : Ghosts W} {T : Ghosts V} where
   -- the log failed, and no output has more than before
   pub record FailsLog (fails : K → List (Legs P) → Fault → K → Type 0) (old : LeavingWithLog W V K S T)
       (all : List (ℕ × InputResult P)) (fault : Fault) (new : LeavingWithLog W V K S T) : Type 0 where
-    pub of_log : IsOfLog fault
+    pub of_log : IsLogFault fault
     pub kept : new.leaving ≡ old.leaving
     pub failed : fails old.log.now (legs_in all) fault new.log.now
     pub same : IsSameSinkPlace old new

@@ -4,7 +4,7 @@ ghost use Rattle.std.specs.Prelude.{◌≡◌, [], List, true, IfErr, IfOk, Matc
 ghost use Rattle.napt_rules.specs.Prelude.{TakesState};
 ghost use Rattle.napt_account.specs.{LogBuilders.part_in, LogStarts.is_saved_log_state};
 ghost use Rattle.napt_sequential.specs.declared.passage.Trace.{Trace as Did};
-ghost use Rattle.napt_run.specs.{LogOrigins.{LoggedOrigin, log_origin, texts_from, texts_of}, LogRuns.IsOfLog, Origins.origin_of, OutputSinks.named, Posts.IsTextFault, RunningLogs.{IsReady, ending_with, running_log_of}};
+ghost use Rattle.napt_run.specs.{LogOrigins.{LoggedOrigin, log_origin, texts_from, texts_of}, LogRuns.IsLogFault, Origins.origin_of, OutputSinks.named, Posts.IsTextFault, RunningLogs.{IsReady, ending_with, running_log_of}};
 ghost use Rattle.napt_records.specs.declared.Which.TheVariants.{Log};
 
 use crate::log_start::{LogStart, TakenLog, log_laws, take_up};
@@ -107,7 +107,7 @@ impl<'a, 'b, L: Sink> LogWriter<'a, 'b, L> {
     /// Takes the trace of the next input, and returns its rows.
     #[inline(always)]
     fn rows(&mut self, trace: Trace) -> Result<String, Fault>
-        ensures of_log { IfErr result IsOfLog }
+        ensures of_log { IfErr result IsLogFault }
         ensures rows { (from : LoggedOrigin) (before : List Did) → LogIsAt from before self.old →
             MatchResult result
             (λ text. EntersWith from before trace self.old self.new (string_bytes text))

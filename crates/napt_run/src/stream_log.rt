@@ -3,7 +3,7 @@
 ghost use Rattle.std.specs.Prelude.{◌≡◌, ◌++◌, [], ◌∷◌, ℕ, Bool, List, Option, Result, Ok, Err, IfErr, MatchResult, OnOk};
 ghost use Rattle.napt_account.specs.Log.{LogModel};
 ghost use Rattle.napt_records.specs.declared.{fault.Fault.Fault as KnownFault, stream_merger.CutFlags.CutFlags};
-ghost use Rattle.napt_run.specs.{LogRuns.{EntersAll, IsOfLog, LogsTo}, Origins.OriginModel, Posts.{FaultPost, IsTextFault}, Streams.IsReportFault};
+ghost use Rattle.napt_run.specs.{LogRuns.{EntersAll, IsLogFault, LogsTo}, Origins.OriginModel, Posts.{FaultPost, IsTextFault}, Streams.IsReportFault};
 
 use napt_account::OpenLog;
 use napt_records::Fault;
@@ -48,14 +48,14 @@ pub trait StreamLog {
 
     /// Enters the next input, whose legs were at a time in ns.
     fn enter(&mut self, now: u64, first: Self::Told, second: Self::Told) -> Result<(), Fault>
-        ensures of_log { IfErr result IsOfLog }
+        ensures of_log { IfErr result IsLogFault }
         ensures enters { MatchResult result
             (λ _. enters self.old ((now, first, second) ∷ []) self.new)
             (λ fault. fails self.old ((now, first, second) ∷ []) fault self.new) };
 
     /// Brings what was entered to its destination: a flush.
     fn settle(&mut self) -> Result<(), Fault>
-        ensures of_log { IfErr result IsOfLog }
+        ensures of_log { IfErr result IsLogFault }
         ensures settles { MatchResult result (λ _. enters self.old [] self.new × is_settled self.new)
             (λ fault. fails self.old [] fault self.new) };
 
