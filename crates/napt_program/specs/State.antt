@@ -14,14 +14,14 @@ use Rattle.napt_program.specs.declared.stop.StateRefusal.TheVariants as refusal
 abbrev pub IsAnew : ResumedState → Type 0
 IsAnew it = (it.state ≡ record { clock = 0; list = [] }) × (it.saved ≡ no_saved_log)
 
-abbrev pub taken_in : ResumedState → TakenState
-taken_in it = record { state = it.state; log = it.saved; ended = it.ended }
+abbrev pub taken_start : ResumedState → TakenState
+taken_start it = record { state = it.state; log = it.saved; ended = it.ended }
 
 -- It is what the text says, under the rules: the text of these contents, unless an earlier version wrote its log. Misfits end
 -- if they are to.
 abbrev pub IsStateOf : Bool → Rules → List ℕ → ResumedState → Type 0
 IsStateOf ends rules text it = (told : StateFileModel) × IsReadAs text told
-    × (taken_in it ≡ taken_of ends rules told) × (it.log ≡ log_end told.log)
+    × (taken_start it ≡ taken_of ends rules told) × (it.log ≡ log_end told.log)
 
 -- If the stop refuses a binding, the text is that of a state whose first misfit under the rules has the stop's reason.
 abbrev pub ReportsMisfit : Bool → Rules → List ℕ → Stop → Type 0

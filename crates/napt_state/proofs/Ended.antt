@@ -8,7 +8,7 @@ use Rattle.napt_binding.specs.Ends.{end_by_protocol, is_before}
 use Rattle.napt_account.specs.declared.account.Account.{Account}
 use Rattle.napt_account.specs.{LogStarts.{SavedLogStateModel, accounted, are_accounts, are_apart, has_redirect, is_account, is_saved_log_state, resumed_entry, with_account}, LogParts.is_open, OpenEntries.{entry_key, external_eq}}
 use Rattle.napt_state.proofs.{Standing.{going_on, dynamic_going}, Taken.drop_before}
-use Rattle.napt_state.specs.EndedMisfits.{EndsMisfits, IsLate, before_fitting, count_in, ended_misfits, fitting, fitting_in, given_up, given_up_if, goes_on, one_if, why_ended, without_misfits}
+use Rattle.napt_state.specs.EndedMisfits.{EndsMisfits, IsLate, before_fitting, misfits_in, ended_misfits, fitting, fitting_in, given_up, given_up_if, goes_on, one_if, why_ended, without_misfits}
 
 -- ONE MORE BINDING
 
@@ -64,8 +64,8 @@ module _ (rules : Rules) (clock : ℕ) (b : Binding) (rest : List Binding) where
   ended_as m is = ap (λ w. given_up_if w b ∷ ended_misfits rules clock rest) is
 
   pub counted_as : (m : Option Misfit) → why ≡ m →
-      count_in rules clock (b ∷ rest) ≡ one_if m + count_in rules clock rest
-  counted_as m is = ap (λ w. one_if w + count_in rules clock rest) is
+      misfits_in rules clock (b ∷ rest) ≡ one_if m + misfits_in rules clock rest
+  counted_as m is = ap (λ w. one_if w + misfits_in rules clock rest) is
 
 -- THE LIST FROM A PLACE ON
 
@@ -119,9 +119,9 @@ module _ (rules : Rules) (clock : ℕ) (all list : List Binding) (left : ℕ) (b
       ∙ ap (λ (d : Binding). d ∷ ended_misfits rules clock (drop left all)) is
       ∙ sym (ap (ended_misfits rules clock) here)
 
-  pub many_after : (many : ℕ) → many ≡ one_if (why rules clock b (drop left all)) + count_in rules clock (drop left all) →
-      many ≡ count_in rules clock (drop (left - 1) all)
-  many_after many is = is ∙ sym (ap (count_in rules clock) here)
+  pub many_after : (many : ℕ) → many ≡ one_if (why rules clock b (drop left all)) + misfits_in rules clock (drop left all) →
+      many ≡ misfits_in rules clock (drop (left - 1) all)
+  many_after many is = is ∙ sym (ap (misfits_in rules clock) here)
 
   pub fits_if_some : (m : Option Misfit) → is_some m ≡ true → why rules clock b (drop left all) ≡ m →
       fitting_in rules clock (drop (left - 1) all) ≡ fitting_in rules clock (drop left all)

@@ -53,17 +53,17 @@ abbrev pub one_if : Option Misfit → ℕ
 one_if None = 0
 one_if (Some why) = 1
 
-abbrev pub count_in : Rules → ℕ → List Binding → ℕ
-count_in rules clock [] = 0
-count_in rules clock (b ∷ rest) =
-    one_if (why_ended rules clock b (fitting_in rules clock rest)) + count_in rules clock rest
+abbrev pub misfits_in : Rules → ℕ → List Binding → ℕ
+misfits_in rules clock [] = 0
+misfits_in rules clock (b ∷ rest) =
+    one_if (why_ended rules clock b (fitting_in rules clock rest)) + misfits_in rules clock rest
 
 -- The state without its misfits, and how many they are.
 abbrev pub without_misfits : Rules → State → State
 without_misfits rules state = record state { list = ended_misfits rules state.clock state.list }
 
 abbrev pub misfit_count : Rules → State → ℕ
-misfit_count rules state = count_in rules state.clock state.list
+misfit_count rules state = misfits_in rules state.clock state.list
 
 -- LAWS
 

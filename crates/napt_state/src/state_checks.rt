@@ -228,7 +228,7 @@ fn end_misfits_in(
     ensures list { OnOk result (list.new.items
         ≡ ending.ended_misfits config.now clock list.old.items) }
     ensures many { IfOk result (λ many. many
-        ≡ ending.count_in config.now clock list.old.items) }
+        ≡ ending.misfits_in config.now clock list.old.items) }
 {
     let redirects = redirect_endpoints(alloc, config)?;
     let mut behind = Endpoints::new(alloc);

@@ -2,7 +2,7 @@
 use Rattle.std.proofs.Common.{◌≡◌, ◌∙◌, ◌+◌, ℕ, List, [], Option, None, is_some, true, false, drop, length, refl, subst, sym, ap, arith}
 use Rattle.std.proofs.Math.ListN.{drop_of_length-le}
 use Rattle.napt_rules.specs.{Bindings.Binding, Life.hold_ago, declared.Misfit.Misfit}
-use Rattle.napt_state.specs.{EndedMisfits.{count_in, ended_misfits, fitting_in, given_up_if, goes_on, one_if}, StateReaders.AreOf}
+use Rattle.napt_state.specs.{EndedMisfits.{misfits_in, ended_misfits, fitting_in, given_up_if, goes_on, one_if}, StateReaders.AreOf}
 use Rattle.napt_state.proofs.{Ended.{back_after, counted, fits_if_away, fits_if_on, fits_if_some, front_after, live, long_after, many_after, none_found, taken_out, value_of, why}, Taken.are_more}
 use Rattle.napt_state.proofs.state_checks.end_misfits_in.Goals as goal
 
@@ -21,7 +21,7 @@ loop-left-init c =
       long = refl;
       front = refl;
       back = none ∙ sym (ap (ended_misfits rules clock) none);
-      many = sym (ap (count_in rules clock) none);
+      many = sym (ap (misfits_in rules clock) none);
     }
 
 pub index_mut-binding-requires : goal.index_mut-binding-requires
@@ -137,4 +137,4 @@ returns-clause-list c =
 pub returns-clause-many : goal.returns-clause-many
 returns-clause-many c =
     let zero : c.loop-left.left ≡ 0 = omega (arith, c.loop-left-test.false) in
-    c.loop-left.invariant.many ∙ ap (λ n. count_in c.args.config.now c.args.clock (drop n c.args.list.now.items)) zero
+    c.loop-left.invariant.many ∙ ap (λ n. misfits_in c.args.config.now c.args.clock (drop n c.args.list.now.items)) zero
