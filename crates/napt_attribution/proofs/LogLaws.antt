@@ -7,7 +7,7 @@ use Rattle.napt_rules.specs.Prelude.{Arrival, Binding, Each, State, Timers, init
 use Rattle.napt_rules.specs.declared.Row.{Row}
 use Rattle.napt_account.specs.{Questions.is_meant, declared.log.{Entry.Entry, LogEntry.LogEntry, Shortage.Shortage}, Log.{LogModel, begun_behind, first_entry, log_of, log_on, numbered_from, unnumbered, unused_entry}, LogParts.{IsNumbered, LogDelta, in_order_of_end, is_open, living_at}, OpenEntries.Has, ResumedLogRuns.{left_of, part_of}, WholeLogs.{ArePartsOfLog, PartsAreTheLog, all_parts, origin, parts_joined}}
 use Rattle.napt_account.proofs.{InOrder.{Differ, each_has, has_each}, Numbers.{begun_numbered, differ_moved, log_rises}, Rising.rises_differ, Sorted.{has_back, has_moved}}
-use Rattle.napt_log_text.specs.{LogReaders.{events_after, log_events, part_events}, Logs.log_anew, Requests.{holders, is_asked, is_holder}, declared.{event.LogEvent.{LogEvent, TheVariants.{Made, Ended, Living, Refused}}, request.Request.Request}}
+use Rattle.napt_log_text.specs.{LogReaders.{events_after, log_events, part_events}, Logs.log_anew, Requests.{holders, is_asked, is_holder, meets}, declared.{event.LogEvent.{LogEvent, TheVariants.{Made, Ended, Living, Refused}}, request.{Request.Request, TimeSpan.TimeSpan}}}
 use Rattle.napt_attribution.specs.{Asked.is_asked_about, LogLaws.{RowsNameTheHolders, RowsTellTheLog, without_counts}, SavedLogs.{asked_entries, bare_entry, end_in, end_told, entries_in, made_in}, declared.requests.HolderRequest.HolderRequest}
 
 -- THE ROWS THAT TELL AN END, by their entries
@@ -240,10 +240,17 @@ bare_entries : (ls : List LogEntry) → map (λ l. l.entry) (map (λ l. bare_ent
 bare_entries [] = refl
 bare_entries (l ∷ ls) = ap (λ (es : List Entry). without_counts l.entry ∷ es) (bare_entries ls)
 
+same_moments : (at : Option TimeSpan) (e : Entry) → meets at (without_counts e) ≡ meets at e
+same_moments None e = refl
+same_moments (Some span) e = refl
+
 holders_bare : (request : Request) (es : List Entry) →
     holders request (map without_counts es) ≡ map without_counts (holders request es)
 holders_bare request [] = refl
-holders_bare request (e ∷ es) = elim (is_holder request e) as (λ b.
+holders_bare request (e ∷ es) =
+    ap (λ (m : Bool). cond (is_asked request e && m) (without_counts e ∷ holders request (map without_counts es))
+    (holders request (map without_counts es))) (same_moments request.at e)
+    ∙ elim (is_holder request e) as (λ b.
     cond b (without_counts e ∷ holders request (map without_counts es)) (holders request (map without_counts es))
     ≡ map without_counts (cond b (e ∷ holders request es) (holders request es))) [
       | true ↦ ap (λ (xs : List Entry). without_counts e ∷ xs) (holders_bare request es)

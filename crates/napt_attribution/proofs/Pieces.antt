@@ -1,16 +1,16 @@
 -- Reading the rows of a log one after another.
-use Rattle.std.proofs.{Common.{◌≡◌, ◌⊎◌, ℕ, Bool, true, false, List, [], ◌∷◌, ◌++◌, Option, Some, None, Result, Ok, Err, IfOk, refl, sym, ◌∙◌, ap, subst, append-nil, append_assoc}, lemmas.Result.IfOk-from_err}
-use Rattle.std.specs.{Result.IsErr, List.flat_map}
+use Rattle.std.proofs.{Common.{◌≡◌, ◌⊎◌, ℕ, Bool, true, false, List, [], ◌∷◌, ◌++◌, Option, Some, None, Result, Ok, Err, IfOk, ◌==◌, if◌then◌else◌, refl, sym, ◌∙◌, ap, subst, append-nil, append_assoc}, lemmas.Result.IfOk-from_err}
+use Rattle.std.specs.{Io.KnownBytes.prepend_known, List.flat_map, Result.IsErr}
 use Rattle.napt_config.specs.Rules.{Rules}
 use Rattle.napt_rules.specs.Prelude.{Each}
-use Rattle.napt_log_text.specs.{LogReaders.LogUnlessUnread, LogRows.IsEvent, Rows.csv_row, declared.{event.LogEvent.LogEvent, log_reader.LogFileFault.LogFileFault}}
+use Rattle.napt_log_text.specs.{LogReaders.LogUnlessUnread, LogRows.IsEvent, Rows.csv_row, declared.{event.LogEvent.LogEvent, log_reader.LogFileFault.LogFileFault, log_row.LogRow.LogRow}}
 use Rattle.napt_attribution.specs.{SavedLogs.{FollowAll, Follows, Tells, entries_in}, declared.{requests.HolderRequest.HolderRequest, saved_rows.SavedRows.SavedRows}}
 
 -- where the read failed, so does what needs it
 pub unless : {A B E : Type 0} (read : Result A LogFileFault) (fact : Type 0) (result : Result B E) (P : B → Type 0) →
     LogUnlessUnread read fact → (fact → IfOk result P) → (IsErr read → IsErr result) → IfOk result P
-unless (Ok x) fact result P h use fails = use h
-unless (Err e) fact result P h use fails = IfOk-from_err result P (fails refl)
+unless (Ok x) fact result P h given fails = given h
+unless (Err e) fact result P h given fails = IfOk-from_err result P (fails refl)
 
 -- of a log of these events, with these bytes left
 pub record IsRead (rules : Rules) (asked : List HolderRequest) (events : List LogEvent) (left : Option (List ℕ)) (rows : SavedRows) : Type 0 where
@@ -69,3 +69,13 @@ begins rules asked events left rows fit bytes tells = record {
   tells = tells;
   follow = λ h. h;
 }
+
+-- a row that was read
+pub row_read : {E : Type 0} (read : Result (Option LogRow) E) (found : Option LogRow) (row told : LogRow) → read ≡ Ok found →
+    found ≡ Some row → read ≡ Ok (Some told) → row ≡ told
+row_read read found row told is some same = let ok = sym is ∙ same in cc (ok, some)
+
+-- behind an empty buffer is what the device has
+pub behind_buffer : (capacity : ℕ) (buffer : List ℕ) (left : Option (List ℕ)) (bytes : List ℕ) → capacity ≡ 8192 → buffer ≡ [] →
+    left ≡ Some bytes → (if capacity == 0 then None else prepend_known buffer left) ≡ Some bytes
+behind_buffer capacity buffer left bytes a b c = λ i. if a i == 0 then None else prepend_known (b i) (c i)

@@ -35,7 +35,7 @@ impl LogPiece<'_> {
         alloc: Global,
         device: D,
     ) -> Result<(), SavedLogRefusal>
-        ensures { (rules : Rules) (asked : List Asked) (events : List Told) → self.is_first ≡ true →
+        ensures { (rules : Rules) (asked : List Asked) (events : List Told) → self.entry.is_first ≡ true →
             Each IsEvent events →
             D.remaining device ≡ Some (csv_header ++ flat_map (csv_row rules) events) →
             logs.Tells asked rows.old [] →
