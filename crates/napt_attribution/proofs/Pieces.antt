@@ -71,9 +71,8 @@ begins rules asked events left rows fit bytes tells = record {
 }
 
 -- a row that was read
-pub row_read : {E : Type 0} (read : Result (Option LogRow) E) (found : Option LogRow) (row told : LogRow) → read ≡ Ok found →
-    found ≡ Some row → read ≡ Ok (Some told) → row ≡ told
-row_read read found row told is some same = let ok = sym is ∙ same in cc (ok, some)
+pub same_row : (told row : LogRow) → Some told ≡ Some row → row ≡ told
+same_row told row h = cc
 
 -- behind an empty buffer is what the device has
 pub behind_buffer : (capacity : ℕ) (buffer : List ℕ) (left : Option (List ℕ)) (bytes : List ℕ) → capacity ≡ 8192 → buffer ≡ [] →
