@@ -284,12 +284,12 @@ module _ (asked : List HolderRequest) where
   all_asked wanted unended ended all entries keeps ordered all_in =
       let rises : Rises 1 (kept_of entries) = rises_filter (λ l. is_kept l.entry) 1 entries keeps.rising in
       let same : all.entries ≡ pairs (kept_of entries) = same_entries nat_cmp nat_cmp_total exact_unsigned all.entries (pairs (kept_of entries))
-          (truth (in_order all.entries all_in.1)) (truth (in_order (pairs (kept_of entries)) (keys_rise 1 (kept_of entries) rises))) (λ q. all_in.0 q
-          ∙ (update_all_distinct (eq_by_cmp_equiv nat_cmp_total) (eq_by_cmp nat_cmp) (λ x y. refl) (get nat_cmp ended) unended.entries q
-          (IsDistinct-from_sorted nat_cmp (keys_of unended.entries) ordered)
-          ∙ (ap₂ option_or (keeps.unended q) (keeps.ended q)
-          ∙ (either (entry_of entries q) ∙ sym (look_up q 1 entries keeps.rising))))) in
+      (truth (in_order all.entries all_in.1)) (truth (in_order (pairs (kept_of entries)) (keys_rise 1 (kept_of entries) rises))) (λ q. all_in.0 q
+      ∙ (update_all_distinct (eq_by_cmp_equiv nat_cmp_total) (eq_by_cmp nat_cmp) (λ x y. refl) (get nat_cmp ended) unended.entries q
+      (IsDistinct-from_sorted nat_cmp (keys_of unended.entries) ordered)
+      ∙ (ap₂ option_or (keeps.unended q) (keeps.ended q)
+      ∙ (either (entry_of entries q) ∙ sym (look_up q 1 entries keeps.rising))))) in
       let wants : (λ (e : Entry). is_wanted wanted e.binding.external) ≡ (λ e. is_asked_about asked e.binding.external)
-          = λ i e. keeps.wanted e.binding.external i in
+      = λ i e. keeps.wanted e.binding.external i in
       ap₂ (λ (p : Entry → Bool) (es : List (ℕ × Entry)). filter p (values_of es)) wants same
       ∙ values_asked entries

@@ -184,14 +184,14 @@ rows_tell parts rules invariant inputs =
     let ls : List LogEntry = (log_of rules inputs).entries in
     let es : List LogEvent = log_events rules inputs in
     let told : ArePartsOfLog rules state log inputs = parts rules invariant state log (begun_numbered rules state 0)
-        (begun_open rules (0 + 1) rules.redirects) inputs in
+    (begun_open rules (0 + 1) rules.redirects) inputs in
     let tells : List LogEntry = all_parts (λ part. part.ended) rules state log inputs ++ living in
     let differ : Differ tells = differ_moved ls tells (IsPermutation-sym tells ls told.entries)
-        (rises_differ 1 ls (log_rises rules inputs)) in
+    (rises_differ 1 ls (log_rises rules inputs)) in
     let ends : Each (λ l. end_in es l.number ≡ l.entry.end) ls = has_each (λ l. end_in es l.number ≡ l.entry.end) ls (λ l has.
-        end_of_tellers es l.number
-        ∙ (ap (λ (ms : List LogEntry). end_by ms l.number) (tellers_of_run rules state log inputs living)
-        ∙ end_of tells differ l (has_back tells ls told.entries l has))) in
+    end_of_tellers es l.number
+    ∙ (ap (λ (ms : List LogEntry). end_by ms l.number) (tellers_of_run rules state log inputs living)
+    ∙ end_of tells differ l (has_back tells ls told.entries l has))) in
     by_origin (end_in es) (made_in es)
     ∙ (ap (λ (ms : List LogEntry). map (bare_of (end_in es)) (map origin ms)) (made_of_run rules state log inputs living)
     ∙ (ap (map (bare_of (end_in es))) told.made
@@ -212,7 +212,7 @@ asked_of : (asked : List HolderRequest) (one : HolderRequest) → Has asked one 
 asked_of [] one h e is = absurd h
 asked_of (other ∷ asked) one (inl same) e is =
     let meant : is_meant other.request.party e.binding.external ≡ true =
-        subst (λ (x : HolderRequest). is_meant x.request.party e.binding.external ≡ true) (sym same) (both_second _ _ is) in
+    subst (λ (x : HolderRequest). is_meant x.request.party e.binding.external ≡ true) (sym same) (both_second _ _ is) in
     ap (λ (b : Bool). b || is_asked_about asked e.binding.external) meant
 asked_of (other ∷ asked) one (inr has) e is =
     or_true (is_meant other.request.party e.binding.external) (is_asked_about asked e.binding.external) (asked_of asked one has e is)
@@ -262,6 +262,6 @@ rows_name tell rules invariant inputs asked one has =
     let es : List LogEntry = entries_in (log_events rules inputs) in
     let log : List LogEntry = (log_of rules inputs).entries in
     among (is_holder one.request) (λ e. is_asked_about asked e.binding.external)
-        (λ e is. asked_of asked one has e (both_first _ _ is)) es
+    (λ e is. asked_of asked one has e (both_first _ _ is)) es
     ∙ (ap (λ (ls : List LogEntry). holders one.request (map (λ l. l.entry) ls)) (tell rules invariant inputs)
     ∙ (ap (holders one.request) (bare_entries log) ∙ holders_bare one.request (unnumbered (log_of rules inputs))))

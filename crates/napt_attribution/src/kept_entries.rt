@@ -35,11 +35,7 @@ impl KeptEntries {
     }
 
     /// Takes an entry without an end, whose number is greater than those before.
-    pub fn insert(
-        &mut self,
-        number: u64,
-        entry: Entry,
-    ) -> Result<(), AllocFailed<(u64, Entry)>>
+    pub fn insert(&mut self, number: u64, entry: Entry) -> Result<(), AllocFailed<(u64, Entry)>>
         ensures { (asked : List Asked) (entries : List Listed) → logs.Keeps asked self.old entries →
             entry.end ≡ None → Rises 1 (entries ++ record { number = number; entry = entry } ∷ []) →
             OnOk result (logs.Keeps asked self.new

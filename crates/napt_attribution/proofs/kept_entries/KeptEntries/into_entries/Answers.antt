@@ -5,5 +5,5 @@ use Rattle.napt_attribution.proofs.kept_entries.KeptEntries.into_entries.Goals a
 pub returns : goal.returns
 returns c = λ asked entries keeps.
     let all = all_asked asked c.args.self.wanted c.args.self.unended c.args.self.ended c.append.new.self entries keeps
-        c.append.ensures.other_was_ordered c.in_ok-append.ensures.inserts_all in
+    c.append.ensures.other_was_ordered c.in_ok-append.ensures.inserts_all in
     IfOk-weaker c.among.result _ _ (λ found is. is ∙ all) c.among.ensures
