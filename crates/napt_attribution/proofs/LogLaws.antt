@@ -8,7 +8,7 @@ use Rattle.napt_rules.specs.declared.Row.{Row}
 use Rattle.napt_account.specs.{Questions.is_meant, declared.log.{Entry.Entry, LogEntry.LogEntry, Shortage.Shortage}, Log.{LogModel, begun_behind, first_entry, log_of, log_on, numbered_from, unnumbered, unused_entry}, LogParts.{IsNumbered, LogDelta, in_order_of_end, is_open, living_at}, OpenEntries.Has, ResumedLogRuns.{left_of, part_of}, WholeLogs.{ArePartsOfLog, PartsAreTheLog, all_parts, origin, parts_joined}}
 use Rattle.napt_account.proofs.{InOrder.{Differ, each_has, has_each}, Numbers.{begun_numbered, differ_moved, log_rises}, Rising.rises_differ, Sorted.{has_back, has_moved}}
 use Rattle.napt_log_text.specs.{LogReaders.{events_after, log_events, part_events}, Logs.log_anew, Requests.{holders, is_asked, is_holder, meets}, declared.{event.LogEvent.{LogEvent, TheVariants.{Made, Ended, Living, Refused}}, request.{Request.Request, TimeSpan.TimeSpan}}}
-use Rattle.napt_attribution.specs.{Asked.is_asked_about, LogLaws.{RowsNameTheHolders, RowsTellTheLog, without_counts}, SavedLogs.{asked_entries, bare_entry, end_among, end_told, entries_in, made_in}, declared.requests.HolderRequest.HolderRequest}
+use Rattle.napt_attribution.specs.{Asked.is_asked_about, LogLaws.{RowsNameTheHolders, RowsTellTheLog, without_counts}, SavedLogs.{asked_entries, bare_entry, row_end_among, end_told, entries_in, made_in}, declared.requests.HolderRequest.HolderRequest}
 
 -- THE ROWS THAT TELL AN END, by their entries
 
@@ -22,7 +22,7 @@ abbrev end_by : List LogEntry → ℕ → Option ℕ
 end_by [] number = None
 end_by (l ∷ ls) number = end_told l number (end_by ls number)
 
-end_of_tellers : (es : List LogEvent) (number : ℕ) → end_among es number ≡ end_by (tellers es) number
+end_of_tellers : (es : List LogEvent) (number : ℕ) → row_end_among es number ≡ end_by (tellers es) number
 end_of_tellers [] number = refl
 end_of_tellers (Made l ∷ es) number = end_of_tellers es number
 end_of_tellers (Ended l ∷ es) number = ap (end_told l number) (end_of_tellers es number)
@@ -188,14 +188,14 @@ rows_tell parts rules invariant inputs =
     let tells : List LogEntry = all_parts (λ part. part.ended) rules state log inputs ++ living in
     let differ : Differ tells = differ_moved ls tells (IsPermutation-sym tells ls told.entries)
     (rises_differ 1 ls (log_rises rules inputs)) in
-    let ends : Each (λ l. end_among es l.number ≡ l.entry.end) ls = has_each (λ l. end_among es l.number ≡ l.entry.end) ls (λ l has.
+    let ends : Each (λ l. row_end_among es l.number ≡ l.entry.end) ls = has_each (λ l. row_end_among es l.number ≡ l.entry.end) ls (λ l has.
     end_of_tellers es l.number
     ∙ (ap (λ (ms : List LogEntry). end_by ms l.number) (tellers_of_run rules state log inputs living)
     ∙ end_of tells differ l (has_back tells ls told.entries l has))) in
-    by_origin (end_among es) (made_in es)
-    ∙ (ap (λ (ms : List LogEntry). map (bare_of (end_among es)) (map origin ms)) (made_of_run rules state log inputs living)
-    ∙ (ap (map (bare_of (end_among es))) told.made
-    ∙ (sym (by_origin (end_among es) ls) ∙ with_own_ends (end_among es) ls ends)))
+    by_origin (row_end_among es) (made_in es)
+    ∙ (ap (λ (ms : List LogEntry). map (bare_of (row_end_among es)) (map origin ms)) (made_of_run rules state log inputs living)
+    ∙ (ap (map (bare_of (row_end_among es))) told.made
+    ∙ (sym (by_origin (row_end_among es) ls) ∙ with_own_ends (row_end_among es) ls ends)))
 
 -- HOLDERS
 

@@ -5,7 +5,7 @@ use Rattle.napt_wire.specs.declared.{Cause.TheVariants.OverQuota, Protocol.Proto
 use Rattle.napt_rules.specs.{Prelude.Each, declared.Row.Row}
 use Rattle.napt_account.{specs.{declared.log.{Entry.Entry, LogEntry.LogEntry, Shortage.Shortage}, LogParts.Rises}, proofs.Rising.rises_pushed}
 use Rattle.napt_log_text.specs.{LogRows.{number_field, saved_row}, Rows.shortage_number, declared.{event.LogEvent.{LogEvent, TheVariants.{Made, Ended, Living, Refused}}, log_row.{LogField.TheVariants.{Empty, Number}, LogRow.LogRow}}}
-use Rattle.napt_attribution.specs.{SavedLogs.{Follows, HasBinding, HasOpen, Keeps, KeepsAll, Tells, bare_entry, end_among, end_told, entries_in, entry_of, entry_with_end, has_no_end, made_in, passing}, declared.{requests.HolderRequest.HolderRequest, kept_entries.KeptEntries.KeptEntries, saved_rows.SavedRows.SavedRows}}
+use Rattle.napt_attribution.specs.{SavedLogs.{Follows, HasBinding, HasOpen, Keeps, KeepsAll, Tells, bare_entry, row_end_among, end_told, entries_in, entry_of, entry_with_end, has_no_end, made_in, passing}, declared.{requests.HolderRequest.HolderRequest, kept_entries.KeptEntries.KeptEntries, saved_rows.SavedRows.SavedRows}}
 
 -- EVENTS
 
@@ -27,31 +27,31 @@ or_none None = refl
 or_none (Some x) = refl
 
 end_more : (es : List LogEvent) (e : LogEvent) (number : ℕ) →
-    end_among (es ++ e ∷ []) number ≡ option_or (end_among es number) (end_among (e ∷ []) number)
+    row_end_among (es ++ e ∷ []) number ≡ option_or (row_end_among es number) (row_end_among (e ∷ []) number)
 end_more [] e number = refl
 end_more (Made l ∷ es) e number = end_more es e number
 end_more (Ended l ∷ es) e number = ap (end_told l number) (end_more es e number)
-    ∙ or_told (l.number == number) l.entry.end (end_among es number) (end_among (e ∷ []) number)
+    ∙ or_told (l.number == number) l.entry.end (row_end_among es number) (row_end_among (e ∷ []) number)
 end_more (Living l ∷ es) e number = ap (end_told l number) (end_more es e number)
-    ∙ or_told (l.number == number) l.entry.end (end_among es number) (end_among (e ∷ []) number)
+    ∙ or_told (l.number == number) l.entry.end (row_end_among es number) (row_end_among (e ∷ []) number)
 end_more (Refused s ∷ es) e number = end_more es e number
 
 abbrev with_ends : (ℕ → Option ℕ) → List LogEntry → List LogEntry
 with_ends end ms = map (λ m. bare_entry (end m.number) m) ms
 
 -- a row that tells no end
-same_ends : (es : List LogEvent) (e : LogEvent) → ((number : ℕ) → end_among (e ∷ []) number ≡ None) →
-    end_among (es ++ e ∷ []) ≡ end_among es
-same_ends es e none = λ i number. (end_more es e number ∙ (ap (option_or (end_among es number)) (none number) ∙ or_none (end_among es number))) i
+same_ends : (es : List LogEvent) (e : LogEvent) → ((number : ℕ) → row_end_among (e ∷ []) number ≡ None) →
+    row_end_among (es ++ e ∷ []) ≡ row_end_among es
+same_ends es e none = λ i number. (end_more es e number ∙ (ap (option_or (row_end_among es number)) (none number) ∙ or_none (row_end_among es number))) i
 
-pub entries_made : (es : List LogEvent) (l : LogEntry) → end_among es l.number ≡ None →
+pub entries_made : (es : List LogEvent) (l : LogEntry) → row_end_among es l.number ≡ None →
     entries_in (es ++ Made l ∷ []) ≡ entries_in es ++ bare_entry None l ∷ []
 entries_made es l none = ap₂ with_ends (same_ends es (Made l) (λ number. refl)) (made_more es (Made l))
-    ∙ (map-append (λ (m : LogEntry). bare_entry (end_among es m.number) m) (made_in es) (l ∷ [])
+    ∙ (map-append (λ (m : LogEntry). bare_entry (row_end_among es m.number) m) (made_in es) (l ∷ [])
     ∙ ap (λ (x : Option ℕ). entries_in es ++ bare_entry x l ∷ []) none)
 
 pub entries_same : (es : List LogEvent) (e : LogEvent) → made_in (e ∷ []) ≡ [] →
-    ((number : ℕ) → end_among (e ∷ []) number ≡ None) → entries_in (es ++ e ∷ []) ≡ entries_in es
+    ((number : ℕ) → row_end_among (e ∷ []) number ≡ None) → entries_in (es ++ e ∷ []) ≡ entries_in es
 entries_same es e unmade none = ap₂ with_ends (same_ends es e none)
     (made_more es e ∙ (ap (λ (ls : List LogEntry). made_in es ++ ls) unmade ∙ append-nil (made_in es)))
 
@@ -71,13 +71,13 @@ number_same n q h = grind (arith, nat_tests)
 
 -- a row that tells this end of this number
 pub entries_ended : (es : List LogEvent) (e : LogEvent) (l : LogEntry) → made_in (e ∷ []) ≡ [] →
-    ((number : ℕ) → end_among (e ∷ []) number ≡ end_told l number None) → end_among es l.number ≡ None →
+    ((number : ℕ) → row_end_among (e ∷ []) number ≡ end_told l number None) → row_end_among es l.number ≡ None →
     entries_in (es ++ e ∷ []) ≡ map (entry_with_end l.number l.entry.end) (entries_in es)
 entries_ended es e l unmade tells none =
-    ap₂ with_ends (λ i number. (end_more es e number ∙ ap (option_or (end_among es number)) (tells number)) i)
+    ap₂ with_ends (λ i number. (end_more es e number ∙ ap (option_or (row_end_among es number)) (tells number)) i)
     (made_more es e ∙ (ap (λ (ls : List LogEntry). made_in es ++ ls) unmade ∙ append-nil (made_in es)))
-    ∙ mapped _ _ _ (λ m. one_ended (l.number == m.number) (end_among es m.number) l.entry.end m
-    (λ same. subst (λ (n : ℕ). end_among es n ≡ None) (number_same l.number m.number same) none)) (made_in es)
+    ∙ mapped _ _ _ (λ m. one_ended (l.number == m.number) (row_end_among es m.number) l.entry.end m
+    (λ same. subst (λ (n : ℕ). row_end_among es n ≡ None) (number_same l.number m.number same) none)) (made_in es)
 
 -- AN ENTRY WITHOUT AN END
 
@@ -97,8 +97,8 @@ no_end end (m ∷ ms) n binding h =
       | false ↦ λ same has. no_end end ms n binding has
     ] refl h
 
-pub open_no_end : (es : List LogEvent) (l : LogEntry) → HasOpen (entries_in es) l → end_among es l.number ≡ None
-open_no_end es l h = no_end (end_among es) (made_in es) l.number l.entry.binding h
+pub open_no_end : (es : List LogEvent) (l : LogEntry) → HasOpen (entries_in es) l → row_end_among es l.number ≡ None
+open_no_end es l h = no_end (row_end_among es) (made_in es) l.number l.entry.binding h
 
 pub open_made : (made : ℕ) (ls : List LogEntry) (l : LogEntry) → Each (λ m. m.number ≤ made) ls → HasOpen ls l → l.number ≤ made
 open_made made [] l each h = absurd h
@@ -147,8 +147,8 @@ module _ (asked : List HolderRequest) (old new : SavedRows) (es : List LogEvent)
       Keeps asked new.kept (entries_in es ++ bare_entry None l ∷ []) →
       Follows (entries_in es) (Made l) × Tells asked new (es ++ Made l ∷ [])
   told_made l less made none kept =
-      let same : end_among (es ++ Made l ∷ []) ≡ end_among es = same_ends es (Made l) (λ number. refl) in
-      let here : end_among es l.number ≡ None = tells.ends l.number less in (
+      let same : row_end_among (es ++ Made l ∷ []) ≡ row_end_among es = same_ends es (Made l) (λ number. refl) in
+      let here : row_end_among es l.number ≡ None = tells.ends l.number less in (
         each_below old.made l.number (entries_in es) tells.keeps.made less,
         record {
           keeps = subst (KeepsAll asked new) (sym (entries_made es l here)) (record {
@@ -161,15 +161,15 @@ module _ (asked : List HolderRequest) (old new : SavedRows) (es : List LogEvent)
         },
       )
 
-  ends_more : (e : LogEvent) (l : LogEntry) → ((number : ℕ) → end_among (e ∷ []) number ≡ end_told l number None) →
-      l.number ≤ old.made → (number : ℕ) → old.made < number → end_among (es ++ e ∷ []) number ≡ None
+  ends_more : (e : LogEvent) (l : LogEntry) → ((number : ℕ) → row_end_among (e ∷ []) number ≡ end_told l number None) →
+      l.number ≤ old.made → (number : ℕ) → old.made < number → row_end_among (es ++ e ∷ []) number ≡ None
   ends_more e l tells_end le number above =
       let other : (l.number == number) ≡ false = grind (arith, nat_tests) in
       end_more es e number ∙ (ap₂ option_or (tells.ends number above) (tells_end number)
       ∙ ap (λ (b : Bool). option_or None (cond b (option_or l.entry.end None) None)) other)
 
   pub told_ended : (e : LogEvent) (l : LogEntry) → made_in (e ∷ []) ≡ [] →
-      ((number : ℕ) → end_among (e ∷ []) number ≡ end_told l number None) → HasOpen (entries_in es) l →
+      ((number : ℕ) → row_end_among (e ∷ []) number ≡ end_told l number None) → HasOpen (entries_in es) l →
       KeepsAll asked new (map (entry_with_end l.number l.entry.end) (entries_in es)) → new.made ≡ old.made →
       Tells asked new (es ++ e ∷ [])
   told_ended e l unmade tells_end has keeps made = record {
@@ -178,7 +178,7 @@ module _ (asked : List HolderRequest) (old new : SavedRows) (es : List LogEvent)
         (omega (arith, above, made));
   }
 
-  pub told_same : (e : LogEvent) → made_in (e ∷ []) ≡ [] → ((number : ℕ) → end_among (e ∷ []) number ≡ None) →
+  pub told_same : (e : LogEvent) → made_in (e ∷ []) ≡ [] → ((number : ℕ) → row_end_among (e ∷ []) number ≡ None) →
       new.kept ≡ old.kept → new.made ≡ old.made → new.unrepeated ≡ old.unrepeated → Tells asked new (es ++ e ∷ [])
   told_same e unmade none kept made repeated = record {
     keeps = subst (KeepsAll asked new) (sym (entries_same es e unmade none)) (record {

@@ -15,11 +15,11 @@ abbrev pub end_told : LogEntry → ℕ → Option ℕ → Option ℕ
 end_told listed number later = cond (listed.number == number) (option_or listed.entry.end later) later
 
 -- The first end that a row tells of a number, if one does.
-abbrev pub end_among : List LogEvent → ℕ → Option ℕ
-end_among [] number = None
-end_among (Ended listed ∷ events) number = end_told listed number (end_among events number)
-end_among (Living listed ∷ events) number = end_told listed number (end_among events number)
-end_among (_ ∷ events) number = end_among events number
+abbrev pub row_end_among : List LogEvent → ℕ → Option ℕ
+row_end_among [] number = None
+row_end_among (Ended listed ∷ events) number = end_told listed number (row_end_among events number)
+row_end_among (Living listed ∷ events) number = end_told listed number (row_end_among events number)
+row_end_among (_ ∷ events) number = row_end_among events number
 
 -- An entry without its counts, and with this end.
 abbrev pub bare_entry : Option ℕ → LogEntry → LogEntry
@@ -27,7 +27,7 @@ bare_entry end listed = record listed { entry = unused_entry listed.entry.bindin
 
 -- The entries that rows tell.
 abbrev pub entries_in : List LogEvent → List LogEntry
-entries_in events = map (λ listed. bare_entry (end_among events listed.number) listed) (made_in events)
+entries_in events = map (λ listed. bare_entry (row_end_among events listed.number) listed) (made_in events)
 
 -- Those of them that requests ask about.
 abbrev pub asked_entries : List HolderRequest → List LogEntry → List Entry
@@ -73,7 +73,7 @@ pub record KeepsAll (asked : List HolderRequest) (rows : SavedRows) (entries : L
 -- The rows of these events have been read.
 pub record Tells (asked : List HolderRequest) (rows : SavedRows) (events : List LogEvent) : Type 0 where
   pub keeps : KeepsAll asked rows (entries_in events)
-  pub ends : (number : ℕ) → rows.made < number → end_among events number ≡ None
+  pub ends : (number : ℕ) → rows.made < number → row_end_among events number ≡ None
 
 -- WHICH ROWS MAY FOLLOW: a new binding has a greater number than those before it, and a binding that ends, or is live at the
 -- end of the log, was made before and has not ended.
