@@ -10,7 +10,7 @@ returns c =
     let rules = c.args.config.now in
     let ends = c.args.ends_misfits in
     let is = c.in_ok-taken.ensures ∙ ap (starting ends rules) c.in_ok-whole.ensures in
-    elim c.match-branch-3.branch [
+    elim c.match-branch-4.branch [
       | in-None w ↦ subst (IsTaken ends rules c.args.self) (sym w.result-is)
           (taken_up ends rules c.args.self c.in_ok-taken.taken is c.in_ok-first_misfit.field-0
           c.in_ok-first_misfit.ensures w.in-None.is)
