@@ -52,7 +52,7 @@ impl fmt::Display for RowFault {
             RowFault::Saved(LogFileFault::Torn) => f.write_str("it breaks off, and is left out"),
             RowFault::Number { next, given } if given > next => write!(
                 f,
-                "binding: expected {next}, found {given}: rows before are missing, or a piece before this one"
+                "binding: expected {next}, found {given}: earlier rows, or an earlier piece, are missing"
             ),
             RowFault::Number { next, given } => {
                 write!(f, "binding: expected {next}, found {given}")
