@@ -3,7 +3,8 @@ use Rattle.std.specs.Prelude.{◌≡◌, ℕ, List, [], Bool, true, false, Some}
 use Rattle.napt_config.specs.Rules.{Rules}
 use Rattle.napt_rules.specs.{Prelude.{misfit}, declared.Row.Row}
 use Rattle.napt_account.specs.LogStarts.{no_saved_log}
-use Rattle.napt_state.specs.{Saved.{log_end, log_taken, state_taken}, StateContents.IsReadAs, StateFiles.{StateFileModel}}
+use Rattle.napt_state.specs.{Saved.{log_end, taken_of}, StateContents.IsReadAs, StateFiles.{StateFileModel}}
+use Rattle.napt_state.specs.declared.state_contents.TakenState.{TakenState}
 use Rattle.napt_state.specs.declared.fault.StateReason.{StateReason, TheVariants.NotUtf8}
 use Rattle.napt_program.specs.declared.{state_reading.ResumedState.ResumedState, stop.{StateRefusal.StateRefusal, Stop.Stop, TheConstants.MEMORY}}
 use Rattle.napt_program.specs.declared.role.FileRole.TheVariants as role
