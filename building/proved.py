@@ -131,7 +131,7 @@ class Build:
         return FIRST + LINE * self.lines[name] + COMPILED * (name in self.programs)
 
     def chain(self, name, seconds):
-        """Returns how long a crate and the longest chain of crates above it take, where each takes so many seconds."""
+        """Returns how long a crate and the longest chain of crates above it take, given the seconds that each takes."""
         above = [self.chain(it, seconds) for it in seconds if name in self.deps[it]]
         return seconds[name] + max(above, default=0)
 

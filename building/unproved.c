@@ -1,6 +1,6 @@
 /* Linked into unproved programs alone. One that a launcher began, and that worked for more than a second of processor time, says as its
    last line on standard error that the proved one is faster. All else is as without this. A program of the kit ends by the C library's
-   _exit, which this stands before, or by a return from main, behind which destructors run. By then each file is closed, one that was
+   _exit, which this function precedes, or by a return from main, after which destructors run. By then each file is closed, one that was
    opened under the number of a closed stream too, so that no file gets the line.
    The toolchain's clang compiles it, with PROGRAM as the program's name in quotes, so it declares what it uses of the C library itself. */
 typedef unsigned long size;
@@ -21,7 +21,7 @@ extern long write(int, const void *, size);
 #define FILE_TOO_LONG 25
 #define IGNORED ((void (*)(int))1)
 #define END_OF_ALL 231
-/* where launch finds an unproved program: an installed one lies elsewhere, and has no ./build beside it */
+/* where launch finds an unproved program: an installed one is elsewhere, without a ./build next to it */
 #define PLACE "/out/unproved/" PROGRAM
 #define LINE PROGRAM ": this program was compiled without proof, and checks each index and sum: the proved one, which ./build makes, is about three times as fast\n"
 

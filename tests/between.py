@@ -7,7 +7,7 @@ from hostile_inputs import captures
 from shared import want
 
 HEADER = bytes(captures.header())
-# each pipe gets an answer within so many seconds
+# each pipe gets an answer within this number of seconds
 MOST_SECONDS = 20
 CAPTURES = ("to-outside", "to-inside")
 

@@ -13,7 +13,7 @@ ORDER = {ENDED: 0, MADE: 1, NO_PORT: 1, OVER_QUOTA: 1, LIVING: 2}
 
 
 def time_of(row):
-    """The time of a row; that of a redirect at the end, which has none, is behind all."""
+    """The time of a row; that of a redirect at the end, which has none, is after all others."""
     return float("inf") if row["observationTimeNanoseconds"] == "" else int(row["observationTimeNanoseconds"])
 
 
@@ -35,11 +35,11 @@ class Entry:
         return self.made <= at and (self.ended is None or at < self.ended)
 
     def end(self):
-        """Its end, also one behind the last packet; None of a redirect."""
+        """Its end, which may be after the last packet; None for a redirect."""
         return self.until if self.ended is None else self.ended
 
     def meets(self, span):
-        """Whether it has a moment in common with a span, from its first moment until that behind its last."""
+        """Whether it has a moment in common with a span, from its first moment until the one after its last."""
         first, until = span
         return self.made < until and (self.end() is None or first < self.end())
 
@@ -48,7 +48,7 @@ class Entry:
         return all(vars(self)[it] == vars(other)[it] for it in ("number", "protocol", "inside", "external", "is_redirect"))
 
     def is_new(self):
-        """Whether its row tells of no packet but the one that made it, which comes back in if it was sent to itself."""
+        """Whether its row counts no packet but the one that made it, which comes back in if it was sent to itself."""
         if self.is_redirect:
             return (self.made, self.counts, self.last) == (0, (0, 0), None)
         return self.counts in ((1, 0), (1, 1)) and self.last == self.made
@@ -85,7 +85,7 @@ class Log:
         timed = [it for it in dates if it]
         want(dates == sorted(timed) + [""] * (len(dates) - len(timed)), "texts do not sort as times")
         made = [it.is_redirect for it in self.entries.values()]
-        want(made == sorted(made, reverse=True), "a redirect is behind another binding")
+        want(made == sorted(made, reverse=True), "a redirect is after another binding")
         want(not is_whole or all(it.is_told for it in self.entries.values()), "a binding has no row of its end, and none at the end")
 
     def take(self, row, at, event):

@@ -12,7 +12,7 @@ from texts import nanoseconds
 
 @dataclasses.dataclass
 class Call:
-    """A line for the player, and its answer: a text, so many rows, a pattern, or None where it is not compared."""
+    """A line for the player, and its answer: a text, a number of rows, a pattern, or None if it is not compared."""
     line: int
     asked: str
     wanted: str | int | re.Pattern | None = None
@@ -137,7 +137,7 @@ def shown_shortage(text):
 
 
 def step_pattern(wanted):
-    """What the log tells with an input: 'ended LISTED, ..; made LISTED; refused SHORTAGE; used made out 2 into 1', or
+    """What the log gets from an input: 'ended LISTED, ..; made LISTED; refused SHORTAGE; used made out 2 into 1', or
     'nothing'."""
     told = dict(part.split(" ", 1) for part in items_of(wanted.replace("nothing", "none"), "; "))
     used = r"BindingTally \{[^}]*\}"
@@ -149,7 +149,7 @@ def step_pattern(wanted):
 
 
 def capture_of(text):
-    """A capture of records of a byte, as '1 0a, 4 0b and then 0000': the times and bytes, and what stands behind."""
+    """A capture of records of a byte, as '1 0a, 4 0b and then 0000': the times and bytes, and what follows them."""
     text, _, behind = text.partition(" and then ")
     records = [(nanoseconds(time), bytes.fromhex(byte)) for time, byte in map(str.split, items_of(text))]
     return bytes(captures.savefile(records, captures.MICROSECONDS)) + bytes.fromhex(behind)
@@ -183,7 +183,7 @@ def inputs_pattern(wanted):
 
 
 class Run:
-    """The calls of a run, in order. The method `on_CALL` takes the words behind a call and its answer as a text has
+    """The calls of a run, in order. The method `on_CALL` takes the words after a call and its answer as a text has
     them, and returns the line for the player and what it answers; `line` and `time` are those of the text's line."""
 
     def __init__(self, lines):
@@ -340,12 +340,12 @@ SETTINGS = {
     "choosing": lambda wanted: "NumberAssignment {{ keeps_parity: {}, seed: {} }}".format(*map(CHOSEN.get, wanted.split())),
     **dict.fromkeys(("quota", "block"), option_of(str)),
 }
-# what a field of a line for the player is of the word behind the call at the place that the field ends with
+# what a field of a line for the player is of the word after the call at the place that the field ends with
 FIELDS = {
     "word": str, "end": endpoint, "address": number_in, "number": lambda it: texts.endpoint(it)[1], "protocol": protocol_of,
     "check": lambda it: int(it, 16),
 }
-# of the calls that need no method what stands behind their names in a line for the player, and the answer: a text, what shows it,
+# of the calls that need no method what follows their names in a line for the player, and the answer: a text, what shows it,
 # or None where it is bytes
 PLAIN = {
     **dict.fromkeys(("local_end", "remote_end"), ("{word0}", shown_endpoint)),

@@ -46,7 +46,7 @@ static long (*next_write)(int, const void *, size);
 static int (*next_fsync)(int);
 static void look_up(void);
 
-/* Counts one more, and whether it is the one whose number a variable has, or one behind it where REFUSED_ON is set. */
+/* Counts one more, and whether it is the one whose number a variable has, or one after it if REFUSED_ON is set. */
 static int is_its_turn(unsigned long *count, const char *name) {
     const char *number = getenv(name);
     if (number == 0) {

@@ -89,7 +89,7 @@ class Growths(Sweep):
         return line
 
     def judge_refused(self, what, outputs):
-        """What holds where a growth was refused: the report is not begun, and a capture ends behind a record."""
+        """What holds if a growth was refused: the report is not begun, and a capture ends after a record."""
         want(outputs["report"] == b"", f"{what}: a report is begun")
         want(is_whole(outputs["to-outside"]) and is_whole(outputs["to-inside"]), f"{what}: a part of a packet is written")
 

@@ -31,8 +31,8 @@ WARNING = re.compile(
 )
 # what who and log say of captures that are not of the configuration's numbers
 OTHER_NUMBERS = (
-    "explain: these captures are of a gateway with other numbers: {} of {} answers from outside, packet {} the first, do not find here "
-    "who asked for them (--as-napt tells of the run of napt)\n"
+    "explain: the captured gateway used other numbers: {} of {} answers from outside, the first of them packet {}, do not reach the host "
+    "that asked for them (--as-napt answers from the run of napt)\n"
 )
 
 
@@ -192,7 +192,7 @@ def path_with(folder, *tools):
 
 
 def left_out(what, reason):
-    """Says what cannot be looked at here, and why, as ./test takes it."""
+    """Prints what cannot be checked here, and why, in the form that ./test reads."""
     print(f"skipped: {what} ({reason})")
 
 
@@ -235,14 +235,14 @@ def loaded(path):
 
 
 ENDS = """
-The last line is '{name}: ..' where all is as expected, and else lines name what is not; a line 'skipped: ..' tells what
-cannot be looked at here. The status is 0 where all is as expected, 1 where something is not, 2 for a mistake in the
-words, and 77 where nothing can be looked at.
+If all is as expected, the last line is '{name}: ..'; otherwise lines name what is not. A line 'skipped: ..' says what
+cannot be checked here. The status is 0 if all is as expected, 1 if something is not, 2 for wrong arguments, and 77 if
+nothing can be checked.
 """
 
 
 def help_text(names):
-    """What this script says of itself: its calls stand behind the first paragraph of its doc."""
+    """What this script says of itself: its calls follow the first paragraph of its doc."""
     first, _, rest = sys.modules["__main__"].__doc__.partition("\n\n")
     usage = f"usage: {' '.join([f'tests/{NAME}', *names])}\n       tests/{NAME} --help\n"
     return "\n".join([first.rstrip("\n") + "\n", usage, *([rest] if rest else [])]) + ENDS.format(name=NAME)

@@ -1,7 +1,7 @@
 """Texts of packets, captures and runs: what tests/runs, tests/followed and tests/calls are written in.
 
 '#' begins a comment; an indented line goes on with the one above it. ` / ` stands between lines in one. `511 times ..` is a line so
-often, or some in turn: '+2' behind an address or a number adds 2 to it at each time but the first, and '-2' takes 2 away.
+often, or some in turn: '+2' after an address or a number adds 2 to it at each time but the first, and '-2' takes 2 away.
 `at (1 || 2) ..` is two lines, `at 1 ..` and `at 2 ..`. `run WORDS` begins a run; `run WORDS: ..` begins it with a line. What stands above
 the first such line stands at the beginning of each, and then what stands below the last line `given`. A packet is
     udp 10.0.0.2:5000 > 198.51.100.7:53
@@ -126,7 +126,7 @@ def lines_in(text):
 
 
 def runs_of(text):
-    """The runs of a text: of each what stands behind `run`, or nothing, and its lines."""
+    """The runs of a text: of each what follows `run`, or nothing, and its lines."""
     into = head = []
     given, runs = [], []
     for line in lines_of(text):
@@ -148,13 +148,13 @@ def nanoseconds(text):
 
 
 def endpoint(text):
-    """An address and its number, which is 0 where none stands behind it."""
+    """An address and its number, which is 0 if none follows it."""
     address, _, number = text.partition(":")
     return int(ipaddress.IPv4Address(address)), int(number or 0)
 
 
 def packet(words, named=None):
-    """The bytes of a packet that words describe, which may name packets beside those of tests/packets.txt."""
+    """The bytes of a packet that words describe, which may name packets in addition to those of tests/packets.txt."""
     if words[-1:] == ["mended"]:
         mended = bytearray(packet(words[:-1], named))
         packets.mend(mended)
@@ -215,7 +215,7 @@ SPELLINGS = {
     frozenset(["big-endian"]): b"\xa1\xb2\x3c\x4d",
     frozenset(["microseconds", "big-endian"]): b"\xa1\xb2\xc3\xd4",
 }
-# what lines say of a run beside its configuration, packets and bindings
+# what lines say of a run in addition to its configuration, packets and bindings
 SAID = ("spelled", "cut", "without", "asked", "fault")
 
 
@@ -238,7 +238,7 @@ def report_of(ends, rows):
 
 
 def counts_and_rows(report):
-    """The counts of a report by name, and the lines behind them: of captures that are cut, and of bindings."""
+    """The counts of a report by name, and the lines after them: of captures that are cut, and of bindings."""
     lines = report.decode().splitlines()
     many = len(COUNTED)
     return {name: int(count) for name, _, count in (line.rpartition(" ") for line in lines[:many])}, lines[many:]
@@ -291,7 +291,7 @@ def followed_runs():
 
 
 def front_of(given):
-    """The captures of the packets that are merged before one is needed that has a fault, and that fault behind its side."""
+    """The captures of the packets that are merged before one is needed that has a fault, and that fault after its side."""
     read = {side: captures.read(captures.savefile([]) if given.get(side) is None else given[side]) for side in SIDES}
     *many, faulty = captures.merged_before(*read.values())
     front = {side: captures.savefile(it.packets[:count]) for (side, it), count in zip(read.items(), many)}

@@ -5,7 +5,7 @@ import pandas as pd
 
 def released(bindings: pd.DataFrame, hold: int = 0) -> pd.Series:
     """Returns when the number of each binding is free again: `hold` seconds after its end, or when its own inside endpoint
-    gets it anew."""
+    gets it again."""
     free = bindings.ended + pd.Timedelta(seconds=hold)
     if hold == 0:
         return free

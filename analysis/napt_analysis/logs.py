@@ -80,7 +80,7 @@ def read_log(*paths: str | Path) -> Log:
 
 
 def _events(path: str | Path) -> pd.DataFrame:
-    """Reads a file in parts, since its dates as texts take most of the memory. As numbers, beside empty ones, they would be
+    """Reads a file in parts, since its dates as texts take most of the memory. As numbers, next to empty ones, they would be
     rounded."""
     kinds = {"sourceIPv4Address": "category", "postNATSourceIPv4Address": "category"}
     protocols = pd.CategoricalDtype(sorted(PROTOCOLS.values()))

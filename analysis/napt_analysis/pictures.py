@@ -280,7 +280,7 @@ def _draw_rate(axes: Axes, name: str, many: np.ndarray, colour: str, bins: pd.Se
 
 
 def _axes_of(heights: list[float], unit: float) -> tuple[Figure, np.ndarray]:
-    """Returns axes, one below the other, over one time; the heights are in a unit of so many inches."""
+    """Returns axes, one below the other, over one time; `unit` inches are one unit of height."""
     figure = Figure((WIDTH, unit * sum(heights) + 1.2), layout="constrained")
     return figure, figure.subplots(len(heights), sharex=True, squeeze=False, height_ratios=heights)[:, 0]
 

@@ -17,7 +17,7 @@ SIDES_OF_PORTS = ["ports below 1024", "ports from 1024 on"]
 
 @dataclass
 class Level:
-    """How many there are, the most at once, and when there first were so many."""
+    """How many there are, the most at once, and when that number was first reached."""
 
     now: set = field(default_factory=set)
     most: int = 0

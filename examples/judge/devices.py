@@ -18,7 +18,7 @@ ASKS, ANSWERS = 1, 2
 ARP_BODY = struct.Struct("!HHBBH6sI6sI")
 SO_TIMESTAMPNS = 35
 EVERYBODY = b"\xff" * 6
-# a packet that has not left after so many seconds never will: the machine may be busy
+# a packet that has not left after this number of seconds never will: the machine may be busy
 LATE = 0.2
 
 

@@ -71,7 +71,7 @@ enum {
     MOST_PACKET = 65536,
     // packets of a device that are taken before what came is handed on
     AT_ONCE = 256,
-    // a side whose packets wait in so many bytes is not read
+    // a side is not read while its packets wait in this number of bytes
     MOST_WAITING = 1 << 20,
     PIPE_BYTES = 1 << 20,
     PIECE = 1 << 18,
@@ -116,7 +116,7 @@ typedef struct {
 
 static size_t length(const Bytes *bytes) { return bytes->end - bytes->begin; }
 
-// Makes room for so many bytes more, and returns their place; `end` is the caller's to move.
+// Makes room for this number of further bytes, and returns their place; `end` is the caller's to move.
 static uint8_t *room_for(Bytes *bytes, size_t more) {
     if (bytes->begin == bytes->end) bytes->begin = bytes->end = 0;
     if (bytes->end + more > bytes->room && bytes->begin > 0) {
@@ -222,7 +222,7 @@ static void open_here(Device *device) {
         fail(1, "%s: %s", device->word, errno == EINVAL ? "it is no TUN device" : strerror(errno));
 }
 
-// Opens the device that a word names, of this namespace or of that which stands behind an @.
+// Opens the device that a word names, of this namespace or of the one after an @.
 static Device open_device(const char *word) {
     Device device = {.word = word};
     const char *mark = strchrnul(word, '@');
@@ -304,7 +304,7 @@ static int number_of(const char *file) {
     return 0;
 }
 
-// Takes the number behind the greatest of the captures that are there.
+// Takes the number after the greatest of the captures that are there.
 static void number_on(Folder *folder) {
     int greatest = 0;
     DIR *there = opendir(folder->path);
@@ -395,7 +395,7 @@ static void tick(Side *side) {
     side->clocks++;
 }
 
-// Takes the packets that are there, up to some, and tells whether there were any.
+// Takes the packets that are there, up to some, and returns whether there were any.
 static bool read_packets(Side *side) {
     for (int taken = 0; taken < AT_ONCE; taken++) {
         uint8_t *record = room_for(&side->waiting, RECORD_BYTES + MOST_PACKET);
@@ -408,7 +408,7 @@ static bool read_packets(Side *side) {
     return true;
 }
 
-// Hands on what waits, as far as the pipe takes it, and tells whether the program still reads.
+// Hands on what waits, as far as the pipe takes it, and returns whether the program still reads.
 static bool write_on(Side *side) {
     while (length(&side->waiting) > 0) {
         ssize_t many = write(side->pipe, side->waiting.at + side->waiting.begin, length(&side->waiting));
@@ -512,7 +512,7 @@ static void write_line(FILE *file, const char *line, size_t many, uint64_t clock
     fwrite(line, 1, many, file);
 }
 
-// Writes the report, where the program wrote one; tells whether that succeeded.
+// Writes the report, if the program wrote one, and returns whether that succeeded.
 static bool write_report(Report *report, uint64_t clocks) {
     if (!report->path || length(&report->text) == 0) return true;
     put(&report->text, "", 1);
@@ -641,7 +641,7 @@ static void watch(const Relay *relay, struct pollfd *files) {
     files[6] = watched(relay->report.pipe, relay->report.is_open ? POLLIN : 0);
 }
 
-// Takes packets of both devices. The side that was not the last gets a record behind them, whose time lets them go on.
+// Takes packets of both devices. The side that was not the last gets a record after them, whose time lets them go on.
 static void take_packets(Relay *relay, const struct pollfd *files) {
     int last = -1;
     for (int at = 0; at < 2; at++)

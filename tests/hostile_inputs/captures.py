@@ -87,7 +87,7 @@ def drawn(draw, packets):
 
 
 class Reading:
-    """What a capture holds: its packets with their times in ns, and whether it is cut behind them, or the fault that is told of it."""
+    """What a capture holds: its packets with their times in ns, and whether it is cut after them, or the fault that is reported for it."""
 
     def __init__(self, packets=(), is_cut=False, fault=None):
         self.packets = packets
@@ -133,7 +133,7 @@ def read(data):
 
 
 def is_whole(data):
-    """Whether these bytes are nothing, or a capture as it is written, which ends behind a record."""
+    """Whether these bytes are nothing, or a capture as it is written, which ends after a record."""
     return data == b"" or savefile(read(data).packets) == data
 
 

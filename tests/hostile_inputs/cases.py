@@ -5,7 +5,7 @@ import random
 from . import captures, command_lines, configurations, packets
 
 SECOND = captures.SECOND
-# of a hundred inputs so many are of each kind
+# how many of a hundred inputs are of each kind
 CAPTURES, CONFIGURATIONS = 60, 30
 # between two packets of a conversation, in ns: none, little, and up to the end of each timer's least time
 WAITS = (0, 1, 0, SECOND, SECOND, *(seconds * SECOND - less for seconds in (60, 120, 240, 300, 7440) for less in (1, 0)))

@@ -1,4 +1,4 @@
-"""Where replies go, which are packets as inside hosts got them, worked out in the plainest way beside a run."""
+"""Where replies go, which are packets as inside hosts got them, worked out in the plainest way during a run."""
 
 from dataclasses import dataclass
 

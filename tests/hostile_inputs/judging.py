@@ -157,7 +157,7 @@ def judge_configuration(case, outcome):
 
 
 def judge_words(case, outcome):
-    """Each output that was made is whole, or empty behind one that failed."""
+    """Each output that was made is whole, or is empty after one that failed."""
     for name, data in outcome.made.items():
         if data or outcome.status == 0:
             judge_written(data)

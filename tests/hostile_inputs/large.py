@@ -8,7 +8,7 @@ from . import captures, running
 
 TEN_MEGABYTES = 10_000_000
 MOST_SECONDS = 20
-# the address space that a run is given: so many bytes and so many for each byte of the text
+# the address space that a run is given: a number of bytes, and a number for each byte of the text
 FEW_BYTES = 64 << 20
 MOST_FOR_A_BYTE = 32
 LIMITED = 'ulimit -v "$0" && exec "$@"'
@@ -41,7 +41,7 @@ def texts():
     yield "a long path of keys", b"x." * (long // 2) + b"x = 1\n", "not-toml"
     yield "a long path of a table", b"[" + b"x." * (long // 2) + b"x]\n", "not-toml"
     yield "NUL bytes", b"\0" * long, "not-toml"
-    yield "NUL bytes behind", ALLOWED + b"\0" * long, "not-toml"
+    yield "NUL bytes after it", ALLOWED + b"\0" * long, "not-toml"
     yield "no UTF-8", ALLOWED + b"\xff" * long, "not-toml"
     yield "no UTF-8 at the end", ALLOWED + b"#" + b"x" * long + b"\xc3", "not-toml"
 

@@ -50,7 +50,7 @@ def refusal(at, event, protocol, host, address):
 
 
 class Logger(translating.Translator):
-    """A translator that keeps what its bindings were, from where its log is opened on, in pieces of so many seconds, if they are given."""
+    """A translator that keeps what its bindings were, from where its log is opened on, in pieces of the given number of seconds, if there is one."""
 
     def __init__(self, configured, each=None):
         super().__init__(configured)
@@ -59,7 +59,7 @@ class Logger(translating.Translator):
         self.each, self.pieces, self.last = each, [], None
 
     def open(self, now, many, accounted, is_new):
-        """Goes on from a time with a log of so many entries, of these bindings of a state, and a file that may be new. An entry whose
+        """Goes on from a time with a log of this number of entries, of these bindings of a state, and a file that may be new. An entry whose
         binding is not here ends then, and a binding without an entry gets one."""
         self.now, self.many = now, many
         self.purge(now)
@@ -150,7 +150,7 @@ def csv(rows):
 
 
 def joined(pieces):
-    """The text of a log in pieces, without the openings of those behind the first: its fields and a row for each binding that is open."""
+    """The text of a log in pieces, without the openings of those after the first: its fields and a row for each binding that is open."""
     rows = []
     for piece in pieces:
         events = [row.split(",")[2] for row in rows]

@@ -101,7 +101,7 @@ def mend_transport(packet, start, end):
 
 
 class Traffic:
-    """Draws packets that hosts behind a translator send, and what comes to them from the outside."""
+    """Draws packets that hosts inside a translator send, and what comes to them from the outside."""
 
     def __init__(self, draw, configuration, hosts):
         self.draw = draw

@@ -27,9 +27,11 @@ ENTRY = re.compile(rf"entry ({NUMBER}) {ROW} ({NUMBER}) (0|[1-9][0-9]{{0,38}}|ne
 EARLIER_LAST = re.compile(f"end ({NUMBER}) ({NUMBER}) ({NUMBER})")
 MOST, MOST_COUNT, MOST_END = 2**64 - 1, 2**61, 2**128 - 1
 # of a state that has no accounts of its bindings
-BEGUN = "{}: the log lists all bindings of the state anew, at {}: the run before had no log\n"
+BEGUN = "{}: the log begins a new entry for each binding of the state, at {}: the run before had no log\n"
+# of bindings that end since they do not fit
+ENDED = "{}: bindings of the state that the configuration cannot keep, and that end here: {}\n"
 # of packets that are earlier than the state
-BEFORE = "{}: a packet is of {}, earlier than the state's time, {}: until then packets count as at that time, and no timer ends\n"
+BEFORE = "{}: a packet of {} is earlier than the state's time, {}: until then packets count as if they came at that time, and no timer ends\n"
 
 
 class Refused(Exception):
@@ -63,7 +65,7 @@ class Held:
 
 
 def place_of(made, text, piece=0):
-    """Where a log of so many entries ends that has this text."""
+    """Where a log of this number of entries ends that has this text."""
     last = text.splitlines()[-1] if text else b""
     return Place(made, piece, len(text), row_hash(last)) if text else Place(made)
 
@@ -229,7 +231,7 @@ def read(data):
         while not is_last:
             number += 1
             line = lines[number - 1].decode()
-            # what stands behind the last end of a line is no line
+            # what follows the last line feed is not a line
             if number == len(lines):
                 raise ValueError
             if number == 1:
@@ -290,29 +292,50 @@ def misfits(rules, binding, clock, fixed, behind):
     behind |= keys
 
 
+def redirected(rules):
+    """The endpoints of the redirects, each under its protocol."""
+    ends = [[("inside", inside), ("external", external)] for _, inside, external in rules.redirects]
+    return {(PROTOCOLS[it[0]], *end) for it, both in zip(rules.redirects, ends) for end in both}
+
+
 def misfit(rules, state, kept):
     """Why the first binding that does not fit the configuration does not, or None."""
-    fixed, behind, found = set(), set(), None
-    for protocol, inside, external in rules.redirects:
-        fixed |= {(PROTOCOLS[protocol], "inside", inside), (PROTOCOLS[protocol], "external", external)}
-    # each with those behind it
+    fixed, behind, found = redirected(rules), set(), None
+    # each with those after it
     for it in reversed(kept):
         wrong = [word for word, holds in misfits(rules, it, state.clock, fixed, behind) if holds]
         found = wrong[0] if wrong else found
     return found
 
 
+def end_misfits(rules, state, kept):
+    """Ends the bindings that do not fit the configuration, each with those after it that do, as if last used when 1970 began. Returns
+    how many they are."""
+    fixed, behind, many = redirected(rules), set(), 0
+    for it in reversed(kept):
+        after = set(behind)
+        if any([holds for _, holds in misfits(rules, it, state.clock, fixed, after)]):
+            it.last, it.flows, many = 0, [], many + 1
+        else:
+            behind = after
+    return many
+
+
 # A RUN THAT GOES ON
 
 
-def taken_up(rules, state, kind=Translator):
-    """The translator of a kind that goes on from a state. Raises `Refused` where the configuration does not take it."""
-    kept = loose(rules, state)
+def taken_up(rules, state, kind=Translator, ends=False):
+    """The translator of a kind that goes on from a state, and how many of its bindings end since they do not fit, if they are to. Raises
+    `Refused` where the configuration does not take it."""
+    kept, many, ago = loose(rules, state), 0, max(0, state.clock - SECOND * rules.hold)
+    if ends:
+        many = end_misfits(rules, state, kept)
+        kept = [it for it in kept if it.is_live(ago, rules.timers)]
     if word := misfit(rules, state, kept):
         raise Refused(word)
     translator = kind(rules)
     translator.bindings += kept
-    return translator
+    return translator, many
 
 
 def left_by(translator, clock):
@@ -340,13 +363,13 @@ def seen(rules, data):
     return lines
 
 
-def run(rules, data, inside, outside, log=None, each=None, piece=0):
+def run(rules, data, inside, outside, log=None, each=None, piece=0, ends=False):
     """What a run from a state's text, or None, leaves over two captures, by the names of outputs: the captures, the report and the text
-    of the state; of a run beside a log, of whose file this is the text, that of the file, the rows of what lives behind it, and whether
-    entries are begun of all bindings that are there. A log in pieces of so many seconds, the first with the number after that of one
-    that is there, leaves those before its last one too."""
+    of the state; of a run with a log, of whose file this is the text, that of the file, the rows of what lives after it, and whether
+    entries are begun of all bindings that are there. A log in pieces of this number of seconds, the first with the number after that of one
+    that is there, leaves those before its last one too. Of misfits that end it leaves how many they are."""
     state = read(data) if data is not None else State()
-    translator = taken_up(rules, state, Translator if log is None else functools.partial(Logger, each=each))
+    translator, many = taken_up(rules, state, Translator if log is None else functools.partial(Logger, each=each), ends)
     if log is not None:
         # a row that was torn is written again
         log = log[: state.log.length] if state.log else log
@@ -355,6 +378,7 @@ def run(rules, data, inside, outside, log=None, each=None, piece=0):
         is_anew = not accounted and any(not it.is_fixed for it in translator.bindings)
     *written, clock = translating.ran(translator, state.clock, inside, outside)
     left, named = left_by(translator, clock), dict(zip(("to-outside", "to-inside", "report"), written))
+    named["ended"] = many
     if log is not None:
         rows, living = (text.encode() for text in translator.text())
         left.log = place_of(translator.many, log + rows, piece + len(translator.pieces) + 1 if each else 0)
@@ -363,12 +387,17 @@ def run(rules, data, inside, outside, log=None, each=None, piece=0):
 
 
 def begun_line(name, data):
-    """What a program says where it begins the entries of a state's text anew."""
+    """What a program says if it begins new entries for a state's text."""
     return BEGUN.format(name, dated(read(data).clock))
 
 
+def ended_line(name, many):
+    """What a program says of this number of bindings of a state that end since they do not fit."""
+    return ENDED.format(name, many) if many else ""
+
+
 def earlier_line(name, clock, times):
-    """What stream says of the first packets of its captures, which have these times, behind a state of this clock: it reads the inside
+    """What stream says of the first packets of its captures, which have these times, after a state of this clock: it reads the inside
     capture first."""
     early = [time for time in times if time < clock]
     return BEFORE.format(name, dated(early[0]), dated(clock)) if early else ""

@@ -56,6 +56,13 @@ const AS_NAPT: &str =
 const HOST: &str =
     "Prints only the packets and bindings with this address or endpoint, inside or external";
 
+const PAIRS: &str =
+    "Prints a [[pair]] for each host that has a live binding in a state, and that this configuration would give another \
+external address: with these it keeps its bindings (at most 256, as many as a configuration has)";
+
+const ENDED: &str =
+    "Bindings of the state that the configuration cannot keep end at the start; all others go on";
+
 const WRITTEN: &str = "File to write, which nothing else may name";
 
 const LOG_WRITTEN: &str =
@@ -72,13 +79,14 @@ const NOT_WRITTEN: &str =
     "Never written: accepted as an option of napt or stream, and refused if that would refuse it";
 
 const RESUMED: &str =
-    "State from which the run goes on, as napt and stream save it [default: the run begins anew]";
+    "State from which the run goes on, as napt and stream save it [default: a new run]";
 
 /// The words of a call: the program's name first, and then always a command.
 #[derive(Drop)]
 pub struct CommandTexts {
     pub list: Vec<String>,
-    /// Whether the words named the command. If not, it is `show` with the outputs of `napt` and the log of `stream`.
+    /// Whether the words named the command. If not, the command is `show`, which then also has the options for the
+    /// outputs of `napt` and the log of `stream`.
     is_named: bool,
 }
 
@@ -123,6 +131,12 @@ impl CommandTexts {
                     .about(BLOCKS)
                     .arg(config(alloc))?
                     .arg(resume(alloc).hide(true))?,
+            )?
+            .subcommand(
+                Command::new(alloc, "pairs")
+                    .about(PAIRS)
+                    .arg(config(alloc))?
+                    .arg(resume(alloc).required(true))?,
             )?
             .subcommand(compare(alloc)?)?
             .subcommand(follow(alloc)?)
@@ -215,7 +229,8 @@ fn follow<'a>(alloc: Global) -> Result<Command<'a>, AllocError> {
 /// A command over captures under a configuration.
 fn configured<'a>(alloc: Global, name: &'a str, about: &'a str) -> Result<Command<'a>, AllocError> {
     let command = Command::new(alloc, name).about(about).arg(config(alloc))?;
-    captured(alloc, command.arg(resume(alloc))?)
+    let command = command.arg(resume(alloc))?;
+    captured(alloc, command.arg(flag(alloc, "end-misfits", ENDED))?)
 }
 
 /// Adds the options that name captures.

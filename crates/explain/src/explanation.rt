@@ -21,13 +21,13 @@ pub struct BegunRun<'a> {
     clock: u64,
     /// The log as it was saved.
     pub before: OpenLog,
-    /// The entries that end there, and those that begin.
+    /// The entries that end at that time, and those that begin there.
     pub ended: Vec<LogEntry>,
     pub made: Vec<LogEntry>,
 }
 
 impl<'a> BegunRun<'a> {
-    /// That of a start.
+    /// Returns the run of a start, before its first packet.
     pub fn of(alloc: Global, start: &RunStart<'a>) -> Result<BegunRun<'a>, AllocError> {
         let RunFromState {
             run,
@@ -46,7 +46,7 @@ impl<'a> BegunRun<'a> {
 }
 
 impl BegunRun<'_> {
-    /// How its log begins.
+    /// Returns how its log begins.
     pub fn opening(&self) -> LogOpening<'_> {
         LogOpening {
             before: &self.before,

@@ -58,7 +58,7 @@ struct Stamp {
 }
 
 impl StepBack {
-    /// Returns no step, after a state of this time, in ns, which is 0 for a run that begins anew.
+    /// Returns no step, after a state of this time, in ns, which is 0 for a new run.
     pub fn from_state(time: u64) -> StepBack {
         StepBack {
             latest: Stamp { number: 0, time },
@@ -95,7 +95,7 @@ impl StepBack {
         self.tell_step(rt);
         if form.asks_times() {
             let _ = eprintln!(rt;
-                "  answers cover that much more time than was asked about, with all who had the endpoint then"
+                "  each answer covers this much more time than was asked about, and names everybody who had the endpoint then"
             );
         }
         if self.far <= SECOND {

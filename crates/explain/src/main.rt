@@ -12,6 +12,7 @@ mod flaws;
 mod follow_command;
 mod manual;
 mod options;
+mod pairs;
 mod places;
 mod progress;
 mod reading;
@@ -21,7 +22,10 @@ mod run_setting;
 use crate::commands::CommandTexts;
 use crate::manual::{INSTALLED, OWN};
 use crate::options::{ExplainOptions, OutputForm, options_of};
-use crate::reading::{answer, configuration, open_captures, read_given, requests_of};
+use crate::pairs::tell_pairs;
+use crate::reading::{
+    answer, configuration, open_captures, read_given, requests_of, saved_at,
+};
 use crate::run_setting::RunSetting;
 use clap::Error;
 use clap::error::ErrorKind;
@@ -45,7 +49,7 @@ fn main(rt: HostRuntime) -> ExitCode {
     }
 }
 
-/// Runs the command of the command line, under the name of the program in it.
+/// Runs the command of the command line, under the program's name in it.
 fn called(rt: &HostRuntime, streams: StandardStreams) -> Result<(), Exit> {
     let call = ProgramCall::of(rt, streams, OWN.name);
     match call.as_called(rt, INSTALLED.name) {
@@ -126,6 +130,10 @@ fn explained_under<R: Files + Input + Print + Eprint + AllocGlobal>(
     }
     match options.form {
         OutputForm::Blocks => tell_blocks(rt, streams, &configuration(rt, options)?),
+        OutputForm::Pairs => {
+            let config = configuration(rt, options)?;
+            tell_pairs(rt, streams, &config, &saved_at(rt, options)?)
+        }
         _ if options.is_of_gateway() && !options.shows_outside() => {
             told_without_outside(rt, streams, options)
         }

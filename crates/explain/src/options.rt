@@ -33,10 +33,12 @@ pub struct ExplainOptions<'m> {
     pub choice: PacketSelection,
     /// Whether the question is about the run of `napt`, whatever numbers the captured gateway used.
     pub is_of_napt: bool,
+    /// Whether bindings of the state that the configuration cannot keep end at the start.
+    pub ends_misfits: bool,
 }
 
 impl<'m> ExplainOptions<'m> {
-    /// The files of `napt`, with what the option of the outside capture is called here.
+    /// Returns the files of `napt`, with the name that the option of the outside capture has here.
     pub fn named(&self) -> NamedFiles<'_> {
         NamedFiles {
             files: &self.files,
@@ -86,8 +88,8 @@ impl<'m> ExplainOptions<'m> {
     /// Returns why a state is refused whatever it contains, if it is.
     fn why_anew(&self) -> Option<&'static str> {
         match (self.form, self.outside) {
-            (OutputForm::Blocks, _) => Some("blocks are of the configuration alone"),
-            (_, OutsideCapture::Replies) => Some("replies follow a run that begins anew"),
+            (OutputForm::Blocks, _) => Some("blocks depend on the configuration alone"),
+            (_, OutsideCapture::Replies) => Some("replies can only follow a new run"),
             _ if self.files.is_stream(FileRole::Resume) => Some(NO_FILE),
             _ => None,
         }
@@ -128,6 +130,8 @@ pub enum OutputForm<'m> {
     Log(LogPaths<'m>),
     /// The block of each inside host.
     Blocks,
+    /// The pairs by which hosts with live bindings keep their external addresses.
+    Pairs,
     /// The packets that have another outcome under another configuration.
     Differences,
     /// The outside capture that follows the run, written to the file at this path.
@@ -210,6 +214,7 @@ pub fn options_of<'m, R: Eprint + AllocGlobal>(
         form: form_of(rt, command, matches)?,
         choice,
         is_of_napt: matches.get_flag("as-napt"),
+        ends_misfits: matches.get_flag("end-misfits"),
     };
     refuse_states(rt, matches, &options)?;
     refuse_pieces(rt, matches, &options)?;
@@ -273,6 +278,7 @@ fn form_of<'m, R: Eprint>(
             report: matches.get_str("report"),
         }),
         "blocks" => OutputForm::Blocks,
+        "pairs" => OutputForm::Pairs,
         "compare" => OutputForm::Differences,
         "follow" => OutputForm::Followed(matches.get_str("file").unwrap_or("")),
         _ if matches.get_flag("json") => OutputForm::Objects,
@@ -295,7 +301,7 @@ fn asked_of<'m, R: Eprint>(rt: &R, matches: &'m ArgMatches<'_>) -> Result<Output
     }
 }
 
-/// The files that an argument names.
+/// Returns the files that an argument names.
 fn paths_of(
     alloc: Global,
     matches: &ArgMatches<'_>,
@@ -308,7 +314,7 @@ fn paths_of(
     Ok(paths)
 }
 
-/// The files that the options of `napt` name.
+/// Returns the files that the options of `napt` name.
 fn files_of(
     alloc: Global,
     matches: &ArgMatches<'_>,

@@ -1,5 +1,5 @@
-//! Prints why a file of the command line cannot be used. `napt_program` has already decided that it cannot, as for
-//! `napt`, but of a log, and of what `explain` writes.
+//! Prints why a file of the command line cannot be used. As for `napt`, `napt_program` decides whether it can be,
+//! except for a log and for what `explain` writes.
 
 use crate::options::ExplainOptions;
 use napt_commands::{Exit, unwritten};
@@ -50,7 +50,8 @@ pub fn tell_closed<R: Eprint + AllocGlobal>(rt: &R, role: FileRole) -> Exit {
     tell_stopped(rt, closed_text(rt.alloc(), role), role)
 }
 
-/// Prints that a file is `-` and another has the standard stream, and returns how `napt` would stop. `name` names it.
+/// Prints that a file is `-` although another option uses that standard stream, and returns how `napt` would stop.
+/// `name` is the name of the file's option.
 pub fn tell_shared<R: Eprint + AllocGlobal>(rt: &R, name: &str, role: FileRole) -> Exit {
     tell_stopped(rt, shared_text(rt.alloc(), name, role), role)
 }
@@ -65,7 +66,7 @@ fn tell_stopped<R: Eprint>(rt: &R, text: Result<String, AllocError>, role: FileR
     }
 }
 
-/// Refuses a file that `explain` is to write where it is read too, is written twice or cannot be created, and prints why.
+/// Refuses a file that `explain` is to write if it is also read, is written twice or cannot be created, and prints why.
 pub fn refuse_written<R: Files + Eprint + AllocGlobal>(
     rt: &R,
     options: &ExplainOptions<'_>,
@@ -88,8 +89,7 @@ pub fn refuse_written<R: Files + Eprint + AllocGlobal>(
     }
 }
 
-/// Prints why a file that `explain` is to write cannot be written, if it cannot, and returns whether it is so. A log is not
-/// written over a file that has text.
+/// Returns whether a file that `explain` is to write cannot be written, and prints why. A log never replaces text.
 fn tells_unwritable<R: Files + Eprint + AllocGlobal>(
     rt: &R,
     options: &ExplainOptions<'_>,
@@ -115,7 +115,7 @@ fn tells_unwritable<R: Files + Eprint + AllocGlobal>(
     Ok(has_text)
 }
 
-/// Refuses the log of `stream`, if one is named, where another option names its file too or it cannot be created, and
+/// Refuses the log of `stream`, if one is named, if another option names its file too or it cannot be created, and
 /// prints why.
 pub fn refuse_log<R: Files + Eprint + AllocGlobal>(
     rt: &R,

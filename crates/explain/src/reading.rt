@@ -7,7 +7,8 @@ use napt_attribution::{HolderRequest, answer_by_log, requests_at};
 use napt_commands::{Exit, RunStart, print_failed, text_at};
 use napt_config::{Config, ConfigFault, ConfigPlace};
 use napt_program::{
-    FileRole, InputFiles, MEMORY, StandardStreams, Stop, closed_stream, open_inputs, refuse_unmade,
+    FileRole, InputFiles, MEMORY, StandardStreams, Stop, closed_stream, open_inputs, print_ended,
+    refuse_unmade,
 };
 use napt_rules::StateBinding;
 use napt_state::{SavedBinding, StateFileContents, TakenState, read_state};
@@ -110,7 +111,7 @@ pub fn answer<R: Files + Input + Print + Eprint + AllocGlobal>(
 }
 
 /// Reads the state of `--resume`, or returns one without bindings if none is named. If it is refused, prints why.
-fn saved_at<R: Files + Eprint + AllocGlobal>(
+pub fn saved_at<R: Files + Eprint + AllocGlobal>(
     rt: &R,
     options: &ExplainOptions<'_>,
 ) -> Result<StateFileContents, Exit> {
@@ -141,11 +142,12 @@ fn start_under<'a, R: Eprint + AllocGlobal>(
 ) -> Result<RunStart<'a>, Exit> {
     let path = options.files.resume.as_ref();
     let path = path.map_or("", |path| path.as_str());
-    match saved.take_up(rt.alloc(), config)? {
-        Ok(TakenState { state, log }) => {
+    match saved.take_up(rt.alloc(), config, options.ends_misfits)? {
+        Ok(TakenState { state, log, ended }) => {
             if !log.is_valid(rt.alloc(), &state)? {
                 return Err(refusals::tell_accounts(rt, path));
             }
+            print_ended(rt, "explain", ended);
             Ok(RunStart::new(config, state, log))
         }
         Err((row, misfit)) => Err(refusals::tell_binding(rt, path, row, misfit)),
@@ -184,8 +186,8 @@ fn refuse_shared<R: Eprint + AllocGlobal>(
     )
 }
 
-/// Refuses standard input for more than one of the configurations, the requests and the pieces of a log, or for one if
-/// another file has it, and prints why, with what names such a file.
+/// Refuses standard input for more than one of the configurations, the requests and the pieces of a log, or for one of
+/// them if another file uses it. Prints why, with the option that names such a file.
 fn refuse_more_input<R: Eprint + AllocGlobal>(
     rt: &R,
     options: &ExplainOptions<'_>,

@@ -51,7 +51,7 @@ pub fn tell_accounts<R: Eprint>(rt: &R, path: &str) -> Exit {
     Exit::Told(Stop::File(FileRole::Resume))
 }
 
-/// Prints which binding of the state at a path the configuration does not take, and why, and returns how `napt` would stop.
+/// Prints which binding of the state at a path the configuration refuses, and why, and returns how `napt` would stop.
 pub fn tell_binding<R: Eprint>(rt: &R, path: &str, row: Row, misfit: Misfit) -> Exit {
     let refusal = StateRefusal::Binding(misfit);
     let (name, protocol) = (StateRefusalName(refusal), protocol_name(row.protocol));

@@ -201,7 +201,7 @@ impl<'a> RunSetting<'a> {
     }
 }
 
-/// The packets of a run that is explained: from captures, or from memory if replies follow the run.
+/// The packets of a run that is explained. They come from captures, or from memory if replies follow the run.
 #[derive(Clone, Copy)]
 struct RunPackets<'a, 'i, 'k> {
     options: &'a ExplainOptions<'a>,

@@ -32,7 +32,7 @@ pub fn serve<R: ProgramHost>(
     ensures { IfErr result IsStopUnderOpenGate }
 {
     let mut words = words(rt)?;
-    let mut call = call;
+    let mut call = call.with_misfits(&mut words);
     if take_verbose(&mut words) {
         reason.is_requested = true;
         call = call.verbose();
@@ -81,10 +81,12 @@ fn run<R: ProgramHost>(
     let RunResources {
         config,
         state,
+        ended,
         devices,
         save,
         ..
-    } = open(rt, streams, options, &mut reason.place)?;
+    } = open(rt, streams, options, &mut reason.place, call.ends_misfits)?;
+    call.print_ended(rt, ended);
     let start = Start {
         config: &config,
         state: &state,

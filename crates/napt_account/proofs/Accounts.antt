@@ -1,10 +1,10 @@
 -- The accounts of a state, one binding after another.
 use Rattle.std.proofs.lemmas.{Grind.common_steps, Bool.Decides.nat_tests}
-use Rattle.std.proofs.Common.{◌≡◌, ℕ, zero, suc, ◌+◌, ◌<◌, ◌≤◌, ◌==◌, Bool, true, false, not, ◌&&◌, ◌||◌, cond, List, [], ◌∷◌, ◌++◌, length, get_or, map, take, drop, Option, Some, None, unwrap_or, refl, sym, ◌∙◌, ap, subst, arith, append-nil}
-use Rattle.std.specs.{List.{list_any, slice_get}, HashSet.HashSet}
+use Rattle.std.proofs.Common.{◌≡◌, ℕ, zero, suc, ◌+◌, ◌<◌, ◌≤◌, ◌==◌, Bool, true, false, not, ◌&&◌, ◌||◌, cond, List, [], ◌∷◌, ◌++◌, length, get_or, take, drop, Option, Some, None, refl, sym, ◌∙◌, ap, subst, arith, append-nil}
+use Rattle.std.specs.{List.{list_any}, HashSet.HashSet}
 use Rattle.std.specs.HashSet as hash
-use Rattle.napt_rules.specs.{declared.Row.Row, Prelude.{Binding, Icmp}}
-use Rattle.napt_account.specs.declared.{account.Account.Account, log.LogEntry.LogEntry, open_entries.EntryKey.EntryKey}
+use Rattle.napt_rules.specs.{Prelude.{Binding, Icmp}}
+use Rattle.napt_account.specs.declared.{account.Account.Account, open_entries.EntryKey.EntryKey}
 use Rattle.napt_account.specs.LogStarts.{account_in, accounted, are_accounts, are_apart, is_account, with_account}
 use Rattle.napt_account.specs.OpenEntries.{entry_key, external_eq}
 use Rattle.napt_account.proofs.{LogStarts.Kept, OpenEntries.external_flip}
@@ -14,7 +14,7 @@ with_joined : (b : Binding) (o : Option Account) (ks more : List Kept) →
 with_joined b None ks more = refl
 with_joined b (Some a) ks more = refl
 
--- the first of them, and one more
+-- The first of them, and one more.
 pub accounted_more : (list : List Binding) (accounts : List (Option Account)) (k : ℕ) (d : Binding) → k < length list →
     accounted (take (suc k) list) accounts
     ≡ accounted (take k list) accounts ++ with_account (get_or list k d) (account_in accounts k) []
@@ -35,7 +35,7 @@ seen_next list accounts k d below =
     ≡ accounted (take k list) accounts ++ with_account (get_or list k d) (account_in accounts k) []) next
     (accounted_more list accounts k d below)
 
--- the next of them, and the others
+-- The next of them, and the others.
 pub accounted_next : (list : List Binding) (accounts : List (Option Account)) (k : ℕ) (d : Binding) → k < length list →
     accounted (drop k list) (drop k accounts)
     ≡ with_account (get_or list k d) (account_in accounts k) (accounted (drop (suc k) list) (drop (suc k) accounts))
@@ -103,7 +103,7 @@ endpoints_more ks k key is old new has updates x =
     ∙ (ap (λ v. external_eq (entry_key k.0.row) x || v) (has x)
     ∙ sym (any_pushed (λ j. external_eq (entry_key j.0.row) x) ks k))))
 
--- one is apart from all before it where neither set has what it has
+-- An account is apart from all before it if neither set has its number or endpoint.
 pub any_apart : (k : Kept) (ks : List Kept) → list_any (λ o. not (are_apart k o)) ks
     ≡ (list_any (λ j. j.1.number == k.1.number) ks || list_any (λ j. external_eq (entry_key j.0.row) (entry_key k.0.row)) ks)
 any_apart k [] = refl
@@ -129,7 +129,7 @@ any_apart k (o ∷ ks) =
     four false false false false e f r s t g = g
 
 module _ (made clock : ℕ) (list : List Binding) (accounts : List (Option Account)) where
-  -- the first were looked at, and the others are to be
+  -- The first accounts were checked, and the others are still to be.
   abbrev pub IsChecked : ℕ → Type 0
   IsChecked k = are_accounts made clock [] (accounted list accounts)
       ≡ are_accounts made clock (accounted (take k list) accounts) (accounted (drop k list) (drop k accounts))
@@ -191,7 +191,7 @@ module _ (made clock : ℕ) (list : List Binding) (accounts : List (Option Accou
         joined true false z h = refl
         joined false y z h = refl
 
--- any binding, for a place that is not looked at
+-- Any binding, for a place that is not looked at.
 pub some_binding : Binding
 some_binding = record {
   row = record {

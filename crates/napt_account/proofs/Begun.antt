@@ -91,7 +91,7 @@ module _ (ls : List LogEntry) (keyed : AreKeyed (map (λ l. l.entry.binding) ls)
       ];
     }
 
--- all of them
+-- If all entries were inserted, they are the open entries of the log.
 pub has_all : (log : LogModel) (keyed : AreKeyed (map (λ l. l.entry.binding) log.entries)) (k : ℕ) (all : OpenEntries) →
     length log.entries ≤ k → HasFirst log.entries keyed log.made k all → (now most : ℕ) →
     kept_at now log ≡ log → IsNumbered log → Rises 1 log.entries →

@@ -1,16 +1,16 @@
--- From a state and its log, each input's effects can come.
-use Rattle.std.proofs.Common.{◌≡◌, ℕ, ◌+◌, ◌≤◌, max, List, [], ◌∷◌, ◌++◌, length, map, filter, Option, refl, sym, ◌∙◌, ap, subst, arith, append-nil}
+-- From a state and its log, the effects of each input are possible.
+use Rattle.std.proofs.Common.{◌≡◌, ℕ, ◌≤◌, max, List, [], ◌∷◌, ◌++◌, length, map, filter, Option, refl, sym, ◌∙◌, ap, subst, arith, append-nil}
 use Rattle.std.{specs.List.{fold, Sorted.IsPermutation}, proofs.lemmas.List.{append_cancel_left, Sorted.{IsPermutation-map, IsPermutation-sym, IsPermutation-trans}}}
 use Rattle.napt_config.specs.declared.settings.Timers.{Timers}
 use Rattle.napt_binding.{specs.Ends.is_before, proofs.FirstEnds.ends_are_first}
 use Rattle.napt_table.specs.{declared.TimedRow.TimedRow, TimedRows.timed_row}
-use Rattle.napt_rules.specs.{declared.Row.Row, Prelude.{Binding, Each, AlikeStatesGoOn, AreAlike, SavedRunsGoOn, TakenStatesAreSound, LegAct, Arrival, RunEffect, AlikeRunGoesOn, IsPaired, IsSound, Rules, RulesInvariant, State, effect_from, is_live, last_clock, next_state, pair_of, purge, row, run_from, step, live_and_held, with_redirects}}
+use Rattle.napt_rules.specs.{declared.Row.Row, Prelude.{Binding, Each, AlikeStatesGoOn, AreAlike, SavedRunsGoOn, TakenStatesAreSound, LegAct, Arrival, RunEffect, AlikeRunGoesOn, IsPaired, IsSound, Rules, RulesInvariant, State, effect_from, is_live, last_clock, next_state, pair_of, purge, row, step, live_and_held, with_redirects}}
 use Rattle.napt_laws.proofs.{AlikeLists.alike_moved, OneMoreInput.{grows, step_one}, SeenElements.purge_taken, Shuffles.{apart_moved, each_moved}, Turns.{InTurn, run_turn}}
 use Rattle.napt_sequential.{specs.{Traces.{trace_of, traces_of}, declared.passage.Trace.Trace}, proofs.StepTraceSteps.traces_grow}
-use Rattle.napt_account.specs.{declared.log.{Entry.Entry, LogEntry.LogEntry}, Effects.{CanCome, EffectsCome, IsNext}, ResumedLogRuns.{IsLogOf, LogsAreOfTheirStates, left_of, timed_by}, Log.{LogModel, after_record, log_on, unnumbered}, LogParts.{IsNumbered, is_open, kept_at}}
-use Rattle.napt_account.proofs.{Effects.{acts_come, step_turn}, Entries.{Tells, apart_differ, hold, hold_of, living, purge_holds, tells_later, told_turn}, GoingOn.{each_kept, filter_again, numbered_all}, Lists.{each_mapped, each_shown, filter_seen, map_twice}, Plain.{logged, plain_acts}, Reordered.reordered}
+use Rattle.napt_account.specs.{declared.log.{Entry.Entry, LogEntry.LogEntry}, Attribution.AreInOrderOf, Effects.{EffectsCome, IsNext}, ResumedLogRuns.{IsLogOf, LogsAreOfTheirStates, left_of, timed_by}, Log.{LogModel, after_record, log_on, unnumbered}, LogParts.{IsNumbered, is_open, kept_at}}
+use Rattle.napt_account.proofs.{Effects.{acts_come, step_turn}, Entries.{Tells, apart_differ, hold, hold_of, living, purge_holds, tells_later, told_turn}, GoingOn.{each_kept, filter_again, numbered_all}, Lists.{each_mapped, each_shown, filter_seen, map_twice}, Plain.{plain_acts}, Reordered.reordered}
 
--- a row and an end, of what a table tells of a binding
+-- The row and the end in what a table returns of a binding.
 abbrev hold_by : TimedRow → Row × Option ℕ
 hold_by told = (told.row, told.end)
 
@@ -34,50 +34,59 @@ module _ (alike_go_on : AlikeStatesGoOn) (rules : Rules) (keeps : RulesInvariant
   all_open = filter_seen (λ (e : Entry). is_before state.clock e.end) (λ (n : LogEntry). n.entry) log.entries
       ∙ ap (λ (l : LogModel). unnumbered l) is.kept
 
+  kept : map hold_by (map timed_by log.entries) ≡ held
+  kept = map_twice hold_by timed_by log.entries ∙ sym (map_twice hold (λ (n : LogEntry). n.entry) log.entries)
+
+  rows : map hold_by (map (timed_row timers) (purge timers state.clock state.list))
+      ≡ map (hold_of timers) (living timers state.clock state.list)
+  rows = map_twice hold_by (timed_row timers) (purge timers state.clock state.list)
+      ∙ purge_holds timers keeps.timers state.clock state.list
+
   are_held : IsPermutation (map (hold_of timers) (living timers state.clock state.list)) held
-  are_held =
-      let kept : map hold_by (map timed_by log.entries) ≡ held =
-      map_twice hold_by timed_by log.entries
-      ∙ sym (map_twice hold (λ (n : LogEntry). n.entry) log.entries) in
-      let rows : map hold_by (map (timed_row timers) (purge timers state.clock state.list))
-      ≡ map (hold_of timers) (living timers state.clock state.list) =
-      map_twice hold_by (timed_row timers) (purge timers state.clock state.list)
-      ∙ purge_holds timers keeps.timers state.clock state.list in
-      IsPermutation-sym _ _ (subst (λ (xs : List (Row × Option ℕ)). IsPermutation xs
+  are_held = IsPermutation-sym _ _ (subst (λ (xs : List (Row × Option ℕ)). IsPermutation xs
       (map (hold_of timers) (living timers state.clock state.list))) kept
       (subst (IsPermutation (map hold_by (map timed_by log.entries))) rows (IsPermutation-map hold_by _ _ is.rows)))
 
-  order : (list : List Binding) × IsPermutation state.list list
+  pub order : (list : List Binding) × IsPermutation state.list list
       × (map (hold_of timers) (filter (is_live timers state.clock) list) ≡ held)
   order = reordered (hold_of timers) (is_live timers state.clock) state.list held are_held
 
-  abbrev list : List Binding
+  abbrev pub list : List Binding
   list = order.0
 
-  abbrev other : State
+  abbrev pub other : State
   other = record { clock = state.clock; list = list }
 
   rows_moved : IsPermutation (map row state.list) (map row list)
   rows_moved = IsPermutation-map row state.list list order.1
 
-  other_sound : IsSound (pair_of rules) list
+  pub other_sound : IsSound (pair_of rules) list
   other_sound = record {
     apart = apart_moved _ _ rows_moved sound.apart;
     each = each_moved (IsPaired (pair_of rules)) _ _ rows_moved sound.each;
   }
 
-  tells : Tells timers state.clock list entries
-  tells = record {
+  -- What it tells of bindings that are in its order.
+  tells_of : (ordered : List Binding) → IsSound (pair_of rules) ordered →
+      map (hold_of timers) (living timers state.clock ordered) ≡ held → Tells timers state.clock ordered entries
+  tells_of ordered apart same = record {
     made = each_mapped (λ (e : Entry). e.made ≤ state.clock) (λ (n : LogEntry). n.entry) log.entries is.made;
-    holds = ap (map hold) all_open ∙ sym order.2;
-    differ = apart_differ (map row list) other_sound.apart;
+    holds = ap (map hold) all_open ∙ sym same;
+    differ = apart_differ (map row ordered) apart.apart;
   }
 
-  goes : (inputs : List Arrival) → AlikeRunGoesOn rules state other inputs
+  pub tells : Tells timers state.clock list entries
+  tells = tells_of list other_sound order.2
+
+  -- And of those of the state, where they are.
+  pub tells_state : AreInOrderOf rules state log → Tells timers state.clock state.list entries
+  tells_state same = tells_of state.list sound (sym rows ∙ (ap (map hold_by) (sym same) ∙ kept))
+
+  pub goes : (inputs : List Arrival) → AlikeRunGoesOn rules state other inputs
   goes inputs = alike_go_on rules keeps state other sound other_sound refl
       (alike_moved timers state.clock state.list list order.1) inputs
 
-  -- ITS ACTS ARE THE SAME
+  -- THE ACTS FROM IT ARE THE SAME
 
   abbrev next_of : State → List Arrival → Arrival → RunEffect
   next_of from front input = step rules (length front) (max (last_clock from.clock front) input.clock) input
@@ -146,7 +155,7 @@ module _ (alike_go_on : AlikeStatesGoOn) (rules : Rules) (keeps : RulesInvariant
           subst (IsNext was (log_on rules state log before)) same
           (record { later = omega arith; first = pair.0; second = pair.1 })
 
-    -- WHAT IS LEFT IS OF THE STATE THAT IS LEFT
+    -- THE LOG THAT IS LEFT IS OF THE STATE THAT IS LEFT
 
     abbrev grown : LogModel
     grown = log_on rules state log before
@@ -184,7 +193,7 @@ module _ (alike_go_on : AlikeStatesGoOn) (rules : Rules) (keeps : RulesInvariant
     numbered_left = each_kept (λ n. n.number ≤ grown.made) (is_open was) grown.entries
         (numbered_all timers (effect_from rules state before).acts log is.numbered)
 
-    -- and of each in which packets see the same
+    -- The same for each state that is alike.
     left_is_of : (then : State) → then.clock ≡ was → AreAlike timers was (next_state rules state before).list
         (live_and_held timers then.clock then.list) → IsLogOf rules then left
     left_is_of then clock alike = record {

@@ -1,20 +1,20 @@
--- The log of a run by the effects of its inputs, and which effects can come.
+-- The log of a run by the effects of its inputs, and which effects are possible.
 use Rattle.std.proofs.lemmas.{Grind.common_steps, Bool.Decides.nat_tests}
-use Rattle.std.proofs.Common.{◌≡◌, ℕ, ◌+◌, ◌≤◌, max, Bool, true, false, ◌&&◌, ◌||◌, cond, List, [], ◌∷◌, ◌++◌, length, map, filter, find, Option, Some, None, refl, sym, ◌∙◌, ap, subst, arith, append-nil}
+use Rattle.std.proofs.Common.{◌≡◌, ℕ, ◌+◌, ◌≤◌, max, true, false, ◌&&◌, ◌||◌, cond, List, [], ◌∷◌, length, map, filter, Option, refl, sym, ◌∙◌, ap, subst, arith, append-nil}
 use Rattle.std.specs.List.{fold, list_any}
-use Rattle.napt_rules.specs.{declared.{Leg.Leg, Row.Row}, Prelude.{BindingUse, Binding, Each, source, kind, act, LegAct, Arrival, RunEffect, purge, row, step, run_from, last_clock, Rules, AreTimers, Timers, Outgoing}}
+use Rattle.napt_rules.specs.{declared.{Leg.Leg, Row.Row}, Prelude.{BindingUse, Binding, Each, source, kind, act, LegAct, Arrival, RunEffect, purge, row, step, run_from, Rules, AreTimers, Timers, Outgoing}}
 use Rattle.napt_laws.proofs.{FreshBindings.{IsFresh, fresh_purged}, OneMoreInput.step_one, Lists.find_passes, Turns.{IsTurn, InTurn, run_turn}}
 use Rattle.napt_binding.specs.Ends.{end_of, is_before, EndsAreFirst}
 use Rattle.napt_table.specs.TimedRows.{timed_row}
 use Rattle.napt_translate.specs.CarriedPackets.{packet_carried}
 use Rattle.napt_wire.specs.declared.{Protocol.Protocol, Way.{Way, TheVariants.Incoming}}
 use Rattle.napt_rules.specs.declared.End.{End}
-use Rattle.napt_sequential.specs.declared.passage.{Passage.Passage, Trace.Trace}
+use Rattle.napt_sequential.specs.declared.passage.{Trace.Trace}
 use Rattle.napt_sequential.specs.Traces.{gone_through, loss_of, passage_by, passage_of, first_passage, second_passage, traces_from}
-use Rattle.napt_account.specs.{declared.log.{Entry.Entry, LogEntry.LogEntry}, Log.{LogModel, after_input, after_leg, after_record, entry_is_of, log_on, shares, unnumbered}, Effects.{CanCome, EffectsAreTheLog, IsNext}}
-use Rattle.napt_account.proofs.{GoingOn.fold_joined, Lists.{any_seen_of, map_twice}, Moves.{Differ, AllDiffer, of_moves}}
-use Rattle.napt_account.proofs.Entries.{Tells, hold, hold_of, is_open, binding_of, differ_back, own_differ, purge_holds, tells_later, told_turn}
-use Rattle.napt_account.proofs.Plain.{logged, plain_act}
+use Rattle.napt_account.specs.{declared.log.{Entry.Entry, LogEntry.LogEntry}, Log.{LogModel, after_input, after_leg, after_record, entry_is_of, log_on, shares, unnumbered}, Effects.{CanCome, EffectsAreTheLog}}
+use Rattle.napt_account.proofs.{GoingOn.fold_joined, Lists.{any_seen_of, map_twice}, Moves.{Differ, of_moves}}
+use Rattle.napt_account.proofs.Entries.{Tells, hold, hold_of, is_open, binding_of, differ_back, purge_holds, tells_later, told_turn}
+use Rattle.napt_account.proofs.Plain.{plain_act}
 
 -- BY THE EFFECTS
 
@@ -27,7 +27,7 @@ module _ (rules : Rules) where
       InTurn rules now list course.acts now course.list)
   step_turn number now input le list = grind (arith, common_steps, nat_tests, append-nil, run_turn)
 
-  -- an input has two legs at most, at its time
+  -- An input has at most two legs, both at its time.
   acts_are : (now : ℕ) (list : List Binding) (acts : List LegAct) (new : List Binding) → length acts ≤ 2 →
       InTurn rules now list acts now new → (log : LogModel) →
       after_input log (effects_by now acts) ≡ fold (after_record rules.timers) log acts
@@ -60,7 +60,7 @@ pub effects_are_the_log : EffectsAreTheLog
 unfolding log_on
 effects_are_the_log rules state log inputs = effects_are rules 0 state.clock inputs state.list log
 
--- WHAT CAN COME: a binding that is made has an external endpoint of its own
+-- WHICH EFFECTS ARE POSSIBLE: a binding that is made has an external endpoint of its own
 
 abbrev open_rows : ℕ → List Entry → List Row
 open_rows now entries = map binding_of (filter (is_open now) entries)

@@ -1,6 +1,6 @@
 -- Ended entries are removed, and lists are in order of end.
 use Rattle.std.proofs.lemmas.{Grind.common_steps, Bool.Decides.nat_tests}
-use Rattle.std.proofs.Common.{◌≡◌, ◌≢◌, ℕ, ◌+◌, ◌<◌, ◌^◌, ◌⊎◌, inl, inr, Bool, true, false, cond, unwrap_or, List, [], ◌∷◌, ◌++◌, map, Option, Some, None, refl, sym, ◌∙◌, ap, subst, arith}
+use Rattle.std.proofs.Common.{◌≡◌, ◌≢◌, ℕ, ◌<◌, ◌^◌, ◌⊎◌, inl, inr, Bool, true, false, cond, unwrap_or, List, [], ◌∷◌, ◌++◌, map, Option, Some, None, refl, sym, ◌∙◌, ap, subst, arith}
 use Rattle.std.specs.{Prelude.{filter, not}, Ordering.nat_cmp, List.{AllByRecursion, IsDistinct, Sorted.{IsPermutation, IsSortedByKey}}}
 use Rattle.std.{specs.{Map.{lookup, keys_of, values_of}, Ordering.is_lt, HashMap.IsUnique}, proofs.lemmas.Bool.{and_parts, and_from, eq-eqb}}
 use Rattle.std.proofs.lemmas.{Map.Keys.IsDistinct-IsPermutation, Option.same_Some}
@@ -28,7 +28,7 @@ sorted_order = sorted_turn end_key end_cmp ends_first (λ x y. x.number ≢ y.nu
     (λ x y. not_behind x.entry.end y.entry.end x.number y.number x y refl refl refl refl)
     (λ x y z. first_then x.entry.end y.entry.end z.entry.end x.number y.number z.number)
 
--- OF ENTRIES THAT ARE THERE
+-- DISTINCT ENDPOINTS
 
 recursion_each : {X : Type 0} (P : X → Type 0) (xs : List X) → AllByRecursion P xs → Each P xs
 recursion_each P [] h = tt

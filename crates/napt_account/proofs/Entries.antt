@@ -1,4 +1,4 @@
--- The open entries are the live bindings, each with its end; an act keeps that so, and does not change the past.
+-- The open entries are the live bindings, each with its end; an act preserves this, and does not change the past.
 use Rattle.std.proofs.lemmas.{Grind.common_steps, Bool.Decides.nat_tests}
 use Rattle.std.proofs.Common.{◌≡◌, ℕ, ◌<◌, ◌≤◌, Bool, true, false, ◌&&◌, cond, List, [], ◌∷◌, ◌++◌, map, Option, Some, refl, sym, ◌∙◌, ap, subst, arith, append-nil}
 use Rattle.std.{specs.{Prelude.{filter, find, nat_le}, List.fold}, proofs.lemmas.{Bool.{and_parts, and_from}, Option.same_Some}}
@@ -200,7 +200,7 @@ module _ (ends : EndsAreFirst) (rules : Rules) (t : AreTimers rules.timers) (add
   abbrev own : List Binding
   own = purge rules.timers leg.now list
 
-  -- what entries are beside what lives
+  -- The open entries, compared with the live bindings.
   abbrev Now : List Entry → Option BindingUse → List Binding → Type 0
   Now entries went left =
       Each (λ e. e.made ≤ leg.now) (logged_by rules.timers leg went entries)

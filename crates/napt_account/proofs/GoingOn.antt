@@ -1,17 +1,17 @@
 -- A log that goes on from what was kept of it.
-use Rattle.std.proofs.lemmas.{Grind.common_steps, Bool.{Decides.nat_tests, and_parts}}
-use Rattle.std.proofs.Common.{◌≡◌, ℕ, zero, suc, ◌+◌, ◌<◌, ◌≤◌, max, Bool, false, true, not, ◌&&◌, cond, List, [], ◌∷◌, ◌++◌, length, map, drop, filter, refl, sym, ◌∙◌, ap, subst, arith, append_assoc, append-nil}
-use Rattle.std.specs.{Prelude.nat_lt, List.fold}
+use Rattle.std.proofs.lemmas.{Grind.common_steps, Bool.{Decides.nat_tests}}
+use Rattle.std.proofs.Common.{◌≡◌, ℕ, ◌+◌, ◌≤◌, max, Bool, false, true, not, ◌&&◌, cond, List, [], ◌∷◌, ◌++◌, length, map, drop, filter, refl, sym, ◌∙◌, ap, subst, arith, append_assoc, append-nil}
+use Rattle.std.specs.{List.fold}
 use Rattle.napt_wire.specs.declared.Way.{Way, TheVariants.{Outgoing, Incoming}}
-use Rattle.napt_binding.{specs.Ends.is_before, proofs.FirstEnds.before_sooner}
+use Rattle.napt_binding.{proofs.FirstEnds.before_sooner}
 use Rattle.napt_table.specs.declared.TimedRow.{TimedRow}
-use Rattle.napt_rules.specs.Prelude.{Binding, Each, act, LegAct, Arrival, RunEffect, run_from, last_clock, State, effect_from, next_state, with_redirects, act_behind, RunsGoOn, SavedRunsGoOn, Rules, Timers}
-use Rattle.napt_laws.proofs.{OneMoreInput.{run_append, clock_on}, Lists.{filter_narrow, each_weaker, each_pushed}, Turns.{InTurn, run_turn}}
+use Rattle.napt_rules.specs.Prelude.{Binding, Each, act, LegAct, Arrival, last_clock, State, effect_from, next_state, with_redirects, act_behind, RunsGoOn, SavedRunsGoOn, Rules, Timers}
+use Rattle.napt_laws.proofs.{OneMoreInput.{clock_on}, Lists.{filter_narrow, each_weaker, each_pushed}, Turns.{InTurn, run_turn}}
 use Rattle.napt_sequential.specs.{declared.passage.Passage.{Passage, TheVariants.{Nothing, Made, Out, In, Dropped}}, Traces.passage_of}
 use Rattle.napt_account.specs.{declared.log.{Entry.Entry, LogEntry.LogEntry, Shortage.Shortage}, Log.{LogModel, counted, made_by, entry_through, use_entry, with_use, shortages_of, after_leg, after_record, log_on}}
-use Rattle.napt_account.specs.LogParts.{IsNumbered, LogDelta, ends_within, in_order_of_end, is_behind, is_open, kept_at, part_between}
+use Rattle.napt_account.specs.LogParts.{IsNumbered, ends_within, in_order_of_end, is_behind, is_open, kept_at, part_between}
 use Rattle.napt_account.specs.ResumedLogRuns.{LogGoesOn, LogsGoOn, SavedLogsGoOn, left_of, part_of}
-use Rattle.napt_account.proofs.Lists.{each_mapped, filter_joined, filter_seen, filter_agrees, map_joined}
+use Rattle.napt_account.proofs.Lists.{each_mapped, filter_joined, filter_seen}
 
 -- LISTS
 
@@ -23,7 +23,7 @@ pub drop_more : {X : Type 0} (front xs ys : List X) → drop (length (front ++ x
 drop_more [] xs ys = refl
 drop_more (x ∷ front) xs ys = drop_more front xs ys
 
--- where what does not pass stays as it is, what passes after a change is that of what passed
+-- If a change keeps what does not pass, what passes after it is the change of what passed before.
 changed_among : {X : Type 0} (p : X → Bool) (g : X → X) → ((x : X) → p x ≡ false → g x ≡ x) → (xs : List X) →
     filter p (map g xs) ≡ filter p (map g (filter p xs))
 changed_among p g stays [] = refl
@@ -45,7 +45,7 @@ none_behind made (x ∷ xs) h =
 
 -- NUMBERS
 
--- a leg leaves numbers among those that were given, and gives no fewer
+-- After a leg the numbers are still among those that were given, which are no fewer.
 pub numbered_leg : (now : ℕ) (p : Passage) (log : LogModel) → IsNumbered log → IsNumbered (after_leg now p log)
 numbered_leg now Nothing log h = h
 numbered_leg now (Made timed) log h =
@@ -84,8 +84,8 @@ module _ (timers : Timers) where
       let first = more_leg a.leg.now (passage_of timers a) log in
       let rest = more_all acts (after_record timers log a) in omega (arith, first, rest)
 
--- TWO LOGS THAT TELL THE SAME from a time on: they have the same living entries, and the same behind a number; the one has
--- had some shortages more
+-- TWO LOGS TO WHICH THE SAME IS ADDED from a time on: they have the same open entries, and the same entries after a
+-- number; one of them has some earlier shortages
 
 pub record AreSame (now made : ℕ) (front : List Shortage) (one other : LogModel) : Type 0 where
   pub many : one.made ≡ other.made
@@ -121,7 +121,7 @@ module _ (now made : ℕ) (front : List Shortage) (one other : LogModel) (same :
     abbrev change : LogEntry → LogEntry
     change = use_entry way now timed
 
-    -- an entry that has ended stays as it is
+    -- An entry that has ended stays as it is.
     stays : (n : LogEntry) → is_open now n ≡ false → change n ≡ n
     stays n ended =
         let same : entry_through now timed.row (counted way now timed.end) n.entry ≡ n.entry =
@@ -174,7 +174,7 @@ each_kept P p [] h = tt
 each_kept P p (x ∷ xs) h = elim (p x) as (λ v. Each P (cond v (x ∷ filter p xs) (filter p xs)))
     [ true ↦ (h.0, each_kept P p xs h.1) | false ↦ each_kept P p xs h.1 ]
 
--- a log and what is kept of it
+-- A log and what is kept of it.
 pub kept_same : (now : ℕ) (log : LogModel) → IsNumbered log → AreSame now log.made log.shortages log (kept_at now log)
 kept_same now log numbered = record {
   many = refl;
@@ -185,7 +185,7 @@ kept_same now log numbered = record {
   shortages = sym (append-nil log.shortages);
 }
 
--- TOLD THE SAME
+-- THE SAME IS ADDED
 
 module _ (was now made : ℕ) (front : List Shortage) (earlier later other after : LogModel)
     (first : AreSame was made front earlier other) (last : AreSame now made front later after)

@@ -1,19 +1,21 @@
 -- A number goes to another inside endpoint only after the hold of its last binding, in terms of the log.
 use Rattle.std.proofs.lemmas.Grind.{common_steps}
-use Rattle.std.proofs.Common.{◌≡◌, ℕ, ◌≤◌, Bool, true, false, ◌&&◌, cond, List, [], ◌∷◌, ◌++◌, map, filter, find, Option, Some, Ok, inl, inr, refl, sym, ◌∙◌, ap, subst, arith, true≢false}
-use Rattle.std.{specs.List.fold, proofs.lemmas.{Bool.{and_parts, and_from}, Option.same_Some}}
+use Rattle.std.proofs.Common.{◌≡◌, ℕ, ◌≤◌, Bool, true, false, not, ◌&&◌, cond, List, [], ◌∷◌, ◌++◌, map, filter, find, Option, Some, None, Ok, inl, inr, refl, sym, ◌∙◌, ap, subst, arith, append_assoc, true≢false}
+use Rattle.std.{specs.List.{fold, Sorted.IsPermutation}, proofs.lemmas.{Bool.{and_parts, and_from}, Option.same_Some}}
+use Rattle.std.proofs.lemmas.List.Sorted.{IsPermutation-append_left, IsPermutation-filter_both, IsPermutation-map, IsPermutation-sym, IsPermutation-trans}
 use Rattle.napt_wire.specs.declared.Protocol.TheVariants as protocols
 use Rattle.napt_wire.specs.declared.{Protocol.Protocol, Flags.Flags, Kind.{Kind, TheVariants.{Udp, Tcp, Echo, ErrorOf}}, Way.{Way, TheVariants.{Outgoing, Incoming}}}
-use Rattle.napt_rules.specs.Prelude.{BindingUse, Binding, Each, same_protocol, same_endpoint, is_live, with_live_flows, hold_ago, live_and_held, assignment_rules, inbound_rules, opening, outbound_packet, inbound_packet, no_flags, served_at, LegEffect, act, act_out, act_in, act_by, LegAct, row, AreRowsApart, AreBindingsApart, IsNumber, IsSound, OpeningIsSound, Inside, source, kind, local_of, local_end, is_error, CanCarry, reading, PacketsCarryNumbers, pair_of, run, last_clock, Rules, RulesInvariant, AreTimers, Timers}
-use Rattle.napt_rules.{specs.declared.{Row.Row, Leg.Leg, OutboundPacket.OutboundPacket, InboundPacket.InboundPacket}, proofs.Life.lived}
+use Rattle.napt_rules.specs.Prelude.{BindingUse, Binding, Each, same_protocol, same_endpoint, is_live, with_live_flows, hold_ago, live_and_held, assignment_rules, inbound_rules, outbound_packet, inbound_packet, no_flags, served_at, LegEffect, act, act_out, act_in, act_by, Arrival, LegAct, RunEffect, State, TakenStatesAreSound, AlikeStatesGoOn, effect_from, row, AreRowsApart, AreBindingsApart, IsNumber, IsSound, Inside, source, kind, local_of, local_end, is_error, CanCarry, reading, PacketsCarryNumbers, pair_of, last_clock, with_redirects, Rules, RulesInvariant, AreTimers, Timers}
+use Rattle.napt_rules.{specs.declared.{Row.Row, Leg.Leg, OutboundPacket.OutboundPacket, InboundPacket.InboundPacket}, proofs.{Life.lived, Lists.each_filter}}
 use Rattle.napt_laws.specs.HoldTimes.{Holder, HaveSameEnds, have_same_ends, holder_after, holders_after, AreHoldersApart as HoldersApart, HoldersStayApart as AllHoldersApart, HasOne, HolderCoversBinding, IsAccounted, AreBindingsAccounted}
-use Rattle.napt_laws.proofs.{Accounts.{taken_accounted, out_keeps_accounts, in_keeps_accounts, accounts_begin}, SeenElements.{ago_before, ago_later, purge_taken}}
-use Rattle.napt_laws.proofs.{StepsSound.{purge_stays_sound, out_stays_sound, in_stays_sound}, HeldNumbers.each_rows, Lists.each_weaker, Turns.{IsServed, InTurn, run_turn}}
+use Rattle.napt_laws.proofs.{Accounts.{taken_accounted, out_keeps_accounts, in_keeps_accounts}, SeenElements.{ago_before, ago_later, purge_taken}}
+use Rattle.napt_laws.proofs.{StepsSound.{purge_stays_sound, out_stays_sound, in_stays_sound}, HeldNumbers.each_rows, Lists.{each_append, each_weaker}, Shuffles.{apart_moved, each_moved, filter_moved}, Turns.{IsServed, InTurn, run_turn}}
 use Rattle.napt_laws.proofs.Endpoints.{protocol_is, same_itself, end_itself, end_is}
-use Rattle.napt_binding.specs.Ends.{end_of, is_before, EndsAreFirst}
-use Rattle.napt_account.specs.{declared.log.Entry.Entry, Log.{first_entry, shares, counted, entry_through, unnumbered, log_of}}
-use Rattle.napt_account.specs.HeldNumbers.{AreEntriesApart, EntriesStayApart, HeldNumbersHaveOneHolder}
-use Rattle.napt_account.proofs.{Moves.of_moves, Plain.{logged_by, logged, plain_log}, Entries.{counted_end, counted_made, counted_binding}}
+use Rattle.napt_binding.{specs.Ends.{end_of, is_before, EndsAreFirst}, proofs.FirstEnds.before_sooner}
+use Rattle.napt_account.specs.{declared.log.{Entry.Entry, LogEntry.LogEntry}, Log.{LogModel, after_record, first_entry, shares, counted, entry_through, unnumbered, log_on}, ResumedLogRuns.IsLogOf}
+use Rattle.napt_account.specs.HeldNumbers.{AreEntriesApart, EntriesStayApart, HeldNumbersHaveOneHolder, held_bindings}
+use Rattle.napt_account.proofs.{Comes.{goes, order, other, other_sound}, Lists.{each_every, each_mapped, map_joined, map_twice}, Moves.of_moves, Plain.{logged_by, logged, plain_acts}}
+use Rattle.napt_account.proofs.Entries.{counted_end, counted_made, counted_binding, hold, hold_of, living}
 
 -- AN ENTRY AND A HOLDER
 
@@ -49,7 +51,7 @@ module _ (ends : EndsAreFirst) (timers : Timers) (t : AreTimers timers) (now : �
   abbrev change : Entry → Entry
   change = counted way now (end_of timers went)
 
-  -- Both change, or neither does.
+  -- Both holders change, or neither does.
   like_through : (e : Entry) (h : Holder) → IsLike timers e h → IsOne timers now (row went) h →
       IsLike timers (entry_through now (row went) change e) (holder_after timers now went h)
   like_through e h l one =
@@ -281,13 +283,135 @@ module _ (ends : EndsAreFirst) (timers : Timers) (t : AreTimers timers) where
   apart_all (e ∷ es) (h ∷ hs) alike apart =
       (apart_each e h alike.0 es hs alike.1 apart.0, apart_all es hs alike.1 apart.1)
 
-  alike_begun : (bs : List Binding) →
-      Alike timers (map (first_entry timers 0) bs) (map (λ b. record { made = 0; binding = b }) bs)
-  alike_begun [] = tt
-  alike_begun (b ∷ bs) = (
-    record { made = refl; ends = record { protocol = refl; external = refl; inside = refl }; end = refl },
-    alike_begun bs,
-  )
+-- WHERE A RUN BEGINS: the bindings that had ended and are held, and then those that live, in the order of the log
+
+-- The holders of entries: when each was made, and its binding.
+abbrev holders_of : List Entry → List Binding → List Holder
+holders_of [] bs = []
+holders_of (e ∷ es) [] = []
+holders_of (e ∷ es) (b ∷ bs) = record { made = e.made; binding = b } ∷ holders_of es bs
+
+abbrev bound : List Holder → List Binding
+bound hs = map (λ (h : Holder). h.binding) hs
+
+module _ (timers : Timers) where
+  one_like : (e : Entry) (b : Binding) → hold_of timers b ≡ hold e → IsLike timers e (record { made = e.made; binding = b })
+  one_like e b same =
+      let is : row b ≡ e.binding = ap (λ (h : Row × Option ℕ). h.0) same in
+      record {
+        made = refl;
+        ends = subst (λ (r : Row). HaveSameEnds r (row b)) is
+            (record { protocol = refl; external = refl; inside = refl });
+        end = sym (ap (λ (h : Row × Option ℕ). h.1) same);
+      }
+
+  all_like : (es : List Entry) (bs : List Binding) → map (hold_of timers) bs ≡ map hold es →
+      Alike timers es (holders_of es bs) × (bound (holders_of es bs) ≡ bs)
+  all_like [] [] same = (tt, refl)
+  all_like [] (b ∷ bs) same = cc
+  all_like (e ∷ es) [] same = cc
+  all_like (e ∷ es) (b ∷ bs) same =
+      let first : hold_of timers b ≡ hold e = cc in
+      let rest : map (hold_of timers) bs ≡ map hold es = cc in
+      let more = all_like es bs rest in
+      ((one_like e b first, more.0), ap (λ (xs : List Binding). b ∷ xs) more.1)
+
+  apart_first : (h : Holder) (hs : List Holder) → Each (AreRowsApart (row h.binding)) (map row (bound hs)) →
+      Each (HoldersApart timers h) hs
+  apart_first h [] e = tt
+  apart_first h (k ∷ hs) e = (λ p ext i. absurd ((e.0 p).0 ext), apart_first h hs e.1)
+
+  apart_holders : (hs : List Holder) → AreBindingsApart (map row (bound hs)) → AllHoldersApart timers hs
+  apart_holders [] e = tt
+  apart_holders (h ∷ hs) e = (apart_first h hs e.0, apart_holders hs e.1)
+
+  -- Each holder has a binding of the list.
+  abbrev IsIn : List Binding → Binding → Type 0
+  IsIn list b = HasOne (λ x. x ≡ b) list
+
+  in_push : (x : Binding) (list bs : List Binding) → Each (IsIn list) bs → Each (IsIn (x ∷ list)) bs
+  in_push x list [] h = tt
+  in_push x list (b ∷ bs) h = (inr h.0, in_push x list bs h.1)
+
+  all_in : (list : List Binding) → Each (IsIn list) list
+  all_in [] = tt
+  all_in (x ∷ list) = (inl refl, in_push x list list (all_in list))
+
+  covers : (list : List Binding) (h : Holder) → IsIn list h.binding → HasOne (HolderCoversBinding timers h) list
+  covers [] h is = absurd is
+  covers (x ∷ list) h (inl is) = inl (record {
+    ends = subst (λ (b : Binding). HaveSameEnds (row b) (row h.binding)) (sym is)
+        (record { protocol = refl; external = refl; inside = refl });
+    lives = λ t l. subst (λ (b : Binding). is_live timers t b ≡ true) (sym is) l;
+  })
+  covers (x ∷ list) h (inr is) = inr (covers list h is)
+
+  all_accounted : (ago : ℕ) (list : List Binding) (hs : List Holder) → Each (IsIn list) (bound hs) →
+      Each (IsAccounted timers ago list) hs
+  all_accounted ago list [] h = tt
+  all_accounted ago list (k ∷ hs) h = (inr (covers list k h.0), all_accounted ago list hs h.1)
+
+  made_by_then : (now : ℕ) (es : List Entry) → Each (λ (e : Entry). e.made ≤ now) es → (bs : List Binding) →
+      Each (λ (h : Holder). h.made ≤ now) (holders_of es bs)
+  made_by_then now [] h bs = tt
+  made_by_then now (e ∷ es) h [] = tt
+  made_by_then now (e ∷ es) h (b ∷ bs) = (h.0, made_by_then now es h.1 bs)
+
+  -- Entries of bindings, as if each was made at a time.
+  abbrev entries_at : ℕ → List Binding → List Entry
+  entries_at now bs = map (first_entry timers now) bs
+
+  hold_at : (now : ℕ) (bs : List Binding) → map (hold_of timers) bs ≡ map hold (entries_at now bs)
+  hold_at now bs = sym (map_twice hold (first_entry timers now) bs)
+
+  made_at : (now : ℕ) (bs : List Binding) → Each (λ (e : Entry). e.made ≤ now) (entries_at now bs)
+  made_at now bs = each_mapped (λ (e : Entry). e.made ≤ now) (first_entry timers now) bs
+      (each_every (λ (b : Binding). now ≤ now) bs (λ b. omega arith))
+
+-- WHAT HAS ENDED STAYS AS IT IS, before what the legs log
+
+module _ (rules : Rules) where
+  abbrev AllEnded : ℕ → List Entry → Type 0
+  AllEnded now ds = Each (λ (e : Entry). is_before now e.end ≡ false) ds
+
+  one_ended : (was now : ℕ) → was ≤ now → (e : Entry) → is_before was e.end ≡ false → is_before now e.end ≡ false
+  one_ended was now le e h = elim (is_before now e.end) as (λ v. is_before now e.end ≡ v → v ≡ false) [
+    | true ↦ λ lives. absurd (true≢false (sym (before_sooner was now le e.end lives) ∙ h))
+    | false ↦ λ ended. refl
+  ] refl
+
+  ended_stay : (now : ℕ) (r : Row) (change : Entry → Entry) (ds : List Entry) → AllEnded now ds →
+      map (entry_through now r change) ds ≡ ds
+  ended_stay now r change [] h = refl
+  ended_stay now r change (d ∷ ds) h =
+      ap (λ v. cond (v && shares r d.binding) (change d) d ∷ map (entry_through now r change) ds) h.0
+      ∙ ap (λ (xs : List Entry). d ∷ xs) (ended_stay now r change ds h.1)
+
+  logged_behind : (leg : Leg) (went : Option BindingUse) (ds : List Entry) → AllEnded leg.now ds → (es : List Entry) →
+      logged_by rules.timers leg went (ds ++ es) ≡ ds ++ logged_by rules.timers leg went es
+  logged_behind leg None ds h es = refl
+  logged_behind leg (Some went) ds h es =
+      let change : Entry → Entry = counted leg.way leg.now (end_of rules.timers went.binding) in
+      let new : Entry = change (first_entry rules.timers leg.now went.binding) in
+      let through : Entry → Entry = entry_through leg.now (row went.binding) change in
+      elim went.made as (λ v. cond v ((ds ++ es) ++ new ∷ []) (map through (ds ++ es))
+      ≡ ds ++ cond v (es ++ new ∷ []) (map through es)) [
+        | true ↦ append_assoc ds es (new ∷ [])
+        | false ↦ map_joined through ds es ∙ ap (λ (xs : List Entry). xs ++ map through es)
+            (ended_stay leg.now (row went.binding) change ds h)
+      ]
+
+  acts_behind : (clock : ℕ) (list : List Binding) (acts : List LegAct) (last : ℕ) (new : List Binding) →
+      InTurn rules clock list acts last new → (ds : List Entry) → AllEnded clock ds → (es : List Entry) →
+      fold (logged rules.timers) (ds ++ es) acts ≡ ds ++ fold (logged rules.timers) es acts
+  acts_behind clock list [] last new turn ds h es = refl
+  acts_behind clock list (a ∷ acts) last new turn ds h es =
+      let le : clock ≤ a.leg.now = turn.0.later in
+      let ended : AllEnded a.leg.now ds = each_weaker (λ (e : Entry). is_before clock e.end ≡ false)
+      (λ (e : Entry). is_before a.leg.now e.end ≡ false) (one_ended clock a.leg.now le) ds h in
+      ap (λ (xs : List Entry). fold (logged rules.timers) xs acts) (logged_behind a.leg a.through ds ended es)
+      ∙ acts_behind a.leg.now (act rules a.address a.leg list).list acts last new turn.1 ds ended
+      (logged rules.timers es a)
 
 held_turn : EndsAreFirst → PacketsCarryNumbers → (rules : Rules) → RulesInvariant rules →
     (clock : ℕ) (list : List Binding)
@@ -306,11 +430,96 @@ held_turn ends carry rules keeps clock list (x ∷ acts) last new entries holder
     (sym p.0.through)
     (alike_act ends carry rules keeps x.address x.leg list clock p.0.later holders s a entries alike))
 
-pub held_numbers : EndsAreFirst → PacketsCarryNumbers → OpeningIsSound → HeldNumbersHaveOneHolder
-held_numbers ends carry begins rules keeps inputs =
-    let opened : List Binding = opening rules in
-    let sound : IsSound (pair_of rules) opened = begins rules keeps in
-    subst (EntriesStayApart rules.timers) (sym (plain_log rules keeps.timers inputs)) (held_turn ends carry rules keeps 0 opened (run rules inputs opened).acts (last_clock 0 inputs)
-    (run rules inputs opened).list (map (first_entry rules.timers 0) opened)
-    (map (λ b. record { made = 0; binding = b }) opened) (run_turn rules 0 0 inputs opened) sound
-    (accounts_begin (pair_of rules) rules.timers 0 opened sound) (alike_begun ends rules.timers keeps.timers opened))
+-- FROM A STATE
+
+module _ (ends : EndsAreFirst) (carry : PacketsCarryNumbers) (alike_go_on : AlikeStatesGoOn) (rules : Rules)
+    (keeps : RulesInvariant rules) (state : State) (sound : IsSound (pair_of rules) state.list) (log : LogModel)
+    (is : IsLogOf rules state log) where
+  abbrev times : Timers
+  times = rules.timers
+
+  abbrev clock : ℕ
+  clock = state.clock
+
+  abbrev ordered : State
+  ordered = other alike_go_on rules keeps state sound log is
+
+  abbrev held : List Binding
+  held = held_bindings rules state
+
+  abbrev live : List Binding
+  live = living times clock ordered.list
+
+  abbrev before : List Entry
+  before = entries_at times clock held
+
+  abbrev entries : List Entry
+  entries = unnumbered log
+
+  holds : map (hold_of times) (held ++ live) ≡ map hold (before ++ entries)
+  holds = map_joined (hold_of times) held live
+      ∙ (λ i. hold_at times clock held i ++ (order alike_go_on rules keeps state sound log is).2 i)
+      ∙ sym (map_joined hold before entries)
+
+  moved : IsPermutation ordered.list (held ++ live)
+  moved = IsPermutation-trans ordered.list (filter (λ b. not (is_live times clock b)) ordered.list ++ live) (held ++ live)
+      (IsPermutation-filter_both (λ b. not (is_live times clock b)) (is_live times clock)
+      (λ b. twice (is_live times clock b)) ordered.list)
+      (IsPermutation-append_left live (filter (λ b. not (is_live times clock b)) ordered.list) held
+      (filter_moved (λ b. not (is_live times clock b)) ordered.list state.list
+      (IsPermutation-sym state.list ordered.list (order alike_go_on rules keeps state sound log is).1)))
+    where
+      twice : (v : Bool) → v ≡ not (not v)
+      twice true = refl
+      twice false = refl
+
+  apart : IsSound (pair_of rules) ordered.list
+  apart = other_sound alike_go_on rules keeps state sound log is
+
+  abbrev holders : List Holder
+  holders = holders_of (before ++ entries) (held ++ live)
+
+  alike : Alike times (before ++ entries) holders × (bound holders ≡ held ++ live)
+  alike = all_like times (before ++ entries) (held ++ live) holds
+
+  accounted : AreBindingsAccounted times clock ordered.list holders
+  accounted = record {
+    apart = apart_holders times holders (subst (λ (bs : List Binding). AreBindingsApart (map row bs)) (sym alike.1)
+        (apart_moved _ _ (IsPermutation-map row _ _ moved) apart.apart));
+    past = made_by_then times clock (before ++ entries) (each_append (λ (e : Entry). e.made ≤ clock) before entries
+        (made_at times clock held) (each_mapped (λ (e : Entry). e.made ≤ clock) (λ (n : LogEntry). n.entry) log.entries
+        is.made)) (held ++ live);
+    each = all_accounted times (hold_ago times clock) ordered.list holders
+        (subst (Each (IsIn times ordered.list)) (sym alike.1)
+        (each_moved (IsIn times ordered.list) _ _ moved (all_in times ordered.list)));
+  }
+
+  ended : AllEnded rules clock before
+  ended = each_mapped (λ (e : Entry). is_before clock e.end ≡ false) (first_entry times clock) held
+      (each_weaker (λ b. not (is_live times clock b) ≡ true) (λ b. is_before clock (end_of times b) ≡ false)
+      (λ b h. sym (ends times keeps.timers clock b) ∙ turned (is_live times clock b) h) held
+      (each_filter (λ b. not (is_live times clock b)) state.list))
+    where
+      turned : (v : Bool) → not v ≡ true → v ≡ false
+      turned true h = sym h
+      turned false h = refl
+
+  all_apart : (inputs : List Arrival) →
+      EntriesStayApart times (before ++ unnumbered (log_on rules state log inputs))
+  unfolding log_on
+  all_apart inputs =
+      let course : RunEffect = effect_from rules ordered inputs in
+      let last : ℕ = last_clock clock inputs in
+      let went = run_turn rules 0 clock inputs ordered.list in
+      subst (λ (acts : List LegAct). EntriesStayApart times (before ++ unnumbered (fold (after_record times) log acts)))
+      (goes alike_go_on rules keeps state sound log is inputs).acts
+      (subst (λ (es : List Entry). EntriesStayApart times (before ++ es))
+      (sym (plain_acts rules keeps.timers clock ordered.list course.acts last course.list went log))
+      (subst (EntriesStayApart times)
+      (acts_behind rules clock ordered.list course.acts last course.list went before ended entries)
+      (held_turn ends carry rules keeps clock ordered.list course.acts last course.list (before ++ entries) holders went
+      apart accounted alike.0)))
+
+pub held_numbers : EndsAreFirst → PacketsCarryNumbers → TakenStatesAreSound → AlikeStatesGoOn → HeldNumbersHaveOneHolder
+held_numbers ends carry taken_sound alike_go_on rules keeps state takes log is =
+    all_apart ends carry alike_go_on rules keeps (with_redirects rules state) (taken_sound rules keeps state takes []) log is

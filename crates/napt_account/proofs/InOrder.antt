@@ -1,6 +1,6 @@
 -- Lists in order of end: two with the same elements are the same.
 use Rattle.std.proofs.lemmas.{Grind.common_steps, Bool.Decides.nat_tests}
-use Rattle.std.proofs.Common.{◌≡◌, ◌≢◌, ℕ, zero, suc, ◌+◌, ◌⊎◌, inl, inr, Bool, true, false, ◌&&◌, ◌||◌, cond, List, [], ◌∷◌, ◌++◌, Option, Some, None, refl, sym, ◌∙◌, ap, subst, arith}
+use Rattle.std.proofs.Common.{◌≡◌, ◌≢◌, ℕ, ◌⊎◌, inl, inr, Bool, true, false, ◌&&◌, ◌||◌, cond, List, [], ◌∷◌, ◌++◌, Option, Some, None, refl, sym, ◌∙◌, ap, subst, arith}
 use Rattle.std.specs.Prelude.{filter, not, nat_lt}
 use Rattle.napt_rules.specs.Prelude.{Each}
 use Rattle.napt_account.specs.{declared.log.LogEntry.LogEntry, OpenEntries.Has, LogParts.{is_sooner, ends_first, placed, in_order_of_end}}

@@ -1,4 +1,4 @@
--- Rows of which no two have one protocol and external endpoint.
+-- Rows of which no two have the same protocol and external endpoint.
 use Rattle.std.proofs.Common.{◌≡◌, ℕ, ◌<◌, zero, suc, inl, inr, Bool, true, false, List, [], ◌∷◌, length, map, take, get_or, refl, sym, ap, subst, arith}
 use Rattle.std.specs.List.{AllByRecursion, IsDistinct, Sorted.IsPermutation}
 use Rattle.std.proofs.lemmas.{List.Sorted.{IsPermutation-map, IsPermutation-sym}, Map.Keys.IsDistinct-IsPermutation}
@@ -18,7 +18,7 @@ share_flip a b = external_flip (entry_key a) (entry_key b)
 pub keyed_moved : (xs ys : List Row) → IsPermutation xs ys → AreKeyed ys → AreKeyed xs
 keyed_moved xs ys moves = IsDistinct-IsPermutation share share_flip ys xs (IsPermutation-sym xs ys moves)
 
--- one of the first has another key than one behind them
+-- An earlier row and a later one have different keys.
 pub keyed_before : {X : Type 0} (row : X → Row) (xs : List X) → AreKeyed (map row xs) → (k : ℕ) (d : X) →
     k < length xs → (x : X) → Has (take k xs) x → share (row x) (row (get_or xs k d)) ≡ false
 unfolding IsDistinct
@@ -34,7 +34,7 @@ keyed_before row (y ∷ xs) keyed (suc k) d lt x (inl is) =
     behind (z ∷ zs) h (suc k) lt = behind zs h.1 k (omega (arith, lt))
 keyed_before row (y ∷ xs) keyed (suc k) d lt x (inr h) = keyed_before row xs keyed.1 k d (omega (arith, lt)) x h
 
--- THOSE THAT LIVE IN A STATE THAT A CONFIGURATION TAKES
+-- THE LIVE BINDINGS OF A STATE THAT A CONFIGURATION TAKES
 
 not_shared : (r s : Row) → Differ r s → share r s ≡ false
 not_shared r s differ = elim (share r s) as (λ v. share r s ≡ v → v ≡ false) [
@@ -66,7 +66,7 @@ live_keyed rules keeps state takes =
     subst AreKeyed (sym (map_twice (λ (t : TimedRow). t.row) (timed_row rules.timers) live))
     (differ_keyed (map row live) differ)
 
--- and so the entries of a log of it
+-- The entries of a log of such a state have distinct keys, too.
 pub log_keyed : (rules : Rules) → RulesInvariant rules → (state : State) → TakesState rules state →
     (log : LogModel) →
     IsLogOf rules (with_redirects rules state) log → AreKeyed (map (λ l. l.entry.binding) log.entries)
@@ -75,7 +75,7 @@ log_keyed rules keeps state takes log is =
     (keyed_moved (map (λ t. t.row) (map timed_by log.entries)) _
     (IsPermutation-map (λ (t : TimedRow). t.row) _ _ is.rows) (live_keyed rules keeps state takes))
 
--- the keys of a list stand apart along it
+-- The keys of a list are apart.
 pub keyed_along : {X : Type 0} (row : X → Row) (xs : List X) → AreKeyed (map row xs) →
     Along (λ x y. share (row x) (row y) ≡ false) xs
 unfolding IsDistinct

@@ -1,14 +1,14 @@
--- Each leg leaves the binding that it went through with an end in the future.
+-- After each leg the binding that it went through has an end in the future.
 use Rattle.std.proofs.lemmas.{Grind.common_steps, Bool.Decides.nat_tests}
-use Rattle.std.proofs.Common.{◌≡◌, ℕ, ◌+◌, ◌≤◌, max, true, List, [], ◌∷◌, ◌++◌, length, Option, Some, None, sym, ◌∙◌, subst, arith}
-use Rattle.napt_rules.specs.Prelude.{Protocol, Way, Rules, RulesInvariant, AreTimers, Timers}
-use Rattle.napt_binding.{specs.Ends.{end_of, is_before, EndsAreFirst}, proofs.FirstEnds.ends_are_first}
-use Rattle.napt_rules.specs.{declared.{Leg.Leg, End.End}, Prelude.{BindingUse, Binding, Each, purge, act, LegAct, Arrival, RunEffect, State, step}}
-use Rattle.napt_laws.proofs.{FreshBindings.{IsFresh, fresh_purged}, Lists.find_passes, Turns.{IsTurn, InTurn}, OneMoreInput.step_one}
+use Rattle.std.proofs.Common.{◌≡◌, ℕ, true, List, Option, Some, None, sym, ◌∙◌, arith}
+use Rattle.napt_rules.specs.Prelude.{Protocol, Way, Rules, AreTimers, Timers}
+use Rattle.napt_binding.{specs.Ends.{end_of, is_before, EndsAreFirst}}
+use Rattle.napt_rules.specs.{declared.{Leg.Leg, End.End}, Prelude.{BindingUse, Binding, purge, act, LegAct}}
+use Rattle.napt_laws.proofs.{FreshBindings.{IsFresh, fresh_purged}, Lists.find_passes, Turns.{IsTurn}}
 use Rattle.napt_sequential.specs.{declared.passage.Passage.{Passage, TheVariants.{Made, Out, In}}, Traces.{passage_by, passage_of}}
 use Rattle.napt_account.proofs.Moves.{of_moves}
 
--- the leg leaves its binding an end that is to come
+-- The binding of a leg has an end in the future.
 abbrev pub LeavesOpen : ℕ → Passage → Type 0
 LeavesOpen now (Made timed) = is_before now timed.end ≡ true
 LeavesOpen now (Out timed) = is_before now timed.end ≡ true

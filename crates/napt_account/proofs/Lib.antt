@@ -6,6 +6,7 @@ pub mod Effects
 pub mod Ended
 pub mod EndOrder
 pub mod Entries
+pub mod Few
 pub mod GoingOn
 pub mod HeldNumbers
 pub mod InOrder

@@ -1,17 +1,17 @@
 -- The log with which a run begins at a state: its entries are those of the live bindings, and their numbers rise.
 use Rattle.std.proofs.lemmas.{Grind.common_steps, Bool.Decides.nat_tests, Bool.{and_parts, true≢false}}
-use Rattle.std.proofs.Common.{◌≡◌, ◌≢◌, ℕ, suc, ◌+◌, ◌≤◌, ◌^◌, ◌⊎◌, inl, inr, ◌==◌, Bool, true, false, not, ◌&&◌, ◌||◌, cond, List, [], ◌∷◌, ◌++◌, length, map, filter, Option, Some, None, refl, sym, ◌∙◌, ap, subst, arith, append-nil}
+use Rattle.std.proofs.Common.{◌≡◌, ◌≢◌, ℕ, suc, ◌+◌, ◌≤◌, ◌^◌, inl, inr, ◌==◌, Bool, true, false, not, ◌||◌, cond, List, [], ◌∷◌, ◌++◌, length, map, filter, Option, Some, None, refl, sym, ◌∙◌, ap, subst, arith, append-nil}
 use Rattle.std.specs.{Prelude.{nat_le, nat_lt}, List.{list_any, Sorted.{IsPermutation, IsSortedByKey}}, Ordering.nat_cmp}
 use Rattle.std.proofs.lemmas.List.{length-map, Sorted.{IsPermutation-append_left, IsPermutation-append_right, IsPermutation-filter_both, IsPermutation-map, IsPermutation-middle, IsPermutation-refl, IsPermutation-sym, IsPermutation-trans}}
 use Rattle.napt_config.specs.Rules.{AreTimers, Rules, RulesInvariant, pair_of}
-use Rattle.napt_rules.specs.{declared.Row.Row, Prelude.{Binding, Each, Redirect, State, TakesState, Timers, is_live, initial_state, opening, purge, redirect_binding, row, same_endpoint, same_protocol, with_live_flows, with_redirects}}
+use Rattle.napt_rules.specs.{declared.Row.Row, Prelude.{Binding, Each, State, TakesState, Timers, is_live, opening, purge, redirect_binding, row, same_endpoint, same_protocol, with_live_flows, with_redirects}}
 use Rattle.napt_rules.proofs.Lists.{filter_all}
 use Rattle.napt_laws.proofs.{Endpoints.{end_is, protocol_is}, Lists.each_weaker}
-use Rattle.napt_binding.{specs.Ends.{EndsAreFirst, end_of, is_before}, proofs.FirstEnds.{end_without_dead, ends_are_first}}
+use Rattle.napt_binding.{specs.Ends.{end_of, is_before}, proofs.FirstEnds.{end_without_dead, ends_are_first}}
 use Rattle.napt_table.specs.{declared.TimedRow.TimedRow, TimedRows.timed_row}
 use Rattle.napt_account.specs.declared.{account.Account.Account, log.{Entry.Entry, LogEntry.LogEntry}}
-use Rattle.napt_account.specs.{Attribution.has_ends, Log.{LogModel, begun_behind, first_entry, numbered_from, shares, unused_entry}, LogBuilders.IsStart, LogParts.{IsNumbered, Rises, is_open, kept_at}}
-use Rattle.napt_account.specs.{LogStarts.{NumbersDiffer, SavedLogStateModel, are_accounts, are_apart, accounted, continued_entries, empty_state, has_entry, has_redirect, in_order_of_number, StartedLogsAreOfTheirStates, StartedLogsBeginAnew, is_account, is_saved_log_state, log_started, most_saved, new_entries, no_saved_log, placed_by_number, resumed_end, resumed_entries, resumed_entry, unlisted_rows, with_account}, OpenEntries.{AreKeyed, Has, entry_key, external_eq}, ResumedLogRuns.{IsLogOf, timed_by}}
+use Rattle.napt_account.specs.{Attribution.has_ends, Log.{LogModel, first_entry, numbered_from, shares, unused_entry}, LogBuilders.IsStart, LogParts.{IsNumbered, Rises, is_open}}
+use Rattle.napt_account.specs.{LogStarts.{NumbersDiffer, SavedLogStateModel, are_accounts, are_apart, accounted, continued_entries, empty_state, has_entry, has_redirect, in_order_of_number, StartedLogsAreOfTheirStates, StartedLogsBeginAnew, is_account, is_saved_log_state, log_started, most_saved, new_entries, no_saved_log, placed_by_number, resumed_end, resumed_entries, resumed_entry, unlisted_rows}, OpenEntries.{Has, entry_key, external_eq}, ResumedLogRuns.{IsLogOf, timed_by}}
 use Rattle.napt_account.proofs.InOrder.{Along, Differ, differ_filter, each_has, filter_has, has_each, has_filter, has_left, has_parts}
 use Rattle.napt_account.proofs.{Entries.shares_itself, Keyed.{keyed_along, live_keyed, log_keyed, share, share_flip}, Lists.{each_mapped, map_joined, map_twice}, LiveRows.{is_loose, live_all, live_of}, Numbers.{differ_moved, within_from}, OpenEntries.{any_has, external_itself, key_shares}, Rising.{rises_from, sorted_rising}}
 use Rattle.napt_account.proofs.Sorted.{has_back, has_moved}
@@ -65,7 +65,7 @@ above_none : (xs : List LogEntry) → Each (λ l. 0 ≤ l.number) xs
 above_none [] = tt
 above_none (x ∷ xs) = (omega arith, above_none xs)
 
--- sorted by number, they are in order
+-- Sorted by number, they are in order.
 pub order_is : (xs ys : List LogEntry) → IsPermutation xs ys → NumbersDiffer xs →
     IsSortedByKey (λ l. l.number) nat_cmp ys → ys ≡ in_order_of_number xs
 order_is xs ys moves differ sorted = sorted_rising 0 ys (in_order_of_number xs) sorted
@@ -136,7 +136,7 @@ apart_keys j k h = share_flip k.0.row j.0.row ∙ not_or (j.1.number == k.1.numb
     not_or false true h = cc
     not_or false false h = refl
 
--- of two that stand apart, what is made of them stands apart
+-- The images of elements that are apart are apart.
 pub along_mapped : {X Y : Type 0} (R : X → X → Type 0) (S : Y → Y → Type 0) (f : X → Y) →
     ((x y : X) → R x y → S (f x) (f y)) → (xs : List X) → Along R xs → Along S (map f xs)
 along_mapped R S f g [] h = tt
@@ -210,7 +210,7 @@ module _ {X : Type 0} (R : X → X → Type 0) (flip : (x y : X) → R x y → R
     along_without front back x h.1,
   )
 
-  -- it is none of the others
+  -- An element is none of the others.
   others_differ : (front back : List X) (x : X) → Along R (front ++ x ∷ back) → (z : X) → Has (front ++ back) z → R x z
   others_differ [] back x h z there = each_has (R x) back z h.0 there
   others_differ (y ∷ front) back x h z (inl is) = flip z x (subst (λ w. R w x) is
@@ -246,7 +246,7 @@ module _ {X : Type 0} (R : X → X → Type 0) (flip : (x y : X) → R x y → R
       (same_moves xs (p.front ++ p.back) s.1 (along_without p.front p.back x t2) into back))
       (IsPermutation-sym _ _ (IsPermutation-middle p.front x p.back)))
 
--- one of a list that stands apart is the only one that is not apart from it
+-- In a list whose elements are apart, each is the only one that is not apart from itself.
 pub only_one : {X : Type 0} (R : X → X → Type 0) (xs : List X) → Along R xs → (x y : X) → Has xs x → Has xs y →
     (R x y → ⊥) → (R y x → ⊥) → x ≡ y
 only_one R [] h x y p q f g = absurd p
@@ -265,7 +265,7 @@ accounted_has (b ∷ list) (None ∷ accounts) k h = inr (accounted_has list acc
 accounted_has (b ∷ list) (Some a ∷ accounts) k (inl is) = inl (ap (λ (z : Kept). z.0) is)
 accounted_has (b ∷ list) (Some a ∷ accounts) k (inr h) = inr (accounted_has list accounts k h)
 
--- a redirect with the endpoints of another is that one
+-- A redirect with the endpoints of another is that one.
 redirect_is : (r s : Row) → r.fixed ≡ true → s.fixed ≡ true → has_ends r.protocol r.inside r.external s ≡ true → s ≡ r
 redirect_is r s rf sf h =
     let p = and_parts (same_protocol r.protocol s.protocol) _ h in
@@ -292,7 +292,7 @@ module _ (rules : Rules) (t : AreTimers rules.timers) (state : State) where
   abbrev pub dynamics : List TimedRow
   dynamics = map (timed_row timers) (live_of timers now state.list)
 
-  -- a redirect that does not end at the clock is one of the configuration
+  -- A redirect whose entry does not end at the clock is one of the configuration.
   fixed_up : (r : Row) → r.fixed ≡ true → is_before now (cond (has_redirect rules r) None (Some now)) ≡ true →
       (let timed : TimedRow = record { row = r; end = cond (has_redirect rules r) None (Some now) } in
       Has openings timed)
@@ -313,7 +313,7 @@ module _ (rules : Rules) (t : AreTimers rules.timers) (state : State) where
       never : (n : ℕ) → nat_lt n n ≡ true → ⊥
       never n h = grind (arith, nat_tests)
 
-  -- and another binding that does not end by then is live
+  -- Any other binding that does not end by the clock is live.
   dynamic_up : (b : Binding) → Has state.list b → b.row.fixed ≡ false → is_before now (end_of timers b) ≡ true →
       Has dynamics (timed_row timers b)
   dynamic_up b h fixed opens =
@@ -325,7 +325,7 @@ module _ (rules : Rules) (t : AreTimers rules.timers) (state : State) where
       (has_filter (is_live timers now) (filter is_loose state.list) b
       (has_filter is_loose state.list b h (ap not fixed)) alive)))
 
-  -- an entry that goes on is that of a live binding
+  -- An entry that goes on is that of a live binding.
   row_up : (k : Kept) → Has state.list k.0 → is_open now (resumed_entry rules now k) ≡ true →
       Has live (timed_by (resumed_entry rules now k))
   row_up k h opens = subst (λ (l : List TimedRow). Has l (timed_by (resumed_entry rules now k))) (sym (live_all rules state))
@@ -343,7 +343,7 @@ module _ (rules : Rules) (t : AreTimers rules.timers) (state : State) where
           has_behind openings dynamics _ (subst (Has dynamics) (λ i. record { row = k.0.row; end = sym end i })
           (dynamic_up k.0 h e (ap (is_before now) (sym end) ∙ opens)))
 
-  -- what is live does not end at the clock
+  -- A live binding does not end at the clock.
   live_opens : (timed : TimedRow) → Has live timed → is_before now timed.end ≡ true
   live_opens timed h = elim (has_parts openings dynamics timed
       (subst (λ (l : List TimedRow). Has l timed) (live_all rules state) h)) [
@@ -419,7 +419,7 @@ module _ (rules : Rules) (keeps : RulesInvariant rules) (state : State) (takes :
   alive_apart : Along (λ t u. share t.row u.row ≡ false) alive
   alive_apart = keyed_along (λ (t : TimedRow). t.row) alive (live_keyed rules keeps state takes)
 
-  -- what each entry has of its account
+  -- The values of an entry that are those of its account.
   each_account : (P : LogEntry → Type 0) → ((k : Kept) → is_account saved.made clock k.1 ≡ true →
       P (resumed_entry rules clock k)) → Each P entries
   each_account P f = each_mapped P (resumed_entry rules clock) ks
@@ -429,7 +429,7 @@ module _ (rules : Rules) (keeps : RulesInvariant rules) (state : State) (takes :
   each_continued P h = has_each P continued (λ n there. each_has P entries n h
       (filter_has (is_open clock) entries n (has_moved continued opens (order_moves opens) n there)).0)
 
-  -- an entry that goes on is that of a live binding
+  -- An entry that goes on is that of a live binding.
   opens_live : (n : LogEntry) → Has opens n → Has alive (timed_by n)
   opens_live n h =
       let p = filter_has (is_open clock) entries n h in
@@ -550,7 +550,7 @@ module _ (rules : Rules) (keeps : RulesInvariant rules) (state : State) (takes :
       made_then : (a : Account) → is_account saved.made clock a ≡ true → a.made ≤ clock
       made_then a h = grind (arith, common_steps, nat_tests, h)
 
-  -- so a builder can begin with it
+  -- A builder can therefore begin with it.
   pub is_start : length alive ≤ 2 ^ 61 → IsStart clock log
   is_start most = record {
     kept = is_of.kept;

@@ -1,13 +1,13 @@
 -- What an input made, as it is in the log after it.
-use Rattle.std.proofs.lemmas.{Grind.common_steps, Bool.{Decides.nat_tests, and_parts, and_from}}
-use Rattle.std.proofs.Common.{◌≡◌, inl, inr, ℕ, ◌+◌, ◌≤◌, Bool, true, false, ◌&&◌, ◌||◌, cond, List, [], ◌∷◌, ◌++◌, map, filter, find, Option, Some, None, refl, sym, ◌∙◌, ap, subst, arith, append-nil}
+use Rattle.std.proofs.lemmas.{Bool.{Decides.nat_tests, and_parts, and_from}}
+use Rattle.std.proofs.Common.{◌≡◌, ℕ, ◌+◌, ◌≤◌, Bool, true, false, ◌&&◌, cond, List, [], ◌∷◌, ◌++◌, map, filter, find, Option, Some, None, refl, sym, ◌∙◌, ap, arith, append-nil}
 use Rattle.std.{specs.{Prelude.option_to_list, List.list_any, Option.option_map}}
 use Rattle.napt_wire.specs.declared.Way.{Way, TheVariants.{Outgoing, Incoming}}
-use Rattle.napt_rules.specs.{declared.Row.Row, Prelude.Each}
+use Rattle.napt_rules.specs.{declared.Row.Row}
 use Rattle.napt_binding.specs.Ends.{is_before}
 use Rattle.napt_table.specs.declared.TimedRow.{TimedRow}
-use Rattle.napt_sequential.specs.declared.passage.{Passage.{Passage, TheVariants.{Nothing, Made, Out, In, Dropped}}, Trace.Trace}
-use Rattle.napt_account.specs.{declared.log.{Entry.Entry, LogEntry.LogEntry}, BindingTallies.open_of, Effects.CanCome, Log.{LogModel, after_leg, after_input, counted, entry_is_of, made_by, shares, use_entry, with_use}, MadeEntries.made_entry, LogParts.{IsNumbered, is_behind}}
+use Rattle.napt_sequential.specs.declared.passage.{Passage.{Passage, TheVariants.{Nothing, Made, Out, In, Dropped}}}
+use Rattle.napt_account.specs.{declared.log.{Entry.Entry, LogEntry.LogEntry}, BindingTallies.open_of, Effects.CanCome, Log.{LogModel, after_leg, counted, entry_is_of, made_by, shares, use_entry, with_use}, MadeEntries.made_entry, LogParts.{IsNumbered, is_behind}}
 use Rattle.napt_account.proofs.{Entries.{counted_binding, counted_end, shares_itself}, GoingOn.{more_leg, none_behind}, Lists.{filter_joined, filter_seen}}
 
 -- LISTS
@@ -34,7 +34,7 @@ made_is_of : (now : ℕ) (timed : TimedRow) → is_before now timed.end ≡ true
 made_is_of now timed opens = and_from (is_before now timed.end) (shares timed.row timed.row) opens
     (shares_itself timed.row)
 
--- ENTRIES STAY OF THEIR ROWS
+-- ENTRIES KEEP THEIR ROWS
 
 module _ (way : Way) (now : ℕ) (timed : TimedRow) (opens : is_before now timed.end ≡ true) (r : Row) where
   stays_of : (n : LogEntry) → entry_is_of now r (use_entry way now timed n).entry ≡ entry_is_of now r n.entry
@@ -69,7 +69,7 @@ module _ (now made : ℕ) where
       new (map (use_entry way now timed) ns) ≡ map (use_entry way now timed) (new ns)
   used_new way timed ns = filter_seen (is_behind made) (use_entry way now timed) ns
 
-  -- what a leg makes is open after it
+  -- An entry that a leg makes is open after the leg.
   made_open : (timed : TimedRow) (x : LogModel) → CanCome now x (Made timed) →
       open_of now timed.row (after_leg now (Made timed) x)
       ≡ Some (record { number = x.made + 1; entry = made_by now timed })
@@ -89,9 +89,9 @@ module _ (now made : ℕ) where
   first_is (In timed) x none le comes = used_new Incoming timed x.entries ∙ ap (map (use_entry Incoming now timed)) none
   first_is (Dropped loss) x none le comes = none
 
-  -- ANOTHER BEHIND IT
+  -- A SECOND LEG AFTER IT
 
-  -- what the first leg made is open before the second
+  -- What the first leg made is open before the second.
   abbrev IsThere : Passage → LogModel → Type 0
   IsThere (Made timed) x = (n : LogEntry) × (open_of now timed.row x ≡ Some n)
   IsThere _ x = Unit {0}

@@ -132,7 +132,7 @@ module _ (rules : Rules) (t : AreTimers rules.timers) (address : ℕ) (leg : Leg
   same : purge rules.timers leg.now all ≡ own
   same = purge_taken rules.timers leg.now list
 
-  -- what lives of what a leg leaves
+  -- The bindings that are live after a leg.
   abbrev Moves : Option BindingUse → List Binding → Type 0
   Moves went left = P went (purge rules.timers leg.now left)
 

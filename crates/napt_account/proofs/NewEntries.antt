@@ -1,6 +1,6 @@
 -- Entries that begin for live bindings without one.
-use Rattle.std.proofs.lemmas.{Grind.common_steps, Bool.Decides.nat_tests, List.{take_more}}
-use Rattle.std.proofs.Common.{◌≡◌, ℕ, suc, ◌+◌, ◌<◌, Bool, true, false, not, ◌||◌, cond, List, [], ◌∷◌, ◌++◌, length, get_or, map, filter, take, refl, sym, ◌∙◌, ap, subst, arith, append-nil}
+use Rattle.std.proofs.lemmas.{List.{take_more}}
+use Rattle.std.proofs.Common.{◌≡◌, ℕ, suc, ◌+◌, ◌<◌, Bool, true, false, not, ◌||◌, cond, List, [], ◌∷◌, ◌++◌, length, get_or, map, filter, take, refl, sym, ◌∙◌, ap, arith, append-nil}
 use Rattle.std.specs.{List.list_any, HashSet.HashSet}
 use Rattle.std.specs.HashSet as hash
 use Rattle.napt_rules.specs.declared.Row.{Row}
@@ -8,7 +8,7 @@ use Rattle.napt_table.specs.declared.TimedRow.{TimedRow}
 use Rattle.napt_account.specs.{declared.{log.{Entry.Entry, LogEntry.LogEntry}, open_entries.EntryKey.EntryKey}, Log.{numbered_from, shares, unused_entry}, LogStarts.has_entry, OpenEntries.{entry_key, external_eq}}
 use Rattle.napt_account.proofs.{Accounts.{any_pushed, as_or}, Lists.{filter_joined, map_joined}, OpenEntries.{external_is, external_itself, key_shares, shares_key}}
 
--- the endpoints of a set are those of entries
+-- The endpoints in a set are those of the entries.
 abbrev pub HasRows : {S : Type 0} → List LogEntry → HashSet EntryKey S → Type 0
 HasRows entries all = (x : EntryKey) →
     hash.contains external_eq all x ≡ list_any (λ n. external_eq (entry_key n.entry.binding) x) entries
@@ -24,7 +24,7 @@ rows_more entries k d below old new has key is updates x =
     ∙ (sym (any_pushed (λ n. external_eq (entry_key n.entry.binding) x) (take k entries) (get_or entries k d))
     ∙ ap (list_any (λ n. external_eq (entry_key n.entry.binding) x)) (sym (take_more entries k d below))))))
 
--- a row that the set has is one that shares an endpoint
+-- The set has the endpoint of a row exactly if the row shares the endpoint of an entry.
 pub share_either : (r s : Row) → external_eq (entry_key s) (entry_key r) ≡ shares r s
 share_either r s = elim (shares r s) as (λ v. shares r s ≡ v → external_eq (entry_key s) (entry_key r) ≡ v) [
   | true ↦ λ e. ap (λ (k : EntryKey). external_eq k (entry_key r)) (sym (key_shares r s e)) ∙ external_itself (entry_key r)

@@ -1,10 +1,10 @@
 -- Entries of a log in order of number.
-use Rattle.std.proofs.lemmas.{Grind.common_steps, Bool.{Decides.nat_tests, eqb-true, eq-eqb, ne_eqb}}
-use Rattle.std.proofs.Common.{◌≡◌, ◌≢◌, ℕ, ◌+◌, ◌≤◌, Bool, false, List, [], ◌∷◌, length, map, eqb, refl, sym, ◌∙◌, ap, subst, arith}
+use Rattle.std.proofs.lemmas.{Bool.{Decides.nat_tests, eq-eqb, ne_eqb}}
+use Rattle.std.proofs.Common.{◌≡◌, ◌≢◌, ℕ, ◌+◌, ◌≤◌, Bool, false, List, [], ◌∷◌, length, map, eqb, arith}
 use Rattle.std.specs.{Ordering.nat_cmp, List.{AllByRecursion, IsDistinct, Sorted.{IsPermutation, IsSortedByKey}}}
 use Rattle.std.proofs.lemmas.{List.Sorted.{IsPermutation-sym}, Map.Keys.IsDistinct-IsPermutation}
 use Rattle.napt_rules.specs.Prelude.{Arrival, Each, State, initial_state, effect_from, purge, Rules}
-use Rattle.napt_account.specs.{declared.log.{Entry.Entry, LogEntry.LogEntry}, Log.{LogModel, first_entry, begun_behind, log_of, log_on, numbered_from, unnumbered}, LogParts.{IsNumbered, Rises}}
+use Rattle.napt_account.specs.{declared.log.{Entry.Entry, LogEntry.LogEntry}, Log.{first_entry, begun_behind, log_of, log_on, numbered_from}, LogParts.{IsNumbered, Rises}}
 use Rattle.napt_account.proofs.{InOrder.Differ, Rising.{rises_all, rises_differ, rises_from, sorted_rising}, Sorted.{has_back, has_moved}}
 
 -- MOVED, NO TWO HAVE ONE NUMBER
@@ -41,7 +41,7 @@ differ_moved xs ys moves h = of_distinct ys (IsDistinct-IsPermutation same same_
 
 -- A LOG
 
--- in any order, put in order of number
+-- The entries of a log in any order, sorted by number, are the log's.
 pub sorted_entries : (entries told xs : List LogEntry) → Rises 1 entries → IsPermutation told entries →
     IsPermutation told xs → IsSortedByKey (λ l. l.number) nat_cmp xs → xs ≡ entries
 sorted_entries entries told xs rises all sorts sorted =
@@ -51,7 +51,7 @@ sorted_entries entries told xs rises all sorts sorted =
     (λ l h. has_moved told entries all l (has_back told xs sorts l h))
     (λ l h. has_moved told xs sorts l (has_back told entries all l h))
 
--- the first numbers are among those that were given
+-- The first numbers are among those that were given.
 pub within_from : (n most : ℕ) (es : List Entry) → n + length es ≤ most + 1 →
     Each (λ l. l.number ≤ most) (numbered_from n es)
 within_from n most [] h = tt

@@ -8,9 +8,9 @@ use Rattle.napt_rules.specs.{declared.Row.Row, Prelude.Each}
 use Rattle.napt_laws.proofs.Endpoints.{protocol_is, end_is}
 use Rattle.napt_binding.specs.Ends.{is_before}
 use Rattle.napt_table.specs.declared.TimedRow.{TimedRow}
-use Rattle.napt_account.specs.declared.{binding_tally.{LogNote.LogNote, BindingTally.BindingTally}, log.{Entry.Entry, LogEntry.LogEntry}, open_entries.{DueEntry.DueEntry, EntryKey.EntryKey, Open.Open}}
-use Rattle.napt_account.specs.{declared.open_entries.OpenEntries.OpenEntries, BindingTallies.{noted, no_use, open_of, use_found, tally_used}, Log.{LogModel, counted, shares, entry_is_of, entry_through, use_entry, with_entry, with_use}}
-use Rattle.napt_account.{specs.LogParts.{IsNumbered, Rises, is_open}, proofs.{Entries.{counted_binding, counted_end, shares_itself}, GoingOn.numbered_leg, InOrder.{each_has, has_left, has_parts}, Rising.{rises_differ, rises_mapped, rises_pushed, same_number}}}
+use Rattle.napt_account.specs.declared.{binding_tally.{BindingTally.BindingTally}, log.{Entry.Entry, LogEntry.LogEntry}, open_entries.{DueEntry.DueEntry, EntryKey.EntryKey, Open.Open}}
+use Rattle.napt_account.specs.{declared.open_entries.OpenEntries.OpenEntries, BindingTallies.{noted, no_use, open_of, use_found, tally_used}, Log.{LogModel, counted, shares, entry_is_of, use_entry, with_entry, with_use}}
+use Rattle.napt_account.{specs.LogParts.{IsNumbered, Rises, is_open}, proofs.{Entries.{counted_binding, counted_end, shares_itself}, InOrder.{each_has, has_left, has_parts}, Rising.{rises_differ, rises_mapped, rises_pushed, same_number}}}
 use Rattle.napt_account.specs.OpenEntries.{entry_key, external_eq, open_at, entry_at, due_at, is_queued, entry_is_at, Has, IsPlaced, IsIndexed, IsIndexedBut, OpenEntriesShow}
 use Rattle.napt_laws.proofs.Lists.{each_weaker}
 
@@ -81,7 +81,7 @@ has_last [] x = inl refl
 has_last (y ∷ ys) x = inr (has_last ys x)
 
 module _ {X : Type 0} (p : X → Bool) where
-  -- of elements of which none passes
+  -- If no element passes, none is found.
   pub find_nothing : (xs : List X) → ((x : X) → Has xs x → p x ≡ false) → find p xs ≡ None
   find_nothing [] never = refl
   find_nothing (x ∷ xs) never = ap (λ v. cond v (Some x) (find p xs)) (never x (inl refl))
@@ -98,7 +98,7 @@ module _ {X : Type 0} (p : X → Bool) where
   any_has (y ∷ ys) x (inr h) passed = elim (p y) as (λ v. (v || list_any p ys) ≡ true)
       [ true ↦ refl | false ↦ any_has ys x h passed ]
 
-  -- of elements of which one passes
+  -- If a single element passes, it is found.
   pub find_only : (xs : List X) (x : X) → Has xs x → p x ≡ true → ((y : X) → Has xs y → p y ≡ true → y ≡ x) →
       find p xs ≡ Some x
   find_only [] x h passed only = absurd h
@@ -110,7 +110,7 @@ module _ {X : Type 0} (p : X → Bool) where
     ]
   ] refl
 
--- ONE IS WRITTEN: at its endpoint, where no other was
+-- AN ENTRY IS INSERTED at an endpoint that has no other
 
 module _ (now most : ℕ) (old new : OpenEntries) (log later : LogModel) (shows : OpenEntriesShow now most log old)
     (l : LogEntry)
@@ -257,7 +257,7 @@ module _ (now most : ℕ) (all : OpenEntries) (log : LogModel) (shows : OpenEntr
     pub open_is : open_of now r log ≡ Some l
     open_is = find_only test log.entries l (shows.there (entry_key r) l at) row_of row_only
 
--- where no open entry has its endpoint, nothing is there
+-- If no open entry has the endpoint, there is nothing at it.
 pub row_free : (now most : ℕ) (all : OpenEntries) (log : LogModel) → OpenEntriesShow now most log all → (r : Row) →
     list_any (λ n. entry_is_of now r n.entry) log.entries ≡ false → open_at all (entry_key r) ≡ None
 row_free now most all log shows r none = go (open_at all (entry_key r)) refl
@@ -281,7 +281,7 @@ module _ (way : Way) (now most : ℕ) (old : OpenEntries) (log : LogModel) (show
   unused_here none = sym (ap (use_found way) (open_none now most old log shows timed.row
       (ap (entry_at old) (sym is) ∙ ap (option_map (λ (o : Open). o.numbered)) none)))
 
-  -- and nothing changes
+  -- Without an open entry nothing changes.
   pub unused_same : open_at old key ≡ None → with_use way now timed log ≡ log
   unused_same none =
       let free : entry_at old (entry_key timed.row) ≡ None =
@@ -306,7 +306,7 @@ module _ (way : Way) (now most : ℕ) (old : OpenEntries) (log : LogModel) (show
     abbrev change : LogEntry → LogEntry
     change = use_entry way now timed
 
-    -- no other entry changes
+    -- No other entry changes.
     not_it : (m : LogEntry) → Has log.entries m → m.number ≢ l.number → change m ≡ m
     not_it m has differs = elim (entry_is_of now timed.row m.entry) as (λ v. entry_is_of now timed.row m.entry ≡ v →
         (record m { entry = cond v (counted way now timed.end m.entry) m.entry }) ≡ m) [

@@ -1,13 +1,12 @@
 -- The accounts of a log's entries, found by their endpoints.
-use Rattle.std.proofs.lemmas.{Grind.common_steps, Bool.Decides.nat_tests, List.{take_all, take_more}}
-use Rattle.std.proofs.Common.{◌≡◌, ℕ, ◌+◌, ◌<◌, ◌≤◌, Bool, true, false, ◌&&◌, cond, find, List, [], ◌∷◌, ◌++◌, length, get_or, map, filter, take, Option, Some, None, refl, sym, ◌∙◌, ap, subst, arith}
+use Rattle.std.proofs.lemmas.{List.{take_more}}
+use Rattle.std.proofs.Common.{◌≡◌, ℕ, ◌+◌, ◌<◌, Bool, true, false, ◌&&◌, cond, find, List, [], ◌∷◌, ◌++◌, length, get_or, map, take, Option, Some, None, refl, sym, ◌∙◌, ap, subst}
 use Rattle.std.specs.{HashMap.HashMap, Option.{is_some, option_map, option_or}}
 use Rattle.std.specs.HashMap as hash
 use Rattle.napt_rules.specs.{declared.Row.Row, Prelude.{Binding, Each}}
-use Rattle.napt_binding.specs.Ends.{is_before}
 use Rattle.napt_account.specs.declared.{account.Account.Account, log.LogEntry.LogEntry, open_entries.EntryKey.EntryKey}
-use Rattle.napt_account.specs.{BindingTallies.open_of, Log.{LogModel, entry_is_of, shares}, LogParts.{is_open, kept_at}, LogStarts.{account_at, account_of_entry}, OpenEntries.{Has, entry_key, external_eq}}
-use Rattle.napt_account.proofs.{InOrder.{filter_has, has_each}, Lists.map_joined, NewEntries.share_either, OpenEntries.external_is}
+use Rattle.napt_account.specs.{Log.{LogModel, entry_is_of, shares}, LogParts.{is_open, kept_at}, LogStarts.{account_at, account_of_entry}, OpenEntries.{Has, entry_key, external_eq}}
+use Rattle.napt_account.proofs.{InOrder.{filter_has, has_each}, NewEntries.share_either, OpenEntries.external_is}
 
 abbrev is_under : EntryKey → LogEntry → Bool
 is_under x numbered = external_eq (entry_key numbered.entry.binding) x
@@ -15,7 +14,7 @@ is_under x numbered = external_eq (entry_key numbered.entry.binding) x
 abbrev account_under : EntryKey → List LogEntry → Option Account
 account_under x entries = option_map account_of_entry (find (is_under x) entries)
 
--- a map has the account of the first entry of each endpoint
+-- A map has the account of the first entry of each endpoint.
 abbrev pub IsMap : {S : Type 0} → List LogEntry → HashMap EntryKey Account S → Type 0
 IsMap entries all = (x : EntryKey) → hash.get external_eq all x ≡ account_under x entries
 
@@ -77,7 +76,7 @@ find_agrees p q [] h = refl
 find_agrees p q (x ∷ xs) h = ap (λ v. cond v (Some x) (find p xs)) h.0
     ∙ ap (cond (q x) (Some x)) (find_agrees p q xs h.1)
 
--- and so the account of each open entry
+-- A map therefore has the account of each open entry.
 pub account_is : {S : Type 0} (log : LogModel) (all : HashMap EntryKey Account S) → IsMap log.entries all → (now : ℕ) →
     kept_at now log ≡ log → (row : Row) → hash.get external_eq all (entry_key row) ≡ account_at now log row
 account_is log all is now kept row = is (entry_key row) ∙ ap (option_map account_of_entry)

@@ -1,19 +1,19 @@
--- The entries of a log without their numbers, leg by leg, and those of a run.
-use Rattle.std.proofs.lemmas.{Grind.common_steps, Bool.{Decides.nat_tests, true≢false}, Option.same_Some}
-use Rattle.std.proofs.Common.{◌≡◌, ℕ, ◌+◌, ◌≤◌, Bool, true, false, cond, List, [], ◌∷◌, ◌++◌, length, map, Option, Some, None, refl, sym, ◌∙◌, ap, subst, arith}
+-- The entries of a log without their numbers, leg by leg.
+use Rattle.std.proofs.lemmas.{Bool.{true≢false}, Option.same_Some}
+use Rattle.std.proofs.Common.{◌≡◌, ℕ, Bool, true, false, cond, List, [], ◌∷◌, ◌++◌, map, Option, Some, None, refl, sym, ◌∙◌, ap, subst}
 use Rattle.std.specs.List.{fold}
 use Rattle.napt_wire.specs.declared.{Protocol.Protocol, Way.{Way, TheVariants.{Outgoing, Incoming}}}
-use Rattle.napt_rules.specs.{declared.{Leg.Leg, Row.Row}, Prelude.{BindingUse, Binding, source, kind, act, LegAct, Arrival, State, initial_state, opening, purge, redirect_binding, row, run, effect_from, pair_of, Redirect, Rules, AreTimers, Timers}}
+use Rattle.napt_rules.specs.{declared.{Leg.Leg}, Prelude.{BindingUse, Binding, source, kind, act, LegAct, row, Rules, AreTimers, Timers}}
 use Rattle.napt_rules.specs.declared.End.{End, TheVariants.{ToOutside, ToInside, Onward, Dropped}}
-use Rattle.napt_laws.proofs.{OpeningList.redirect_stays, Turns.{IsTurn, InTurn, run_turn}}
+use Rattle.napt_laws.proofs.{Turns.{IsTurn, InTurn}}
 use Rattle.napt_binding.specs.Ends.{end_of}
 use Rattle.napt_table.specs.{declared.TimedRow.TimedRow, TimedRows.timed_row}
 use Rattle.napt_translate.specs.CarriedPackets.{packet_carried}
 use Rattle.napt_sequential.specs.Traces.{gone_through, loss_of, passage_by}
-use Rattle.napt_account.specs.{declared.log.{Entry.Entry, LogEntry.LogEntry}, Log.{LogModel, first_entry, begun_behind, counted, entry_through, unnumbered, use_entry, with_use, after_leg, after_record, log_of, log_on, numbered_from}}
+use Rattle.napt_account.specs.{declared.log.{Entry.Entry, LogEntry.LogEntry}, Log.{LogModel, first_entry, counted, entry_through, unnumbered, use_entry, with_use, after_leg, after_record}}
 use Rattle.napt_account.proofs.{Lists.{map_joined, map_twice}, Moves.of_moves}
 
--- the entries after a leg: the binding that it made gets one, and that of the binding that it found changes
+-- The entries after a leg: the binding that it made gets one, and that of the binding that it found changes.
 abbrev pub logged_by : Timers → Leg → Option BindingUse → List Entry → List Entry
 logged_by timers leg None entries = entries
 logged_by timers leg (Some went) entries =
@@ -50,7 +50,7 @@ plain_none now (Some protocol) host (ToInside packet) log = refl
 plain_none now (Some protocol) host (Onward place packet) log = refl
 plain_none now (Some protocol) host (Dropped cause) log = refl
 
--- what a leg made it went out through
+-- A leg goes out through the binding that it makes.
 abbrev pub MadeOut : Way → Option BindingUse → Type 0
 MadeOut way went = (t : BindingUse) → went ≡ Some t → t.made ≡ true → way ≡ Outgoing
 
@@ -86,33 +86,3 @@ module _ (rules : Rules) (t : AreTimers rules.timers) where
   plain_acts clock list (a ∷ acts) last new turn log =
       plain_acts a.leg.now (act rules a.address a.leg list).list acts last new turn.1 (after_record rules.timers log a)
       ∙ ap (λ (es : List Entry). fold (logged rules.timers) es acts) (plain_act clock list a turn.0 log)
-
--- WHERE A RUN BEGINS ANEW, it has the redirects
-
-pub unnumbered_from : (n : ℕ) (es : List Entry) → map (λ (l : LogEntry). l.entry) (numbered_from n es) ≡ es
-unnumbered_from n [] = refl
-unnumbered_from n (e ∷ es) = ap (λ (xs : List Entry). e ∷ xs) (unnumbered_from (n + 1) es)
-
-module _ (timers : Timers) (pair : ℕ → ℕ) where
-  redirects_stay : (rs : List Redirect) → purge timers 0 (map (redirect_binding pair) rs) ≡ map (redirect_binding pair) rs
-  redirects_stay [] = refl
-  redirects_stay (r ∷ rs) =
-      ap (λ (b : Binding). b ∷ purge timers 0 (map (redirect_binding pair) rs)) (redirect_stays timers 0 pair r)
-      ∙ ap (λ (bs : List Binding). redirect_binding pair r ∷ bs) (redirects_stay rs)
-
-pub plain_begun : (rules : Rules) → unnumbered (begun_behind 0 rules (initial_state rules))
-    ≡ map (first_entry rules.timers 0) (opening rules)
-plain_begun rules =
-    unnumbered_from (0 + 1) (map (first_entry rules.timers 0) (purge rules.timers 0 (opening rules)))
-    ∙ ap (map (first_entry rules.timers 0)) (redirects_stay rules.timers (pair_of rules) rules.redirects)
-
--- a run's log
-pub plain_log : (rules : Rules) → AreTimers rules.timers → (inputs : List Arrival) → unnumbered (log_of rules inputs)
-    ≡ fold (logged rules.timers) (map (first_entry rules.timers 0) (opening rules)) (run rules inputs (opening rules)).acts
-unfolding log_on
-plain_log rules t inputs =
-    plain_acts rules t 0 (opening rules) (run rules inputs (opening rules)).acts _
-    (run rules inputs (opening rules)).list (run_turn rules 0 0 inputs (opening rules))
-    (begun_behind 0 rules (initial_state rules))
-    ∙ ap (λ (es : List Entry). fold (logged rules.timers) es (run rules inputs (opening rules)).acts)
-    (plain_begun rules)

@@ -1,9 +1,9 @@
 -- The redirects of a configuration, found by a key of their protocol and both endpoints.
 use Rattle.std.proofs.lemmas.{Grind.common_steps, Bool.Decides.nat_tests}
-use Rattle.std.proofs.Common.{◌≡◌, ℕ, ◌+◌, ◌<◌, Bool, true, false, Option, Some, None, ◌&&◌, ◌||◌, cond, List, [], ◌∷◌, ◌++◌, length, get_or, map, take, refl, sym, ◌∙◌, ap, subst, arith}
+use Rattle.std.proofs.Common.{◌≡◌, ℕ, ◌+◌, ◌<◌, Bool, true, false, Some, None, ◌||◌, cond, List, [], ◌∷◌, ◌++◌, length, get_or, map, take, refl, sym, ◌∙◌, ap, arith}
 use Rattle.std.specs.{List.list_any, HashSet.HashSet}
 use Rattle.std.specs.HashSet as hash
-use Rattle.std.proofs.lemmas.List.{take_all, take_more}
+use Rattle.std.proofs.lemmas.List.{take_more}
 use denote.Enum.Bare.{sameb}
 use Rattle.napt_wire.specs.{contracts.Protocol.the_type, declared.Protocol.{Protocol, TheVariants.{Udp, Tcp, Icmp}}}
 use Rattle.napt_config.specs.{Rules.{Rules}, declared.settings.Timers.{Timers}}
@@ -24,7 +24,7 @@ protocol_same Udp Icmp = refl
 protocol_same Udp Tcp = refl
 protocol_same Udp Udp = refl
 
--- two keys are the same where the protocols and the endpoints are
+-- Two keys are the same if their protocols and endpoints are.
 key_has_ends : (r s : Row) → binding_key_eq (binding_key r) (binding_key s) ≡ has_ends s.protocol s.inside s.external r
 key_has_ends r s = grind (arith, common_steps, nat_tests, protocol_same)
 
@@ -36,7 +36,7 @@ any_joined : {X : Type 0} (p : X → Bool) (xs : List X) (x : X) → list_any p 
 any_joined p [] x = refl
 any_joined p (y ∷ xs) x = grind (arith, common_steps, any_joined p xs x)
 
--- the keys of a set are those of the first rows
+-- The keys of a set are those of the first rows.
 abbrev pub AreKeys : {S : Type 0} → List TimedRow → HashSet BindingKey S → Type 0
 AreKeys rows keys = (x : BindingKey) →
     hash.contains binding_key_eq keys x ≡ list_any (λ timed. binding_key_eq (binding_key timed.row) x) rows
@@ -67,7 +67,7 @@ keys_all rules rows is keys are wanted =
     ∙ any_agrees _ (λ b. has_ends wanted.protocol wanted.inside wanted.external (row b)) (opening rules)
     (λ b. key_has_ends (row b) wanted)))
 
--- with them the entry of a binding is the one that goes on
+-- The entry that is made with them is the one by which the log goes on.
 pub entry_is : (rules : Rules) (redirects : Redirects) → ((wanted : Row) → is_among redirects wanted ≡ has_redirect rules wanted) →
     (timers : Timers) → timers ≡ rules.timers → (now clock : ℕ) → now ≡ clock → (b : Binding) (account : Account) →
     entry_among redirects timers now b account ≡ resumed_entry rules clock (b, account)

@@ -1,6 +1,6 @@
--- Entries whose numbers rise.
+-- Entries whose numbers ascend.
 use Rattle.std.proofs.lemmas.{Grind.common_steps, Bool.Decides.nat_tests}
-use Rattle.std.proofs.Common.{◌≡◌, ◌≢◌, inl, inr, ℕ, suc, ◌+◌, ◌<◌, ◌≤◌, Bool, true, false, cond, List, [], ◌∷◌, ◌++◌, map, filter, refl, sym, ◌∙◌, ap, subst, arith}
+use Rattle.std.proofs.Common.{◌≡◌, ◌≢◌, inl, inr, ℕ, ◌+◌, ◌≤◌, Bool, true, false, cond, List, [], ◌∷◌, ◌++◌, map, filter, refl, sym, ◌∙◌, ap, subst, arith}
 use Rattle.std.specs.{Prelude.nat_lt, Ordering.nat_cmp, List.{fold, Sorted.IsSortedByKey}}
 use Rattle.napt_wire.specs.declared.Way.TheVariants.{Outgoing, Incoming}
 use Rattle.napt_rules.specs.Prelude.{LegAct, Each, Timers}
@@ -18,7 +18,7 @@ rises_above n [] h = tt
 rises_above n (l ∷ ls) h =
     (h.0, rises_above n ls (rises_less n (l.number + 1) (let first = h.0 in omega (arith, first)) ls h.1))
 
--- those of them that pass a test
+-- The entries that pass a test.
 pub rises_filter : (p : LogEntry → Bool) (n : ℕ) (ls : List LogEntry) → Rises n ls → Rises n (filter p ls)
 rises_filter p n [] h = tt
 rises_filter p n (l ∷ ls) h = elim (p l) as (λ v. Rises n (cond v (l ∷ filter p ls) (filter p ls))) [
@@ -27,13 +27,13 @@ rises_filter p n (l ∷ ls) h = elim (p l) as (λ v. Rises n (cond v (l ∷ filt
       (rises_filter p (l.number + 1) ls h.1)
 ]
 
--- one more behind all
+-- One more entry after all others.
 pub rises_pushed : (n : ℕ) (ls : List LogEntry) (l : LogEntry) → Rises n ls →
     Each (λ m. m.number + 1 ≤ l.number) ls → n ≤ l.number → Rises n (ls ++ l ∷ [])
 rises_pushed n [] l h behind first = (first, tt)
 rises_pushed n (m ∷ ls) l h behind first = (h.0, rises_pushed (m.number + 1) ls l h.1 behind.1 behind.0)
 
--- changed, but not in number
+-- Changed entries that keep their numbers.
 pub rises_mapped : (f : LogEntry → LogEntry) → ((l : LogEntry) → (f l).number ≡ l.number) → (n : ℕ)
     (ls : List LogEntry) → Rises n ls → Rises n (map f ls)
 rises_mapped f same n [] h = tt
@@ -42,7 +42,7 @@ rises_mapped f same n (l ∷ ls) h = (
   subst (λ (k : ℕ). Rises (k + 1) (map f ls)) (sym (same l)) (rises_mapped f same (l.number + 1) ls h.1),
 )
 
--- no two have one number
+-- No two entries have the same number.
 pub rises_differ : (n : ℕ) (ls : List LogEntry) → Rises n ls → Differ ls
 rises_differ n [] h = tt
 rises_differ n (l ∷ ls) h = (
@@ -62,7 +62,7 @@ same_number (x ∷ ls) differ l m (inr a) (inl b) same =
     absurd (each_has (λ y. x.number ≢ y.number) ls l differ.0 a (ap (λ (y : LogEntry). y.number) b ∙ sym same))
 same_number (x ∷ ls) differ l m (inr a) (inr b) same = same_number ls differ.1 l m a b same
 
--- A LEG LEAVES THEM RISING
+-- NUMBERS ASCEND AFTER A LEG
 
 pub rises_leg : (now : ℕ) (p : Passage) (log : LogModel) → IsNumbered log → Rises 1 log.entries →
     Rises 1 (after_leg now p log).entries
@@ -86,7 +86,7 @@ pub rises_from : (n : ℕ) (es : List Entry) → Rises n (numbered_from n es)
 rises_from n [] = tt
 rises_from n (e ∷ es) = (omega arith, rises_from (n + 1) es)
 
--- SORTED, THEY RISE
+-- SORTED NUMBERS ASCEND
 
 abbrev before : LogEntry → LogEntry → Bool
 before x y = nat_lt x.number y.number
@@ -100,7 +100,7 @@ rising_turn n (x ∷ xs) h = (
   rising_turn (x.number + 1) xs h.1,
 )
 
--- two that rise and have the same elements are the same
+-- Two ascending lists with the same elements are the same.
 pub rises_same : (n : ℕ) (xs ys : List LogEntry) → Rises n xs → Rises n ys → ((l : LogEntry) → Has xs l → Has ys l) →
     ((l : LogEntry) → Has ys l → Has xs l) → xs ≡ ys
 rises_same n xs ys rises other = same_turn before (λ x y h k. grind (arith, nat_tests)) xs ys (rising_turn n xs rises)

@@ -1,19 +1,19 @@
 -- What a run leaves of its log is what the next run begins with.
-use Rattle.std.proofs.lemmas.{Grind.common_steps, Bool.Decides.nat_tests, Bool.{and_from, and_parts, true≢false}, Option.{same_Some, slice_get-get_or, slice_get_within}}
-use Rattle.std.proofs.Common.{◌≡◌, ◌≢◌, ℕ, suc, ◌+◌, ◌≤◌, inl, inr, Bool, true, false, not, ◌&&◌, ◌||◌, cond, find, List, [], ◌∷◌, ◌++◌, length, get_or, map, filter, flat_map, Option, Some, None, refl, sym, ◌∙◌, ap, subst, arith, append-nil}
-use Rattle.std.specs.{List.{list_any, slice_get, Sorted.IsPermutation}, Option.option_map}
+use Rattle.std.proofs.lemmas.{Bool.{and_from, and_parts, true≢false}, Option.{same_Some, slice_get-get_or, slice_get_within}}
+use Rattle.std.proofs.Common.{◌≡◌, ◌≢◌, ℕ, suc, ◌+◌, ◌≤◌, inl, inr, Bool, true, false, not, cond, find, List, [], ◌∷◌, ◌++◌, length, get_or, map, filter, flat_map, Option, Some, None, refl, sym, ◌∙◌, ap, subst, arith, append-nil}
+use Rattle.std.specs.{List.{slice_get, Sorted.IsPermutation}, Option.option_map}
 use Rattle.std.proofs.lemmas.List.Sorted.{IsPermutation-map, IsPermutation-sym, IsPermutation-trans}
 use Rattle.napt_config.specs.Rules.{Rules, RulesInvariant, pair_of}
-use Rattle.napt_rules.specs.{declared.Row.Row, Prelude.{AlikeStatesGoOn, Arrival, Binding, Each, IsSound, IsStateInOrder, OrderedStatesAreAlike, SavedRunsGoOn, State, TakesState, TakenStatesAreSound, Timers, bindings_at, effect_from, hold_ago, is_live, last_clock, live_and_held, next_state, opening, purge, row, with_live_flows, with_redirects}}
+use Rattle.napt_rules.specs.{declared.Row.Row, Prelude.{AlikeStatesGoOn, Arrival, Binding, Each, IsSound, OrderedStatesAreAlike, SavedRunsGoOn, State, TakesState, TakenStatesAreSound, Timers, effect_from, hold_ago, is_live, last_clock, live_and_held, next_state, opening, purge, row, with_live_flows, with_redirects}}
 use Rattle.napt_rules.proofs.Lists.{filter_all}
-use Rattle.napt_laws.proofs.{Endpoints.{end_is, end_itself, protocol_is, same_itself}, Lists.{each_weaker, find_passes}, StepsSound.purge_stays_sound}
+use Rattle.napt_laws.proofs.{Endpoints.{end_itself, same_itself}, Lists.{find_passes}, StepsSound.purge_stays_sound}
 use Rattle.napt_binding.{specs.Ends.{end_by_protocol, end_of, is_before}, proofs.FirstEnds.end_without_dead}
 use Rattle.napt_table.specs.{declared.TimedRow.TimedRow, TimedRows.timed_row}
-use Rattle.napt_account.specs.declared.{account.Account.Account, log.{Entry.Entry, LogEntry.LogEntry}}
-use Rattle.napt_account.specs.{Attribution.has_ends, BindingTallies.open_of, Log.{LogModel, entry_is_of, log_on, numbered_from, shares, unused_entry}, LogParts.{Rises, is_open, kept_at}}
+use Rattle.napt_account.specs.declared.{account.Account.Account, log.{LogEntry.LogEntry}}
+use Rattle.napt_account.specs.{Attribution.has_ends, BindingTallies.open_of, Log.{LogModel, entry_is_of, log_on, numbered_from, shares, unused_entry}, LogParts.{Rises, is_open}}
 use Rattle.napt_account.specs.{LogStarts.{SavedLogStateModel, SavedLogsAreTakenUp, account_at, account_of_entry, accounted, continued_entries, entry_ended_at, has_entry, has_redirect, in_order_of_number, log_started, new_entries, resumed_end, resumed_entries, resumed_entry, saved_log_state, started_part, unlisted_rows, with_account}, OpenEntries.{AreKeyed, Has, entry_key, external_eq}, ResumedLogRuns.{IsLogOf, left_of, timed_by}}
-use Rattle.napt_account.proofs.InOrder.{Along, Differ, each_has, filter_has, has_each, has_filter, has_left, has_parts}
-use Rattle.napt_account.proofs.{Comes.{logs_are_of_their_states, rows_left}, Entries.{apart_differ, rows_purge, shares_itself}, Moves.{AllDiffer, differ_kept}, Keyed.{differ_keyed, keyed_along, keyed_moved, log_keyed, share, share_flip}, Lists.{each_mapped, map_joined}, LiveRows.{is_loose, live_all, live_of, purge_joined}, OpenEntries.{any_has, external_itself, key_shares}, Rising.{rises_above, rises_all, rises_differ, rises_filter, rises_same, same_number}}
+use Rattle.napt_account.proofs.InOrder.{Along, Differ, each_has, filter_has, has_each, has_parts}
+use Rattle.napt_account.proofs.{Comes.{logs_are_of_their_states, rows_left}, Entries.{apart_differ, rows_purge, shares_itself}, Moves.{AllDiffer, differ_kept}, Keyed.{differ_keyed, keyed_along, keyed_moved, log_keyed, share, share_flip}, Lists.{each_mapped}, LiveRows.{is_loose, live_all, live_of, purge_joined}, OpenEntries.{any_has, external_itself, key_shares}, Rising.{rises_above, rises_all, rises_differ, rises_filter, rises_same, same_number}}
 use Rattle.napt_account.proofs.LogStarts.{Kept, dynamics, has_mapped, mapped_has, only_one, openings, order_moves, order_rises}
 use Rattle.napt_account.proofs.Sorted.{has_back, has_moved}
 
@@ -33,7 +33,7 @@ filter_none p [] h = refl
 filter_none p (x ∷ xs) h =
     ap (λ v. cond (not v) (x ∷ filter (λ y. not (p y)) xs) (filter (λ y. not (p y)) xs)) h.0 ∙ filter_none p xs h.1
 
--- what is made of those that stand apart, where it is known of each that it is there
+-- The images of elements that are apart, given that each is in the list.
 along_with : {X Y : Type 0} (R : X → X → Type 0) (S : Y → Y → Type 0) (f : X → Y) (xs : List X) →
     ((x y : X) → Has xs x → Has xs y → R x y → S (f x) (f y)) → Along R xs → Along S (map f xs)
 along_with R S f [] g h = tt
@@ -61,7 +61,7 @@ module _ (rules : Rules) (keeps : RulesInvariant rules) (saved : State) (left : 
   left_open n h = (filter_has (is_open now) left.entries n
       (subst (λ (l : LogModel). Has l.entries n) (sym is.kept) h)).1
 
-  -- the binding of an entry that was left
+  -- The binding of an entry that was left.
   record IsOrigin (n : LogEntry) : Type 0 where
     pub b : Binding
     pub has : Has saved.list b
@@ -85,7 +85,7 @@ module _ (rules : Rules) (keeps : RulesInvariant rules) (saved : State) (left : 
   shared : (r s : Row) → shares r s ≡ true → share r s ≡ true
   shared r s h = ap (external_eq (entry_key r)) (sym (key_shares r s h)) ∙ external_itself (entry_key r)
 
-  -- two entries of one endpoint are one
+  -- Two entries of one endpoint are the same.
   one_entry : (n m : LogEntry) → Has left.entries n → Has left.entries m →
       share n.entry.binding m.entry.binding ≡ true → n ≡ m
   one_entry n m h g same = only_one (λ x y. share x.entry.binding y.entry.binding ≡ false) left.entries
@@ -93,7 +93,7 @@ module _ (rules : Rules) (keeps : RulesInvariant rules) (saved : State) (left : 
       (λ apart. true≢false (sym same ∙ apart))
       (λ apart. true≢false (sym same ∙ (share_flip n.entry.binding m.entry.binding ∙ apart)))
 
-  -- and so are two bindings of the state
+  -- Two bindings of the state with one endpoint are the same.
   one_binding : (b d : Binding) → Has saved.list b → Has saved.list d → share b.row d.row ≡ true → b ≡ d
   one_binding b d h g same = only_one (λ x y. share x.row y.row ≡ false) saved.list (keyed_along row saved.list apart) b d
       h g (λ apart. true≢false (sym same ∙ apart)) (λ apart. true≢false (sym same ∙ (share_flip b.row d.row ∙ apart)))
@@ -101,7 +101,7 @@ module _ (rules : Rules) (keeps : RulesInvariant rules) (saved : State) (left : 
   ends_itself : (r : Row) → has_ends r.protocol r.inside r.external r ≡ true
   ends_itself r = and_from _ _ (same_itself r.protocol) (and_from _ _ (end_itself r.inside) (end_itself r.external))
 
-  -- a redirect that has an entry is one of the configuration
+  -- A redirect that has an entry is one of the configuration.
   redirect_there : (n : LogEntry) → Has left.entries n → (r : Row) → r ≡ n.entry.binding → r.fixed ≡ true →
       has_redirect rules r ≡ true
   redirect_there n h r same fixed =
@@ -124,7 +124,7 @@ module _ (rules : Rules) (keeps : RulesInvariant rules) (saved : State) (left : 
             absurd (true≢false (sym loose ∙ ap not (ap (λ (s : Row). s.fixed) its ∙ fixed)))
       ]
 
-  -- with its account, the binding of an entry has that entry
+  -- The binding of an entry gets that entry again from its account.
   entry_again : (b : Binding) → Has saved.list b → (n : LogEntry) → Has left.entries n →
       shares b.row n.entry.binding ≡ true → resumed_entry rules now (b, account_of_entry n) ≡ n
   entry_again b h n there shares_row =
@@ -196,7 +196,7 @@ module _ (rules : Rules) (keeps : RulesInvariant rules) (saved : State) (left : 
         | Some other ↦ inr (has_kept list b a there e)
       ]
 
-  -- what goes on of an account
+  -- What an account contributes to the entries that go on.
   record IsAgain (k : Kept) : Type 0 where
     pub n : LogEntry
     pub has : Has left.entries n

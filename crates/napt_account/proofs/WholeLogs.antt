@@ -1,18 +1,18 @@
--- The parts that are told with the inputs of a run, and what it has left, are its log.
+-- The parts that the inputs of a run add, with the entries that are left, are its log.
 use Rattle.std.proofs.lemmas.{Grind.common_steps, Bool.{Decides.nat_tests, and_parts}}
-use Rattle.std.proofs.Common.{◌≡◌, ℕ, ◌+◌, ◌≤◌, max, Bool, true, false, not, ◌&&◌, cond, List, [], ◌∷◌, ◌++◌, length, map, drop, filter, Option, Some, None, refl, sym, ◌∙◌, ap, subst, arith, append-nil, append_assoc}
+use Rattle.std.proofs.Common.{◌≡◌, ℕ, ◌+◌, ◌≤◌, max, Bool, true, false, not, ◌&&◌, cond, List, [], ◌∷◌, ◌++◌, length, map, drop, filter, Option, refl, sym, ◌∙◌, ap, subst, arith, append-nil, append_assoc}
 use Rattle.std.specs.List.{fold, Sorted.IsPermutation}
 use Rattle.std.proofs.lemmas.List.Sorted.{IsPermutation-refl, IsPermutation-sym, IsPermutation-trans, IsPermutation-cons, IsPermutation-middle, IsPermutation-append_left, IsPermutation-append_right, IsPermutation-filter_both}
 use Rattle.napt_wire.specs.declared.Way.{Way, TheVariants.{Outgoing, Incoming}}
-use Rattle.napt_binding.{specs.Ends.{end_of, is_before}, proofs.FirstEnds.{ends_are_first, before_sooner}}
+use Rattle.napt_binding.{specs.Ends.{is_before}, proofs.FirstEnds.{ends_are_first, before_sooner}}
 use Rattle.napt_table.specs.declared.TimedRow.{TimedRow}
 use Rattle.napt_rules.specs.declared.Row.{Row}
 use Rattle.napt_rules.specs.Prelude.{Binding, Each, act, LegAct, Arrival, RunEffect, step, effect_from, last_clock, State, Rules, RulesInvariant, AreTimers}
 use Rattle.napt_laws.proofs.{OneMoreInput.{grows, clock_more}, Turns.InTurn}
 use Rattle.napt_sequential.specs.{declared.passage.Passage.{Passage, TheVariants.{Nothing, Made, Out, In, Dropped}}, Traces.passage_of}
-use Rattle.napt_account.specs.{declared.log.{Entry.Entry, LogEntry.LogEntry, Shortage.Shortage}, Log.{LogModel, counted, made_by, entry_through, use_entry, with_use, shortages_of, after_leg, after_record, log_on}}
-use Rattle.napt_account.specs.LogParts.{IsNumbered, LogDelta, ends_first, ends_within, in_order_of_end, is_behind, is_open, living_at, part_between, placed}
-use Rattle.napt_account.specs.{ResumedLogRuns.part_of, WholeLogs.{ArePartsOfLog, PartsAreTheLog, all_parts, parts_joined, origin}}
+use Rattle.napt_account.specs.{declared.log.{Entry.Entry, LogEntry.LogEntry, Shortage.Shortage}, Log.{LogModel, counted, made_by, use_entry, with_use, shortages_of, after_leg, after_record, log_on}}
+use Rattle.napt_account.specs.LogParts.{IsNumbered, LogDelta, ends_first, ends_within, in_order_of_end, is_behind, is_open, placed}
+use Rattle.napt_account.specs.{ResumedLogRuns.part_of, WholeLogs.{ArePartsOfLog, PartsAreTheLog, parts_joined, origin}}
 use Rattle.napt_account.proofs.{Effects.step_turn, Entries.{counted_binding, counted_made}, Leaves.{LeavesOpen, turn_leaves}, Lists.{filter_agrees, filter_joined, filter_seen, map_agrees, map_joined, map_twice}}
 use Rattle.napt_account.proofs.GoingOn.{filter_twice, fold_joined, none_behind, numbered_all}
 
@@ -53,7 +53,7 @@ counted_open : (way : Way) (now : ℕ) (end : Option ℕ) → is_before now end 
 counted_open Outgoing now end opened e = opened
 counted_open Incoming now end opened e = opened
 
--- a leg leaves what has ended, and what it makes or changes has not
+-- A leg does not change an entry that has ended, and what it makes or changes has not ended.
 module _ (way : Way) (now : ℕ) (timed : TimedRow) (opens : is_before now timed.end ≡ true) where
   abbrev change : LogEntry → LogEntry
   change = use_entry way now timed
@@ -87,7 +87,7 @@ module _ (rules : Rules) (t : AreTimers rules.timers) where
       let rest = turn_on a.leg.now (act rules a.address a.leg list).list acts last new turn.1 in
       omega (arith, turn.0.later, rest)
 
-  -- acts of one time leave what has ended by it
+  -- Acts at one time do not change the entries that have ended by then.
   acts_closed : (now clock : ℕ) → now ≤ clock → (list : List Binding) (acts : List LegAct) (new : List Binding) →
       InTurn rules clock list acts now new → (log : LogModel) →
       closed now (fold (after_record rules.timers) log acts).entries ≡ closed now log.entries
@@ -106,7 +106,7 @@ module _ (rules : Rules) (t : AreTimers rules.timers) where
 abbrev Origin : Type 0
 Origin = ℕ × (Row × ℕ)
 
--- a later log has the origins of an earlier one, and behind them those with later numbers; and likewise its shortages
+-- A later log has the origins of an earlier one, and after them those with later numbers; and likewise its shortages.
 record Grown (one other : LogModel) : Type 0 where
   pub origins : map origin other.entries ≡ map origin one.entries ++ map origin (filter (is_behind one.made) other.entries)
   pub more : one.made ≤ other.made
@@ -182,9 +182,9 @@ grown_acts rules one [] log grown = grown
 grown_acts rules one (a ∷ acts) log grown =
     grown_acts rules one acts (after_record rules.timers log a) (grown_leg one log grown a.leg.now _)
 
--- WHAT WAS TOLD
+-- WHAT WAS ADDED
 
--- what has ended by a time is what had ended by an earlier one, and what ended since
+-- The entries that have ended by a time are those that had ended by an earlier one, and those that ended since.
 closed_since : (was now : ℕ) → was ≤ now → (xs : List LogEntry) →
     IsPermutation (filter (is_closed was) xs ++ filter (ends_within was now) xs) (filter (is_closed now) xs)
 closed_since was now le xs =
@@ -240,7 +240,7 @@ module _ (rules : Rules) (keeps : RulesInvariant rules) (state : State) (log : L
       (grown_acts rules (at before) (next before input).acts (at before)
       (grown_none (at before) (all_numbered before)))
 
-  -- an entry that has ended by the clock of an input was there before it
+  -- An entry that has ended by the clock of an input was there before it.
   closed_next : (before : List Arrival) (input : Arrival) → (let now : ℕ = max (clock before) input.clock in
       closed now (at (before ++ input ∷ [])).entries ≡ closed now (at before).entries)
   closed_next before input =
@@ -288,7 +288,7 @@ module _ (rules : Rules) (keeps : RulesInvariant rules) (state : State) (log : L
       (subst (Tells ((before ++ input ∷ []) ++ inputs)) (append_assoc told ended rest)
       (tells_all (before ++ input ∷ []) inputs (told ++ ended) (tells_next before input told tells)))
 
-  -- what each input has more, parts_joined, is what the log of all has
+  -- What each input adds, joined in order, is what the log of all inputs has.
   joins_all : {X : Type 0} (of_log : LogModel → List X) (of_part : LogDelta → List X) →
       ((before : List Arrival) (input : Arrival) →
       of_log (at (before ++ input ∷ [])) ≡ of_log (at before) ++ of_part (part before input)) →

@@ -1,8 +1,10 @@
--- The log of a whole run names exactly who had an external endpoint at a time.
-use Rattle.std.specs.{Prelude.{◌≡◌, ℕ, ◌<◌, ◌≤◌, ◌&&◌, Bool, List, [], ◌∷◌, ◌++◌, map, filter}, List.list_any}
-use Rattle.napt_rules.specs.Prelude.{Protocol, Endpoint, Rules, RulesInvariant, Timers}
-use Rattle.napt_rules.specs.{Prelude.{Binding, same_protocol, same_endpoint, is_live, opening, Arrival, row, run, last_clock}, declared.Row.Row}
-use Rattle.napt_account.specs.{declared.log.Entry.Entry, Log.{log_of, stands_at, unnumbered}}
+-- The log of a whole run, from each state that a configuration takes, names exactly who had an external endpoint at a
+-- time.
+use Rattle.std.specs.{Prelude.{◌≡◌, ℕ, ◌<◌, ◌≤◌, ◌&&◌, Bool, List, [], ◌∷◌, ◌++◌, map, filter}, List.{list_any, Sorted.IsPermutation}}
+use Rattle.napt_rules.specs.Prelude.{Protocol, Endpoint, Rules, RulesInvariant, Timers, State, TakesState, effect_from, purge, with_redirects}
+use Rattle.napt_rules.specs.{Prelude.{Binding, same_protocol, same_endpoint, is_live, Arrival, row, last_clock}, declared.Row.Row}
+use Rattle.napt_table.specs.TimedRows.{timed_row}
+use Rattle.napt_account.specs.{declared.log.Entry.Entry, Log.{LogModel, log_on, stands_at, unnumbered}, ResumedLogRuns.{IsLogOf, timed_by}}
 
 -- The time is before that of the next input, if there is one.
 abbrev pub IsBeforeNext : ℕ → List Arrival → Type 0
@@ -28,18 +30,28 @@ has_number_of now protocol inside external entries =
 abbrev pub standing_rows : ℕ → List Entry → List Row
 standing_rows now entries = map (λ e. e.binding) (filter (stands_at now) entries)
 
--- After the first inputs, however many, and at each time up to the next input's, a binding is live exactly if the log
--- of all inputs names it.
-abbrev pub LogNamesTheHolders : Type 0
-LogNamesTheHolders = (rules : Rules) → RulesInvariant rules → (front rest : List Arrival) (now : ℕ) →
-    last_clock 0 front ≤ now → IsBeforeNext now rest → (protocol : Protocol) (inside external : Endpoint) →
-    is_held rules.timers now protocol inside external (run rules front (opening rules)).list
-    ≡ has_number_of now protocol inside external (unnumbered (log_of rules (front ++ rest)))
+-- The entries of a log are in the order of the bindings that live in a state, as where a run begins anew.
+abbrev pub AreInOrderOf : Rules → State → LogModel → Type 0
+AreInOrderOf rules state log =
+    map timed_by log.entries ≡ map (timed_row rules.timers) (purge rules.timers state.clock state.list)
 
--- The same as lists: the rows of the live bindings are those of the entries that have not ended, each once, in the
--- order of making.
+-- A run goes on from a state with a log of it. After the first inputs, however many, and at each time up to the next
+-- input's, a binding is live exactly if the log of all inputs names it.
+abbrev pub LogNamesTheHolders : Type 0
+LogNamesTheHolders = (rules : Rules) → RulesInvariant rules → (state : State) → TakesState rules state →
+    (log : LogModel) → IsLogOf rules (with_redirects rules state) log → (front rest : List Arrival) (now : ℕ) →
+    last_clock state.clock front ≤ now → IsBeforeNext now rest → (protocol : Protocol) (inside external : Endpoint) →
+    is_held rules.timers now protocol inside external (effect_from rules (with_redirects rules state) front).list
+    ≡ has_number_of now protocol inside external
+    (unnumbered (log_on rules (with_redirects rules state) log (front ++ rest)))
+
+-- The same as lists: the rows of the live bindings are those of the entries that have not ended, each once; also in
+-- their order, if the log is in that of the state.
 abbrev pub LogListsTheLiving : Type 0
-LogListsTheLiving = (rules : Rules) → RulesInvariant rules → (front rest : List Arrival) (now : ℕ) →
-    last_clock 0 front ≤ now → IsBeforeNext now rest →
-    map row (filter (is_live rules.timers now) (run rules front (opening rules)).list)
-    ≡ standing_rows now (unnumbered (log_of rules (front ++ rest)))
+LogListsTheLiving = (rules : Rules) → RulesInvariant rules → (state : State) → TakesState rules state →
+    (log : LogModel) → IsLogOf rules (with_redirects rules state) log → (front rest : List Arrival) (now : ℕ) →
+    last_clock state.clock front ≤ now → IsBeforeNext now rest →
+    (let begun : State = with_redirects rules state in
+    let living : List Row = map row (filter (is_live rules.timers now) (effect_from rules begun front).list) in
+    let named : List Row = standing_rows now (unnumbered (log_on rules begun log (front ++ rest))) in
+    IsPermutation living named × (AreInOrderOf rules begun log → living ≡ named))

@@ -14,14 +14,14 @@ abbrev pub tally_used : Way → LogNote → ℕ → BindingTally
 tally_used Outgoing note number = record { note = note; out = Some number; into = None }
 tally_used Incoming note number = record { note = note; out = None; into = Some number }
 
--- the open entry of a row
+-- The open entry of a row.
 abbrev pub open_of : ℕ → Row → LogModel → Option LogEntry
 open_of now wanted log = find (λ numbered. entry_is_of now wanted numbered.entry) log.entries
 
 abbrev pub noted : Entry → LogNote
 noted entry = cond entry.binding.fixed notes.Redirect notes.Found
 
--- a leg found it
+-- What a leg did that found this entry, if there is one.
 abbrev pub use_found : Way → Option LogEntry → BindingTally
 use_found way None = no_use
 use_found way (Some numbered) = tally_used way (noted numbered.entry) numbered.number
@@ -32,7 +32,7 @@ leg_use now (Out timed) log = use_found Outgoing (open_of now timed.row log)
 leg_use now (In timed) log = use_found Incoming (open_of now timed.row log)
 leg_use now _ log = no_use
 
--- The notes of both legs of an input.
+-- The note of an input: that of its first leg that used a binding.
 abbrev pub first_note : LogNote → LogNote → LogNote
 first_note notes.Nothing second = second
 first_note first second = first

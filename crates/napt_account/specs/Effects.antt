@@ -1,6 +1,6 @@
--- The log by what the legs of each input did, as a translator's recorder hands it over, without the inputs.
-use Rattle.std.specs.{Prelude.{◌≡◌, ◌≤◌, ℕ, max, true, false, List, [], ◌∷◌, ◌++◌}, List.{fold, list_any}}
-use Rattle.napt_rules.specs.Prelude.{Arrival, Rules, RulesInvariant, State, TakesState, initial_state, last_clock, with_redirects}
+-- The log by what the legs of each input did, as the recorder of a translator returns it, without the inputs.
+use Rattle.std.specs.{Prelude.{◌≡◌, ◌≤◌, ℕ, true, false, List, [], ◌∷◌, ◌++◌}, List.{fold, list_any}}
+use Rattle.napt_rules.specs.Prelude.{Arrival, Rules, RulesInvariant, State, TakesState, last_clock, with_redirects}
 use Rattle.napt_binding.specs.Ends.{is_before}
 use Rattle.napt_sequential.specs.{Traces.traces_of, declared.passage.{Passage.{Passage, TheVariants.{Made, Out, In}}, Trace.Trace}}
 use Rattle.napt_account.specs.{Log.{LogModel, after_input, after_leg, entry_is_of, log_on}, ResumedLogRuns.IsLogOf}
@@ -8,8 +8,8 @@ use Rattle.napt_account.specs.{Log.{LogModel, after_input, after_leg, entry_is_o
 abbrev pub log_after : LogModel → List Trace → LogModel
 log_after log effects = fold after_input log effects
 
--- what a leg at a time can do where this is the log: it leaves its binding an end that is to come, and the external
--- endpoint of a binding that it makes has no open entry
+-- Whether a leg can have an effect at a time, after this log: the end of its binding is in the future, and the external
+-- endpoint of a binding that it makes has no open entry.
 abbrev pub CanCome : ℕ → LogModel → Passage → Type 0
 CanCome now log (Made timed) = (is_before now timed.end ≡ true)
     × (list_any (λ numbered. entry_is_of now timed.row numbered.entry) log.entries ≡ false)
@@ -17,13 +17,13 @@ CanCome now log (Out timed) = is_before now timed.end ≡ true
 CanCome now log (In timed) = is_before now timed.end ≡ true
 CanCome now log _ = Unit {0}
 
--- what the legs of the next input can do
+-- Whether the legs of the next input can have these effects.
 pub record IsNext (was : ℕ) (log : LogModel) (effects : Trace) : Type 0 where
   pub later : was ≤ effects.now
   pub first : CanCome effects.now log effects.first
   pub second : CanCome effects.now (after_leg effects.now effects.first log) effects.second
 
--- LAWS: by the effects of a run's inputs it is the log of the run, and each of them can come
+-- LAWS: the log by the effects of a run's inputs is the log of the run, and each of these effects is possible
 
 abbrev pub EffectsAreTheLog : Type 0
 EffectsAreTheLog = (rules : Rules) (state : State) (log : LogModel) (inputs : List Arrival) →

@@ -14,7 +14,7 @@ use Rattle.napt_account.specs.declared.log.{Entry.Entry, LogEntry.LogEntry, Shor
 
 -- AN ENTRY
 
--- that of a binding which is made at a time and has this end, before a packet went through it
+-- The entry of a binding that is made at a time and has this end, before a packet goes through it.
 abbrev pub unused_entry : Row → ℕ → Option ℕ → Entry
 unused_entry binding made end = record {
   binding = binding;
@@ -29,16 +29,16 @@ unused_entry binding made end = record {
 abbrev pub first_entry : Timers → ℕ → Binding → Entry
 first_entry timers made binding = unused_entry (row binding) made (end_of timers binding)
 
--- after a packet went through its binding at a time, which has this end then: out, and in
+-- The entry after a packet went out, or came in, through its binding, which has this end then.
 abbrev pub counted : Way → ℕ → Option ℕ → Entry → Entry
 counted Outgoing now end entry = record entry { end = end; sent = entry.sent + 1; last = now; last_sent = now }
 counted Incoming now end entry = record entry { end = end; received = entry.received + 1; last = now }
 
--- that of a binding which a packet makes, and goes out through
+-- The entry of a binding that a packet makes and goes out through.
 abbrev pub made_by : ℕ → TimedRow → Entry
 made_by now timed = counted Outgoing now timed.end (unused_entry timed.row now timed.end)
 
--- whether a row has the protocol and the external endpoint of another
+-- Whether a row has the protocol and the external endpoint of another.
 abbrev pub shares : Row → Row → Bool
 shares wanted other = same_protocol wanted.protocol other.protocol && same_endpoint wanted.external other.external
 
@@ -46,33 +46,33 @@ shares wanted other = same_protocol wanted.protocol other.protocol && same_endpo
 abbrev pub entry_is_of : ℕ → Row → Entry → Bool
 entry_is_of now wanted entry = is_before now entry.end && shares wanted entry.binding
 
--- the open entry of a row changes
+-- The entry after a change of the open entry of a row.
 abbrev pub entry_through : ℕ → Row → (Entry → Entry) → Entry → Entry
 entry_through now wanted change entry = cond (entry_is_of now wanted entry) (change entry) entry
 
 -- A LOG
 
 pub record LogModel : Type 0 where
-  -- how many entries were made so far
+  -- The number of entries that were made so far.
   pub made : ℕ
-  -- entries with their numbers, in the order of making: of a whole run all; of one that goes on from a state also
-  -- those that had not ended there
+  -- Entries with their numbers, in the order of making: all of a whole run; in a run from a state also those that had
+  -- not ended there.
   pub entries : List LogEntry
-  -- the packets that got no binding, in their order
+  -- The packets that got no binding, in their order.
   pub shortages : List Shortage
 
--- its entries, without their numbers
+-- Its entries, without their numbers.
 abbrev pub unnumbered : LogModel → List Entry
 unnumbered log = map (λ numbered. numbered.entry) log.entries
 
--- one entry more, with the next number
+-- The log with one more entry, which gets the next number.
 abbrev pub with_entry : Entry → LogModel → LogModel
 with_entry entry log = record log {
   made = log.made + 1;
   entries = log.entries ++ record { number = log.made + 1; entry = entry } ∷ [];
 }
 
--- a packet went through a binding
+-- The log after a packet went through a binding.
 abbrev pub use_entry : Way → ℕ → TimedRow → LogEntry → LogEntry
 use_entry way now timed numbered =
     record numbered { entry = entry_through now timed.row (counted way now timed.end) numbered.entry }
@@ -85,12 +85,12 @@ is_shortage OverQuota = true
 is_shortage NoPort = true
 is_shortage _ = false
 
--- a packet was dropped
+-- The shortage of a dropped packet, if no binding could be made for it.
 abbrev pub shortages_of : ℕ → DroppedPacket → List Shortage
 shortages_of now loss = cond (is_shortage loss.cause)
     (record { at = now; cause = loss.cause; protocol = loss.protocol; host = loss.host } ∷ []) []
 
--- by a leg, and by the legs of an input
+-- The shortages of a leg, and those of both legs of an input.
 abbrev pub shortages_by : ℕ → Passage → List Shortage
 shortages_by now (Dropped loss) = shortages_of now loss
 shortages_by now _ = []
@@ -113,24 +113,24 @@ after_input log effects = after_leg effects.now effects.second (after_leg effect
 abbrev pub after_record : Timers → LogModel → LegAct → LogModel
 after_record timers log a = after_leg a.leg.now (passage_of timers a) log
 
--- of a run from a state, whose log is this there
+-- The log of a run from a state that has this log.
 unfoldable pub log_on : Rules → State → LogModel → List Arrival → LogModel
 log_on rules state log inputs = fold (after_record rules.timers) log (effect_from rules state inputs).acts
 
 -- WHERE IT BEGINS
 
--- entries with numbers from one on
+-- Entries with consecutive numbers from the given one.
 abbrev pub numbered_from : ℕ → List Entry → List LogEntry
 numbered_from number [] = []
 numbered_from number (entry ∷ entries) = record { number = number; entry = entry } ∷ numbered_from (number + 1) entries
 
--- behind so many, one for each binding that lives in a state, made at its clock
+-- A log that has `before` earlier entries and begins with one for each live binding of a state, made at its clock.
 abbrev pub begun_behind : ℕ → Rules → State → LogModel
 begun_behind before rules state =
     let entries : List Entry = map (first_entry rules.timers state.clock) (purge rules.timers state.clock state.list) in
     record { made = before + length entries; entries = numbered_from (before + 1) entries; shortages = [] }
 
--- of a run that begins anew, with the redirects
+-- The log of a new run, which begins with the redirects.
 abbrev pub log_of : Rules → List Arrival → LogModel
 log_of rules inputs = log_on rules (initial_state rules) (begun_behind 0 rules (initial_state rules)) inputs
 

@@ -4,21 +4,21 @@ use Rattle.napt_config.specs.Rules.{Rules}
 use Rattle.napt_rules.specs.Prelude.{Each}
 use Rattle.napt_sequential.specs.declared.{fault.RunFault.RunFault, passage.Trace.Trace}
 use Rattle.napt_sequential.specs.declared.fault.RunFault.TheVariants as reasons
-use Rattle.napt_account.specs.{declared.{log.LogEntry.LogEntry, log_builder.InputPart.InputPart, open_entries.OpenEntries.OpenEntries}, Effects.{IsNext, log_after}, Log.LogModel, OpenEntries.{AreKeyed, OpenEntriesShow}, LogParts.{IsNumbered, LogDelta, Rises, kept_at}}
+use Rattle.napt_account.specs.{declared.{log_builder.InputPart.InputPart, open_entries.OpenEntries.OpenEntries}, Effects.{IsNext, log_after}, Log.LogModel, OpenEntries.{AreKeyed, OpenEntriesShow}, LogParts.{IsNumbered, LogDelta, Rises, kept_at}}
 
 pub record LogBuilderModel : Type 0 where
   pub rules : Rules
-  -- the time of the last input; before the first that at which it began
+  -- The time of the last input; before the first input, the time at which the log began.
   pub clock : ℕ
-  -- the log so far
+  -- The log so far.
   pub log : LogModel
-  -- how many inputs it took
+  -- The number of inputs so far.
   pub taken : ℕ
-  -- it does not go on
+  -- Whether an input was refused.
   pub is_stopped : Bool
 
--- a log with which one can begin at a time: what is kept of it then is all, its entries are of different external
--- endpoints, and there are so few that a run can count on
+-- A log with which a builder can begin at a time: all of its entries are open then, their external endpoints are
+-- distinct, and its counts are small enough for a run to go on.
 pub record IsStart (now : ℕ) (log : LogModel) : Type 0 where
   pub kept : kept_at now log ≡ log
   pub numbered : IsNumbered log
@@ -27,11 +27,11 @@ pub record IsStart (now : ℕ) (log : LogModel) : Type 0 where
   pub made : log.made ≤ 2 ^ 62
   pub packets : Each (λ n. (n.entry.sent ≤ 2 ^ 61) × (n.entry.received ≤ 2 ^ 61)) log.entries
 
--- what a record of what was taken has
+-- The inputs in a ghost log of those that were taken.
 abbrev pub taken_in : {X : Type 0} → List (ℕ × X) → List X
 taken_in past = map (λ taken. taken.1) past
 
--- the log after these, from the one that a record has
+-- The first log: the one in a ghost log, if it has one.
 abbrev pub built_from : LogModel → List (ℕ × LogModel) → LogModel
 built_from none [] = none
 built_from none (kept ∷ more) = kept.1
@@ -40,16 +40,16 @@ abbrev pub built : List (ℕ × LogModel) → List (ℕ × Trace) → LogModel
 built begun past =
     log_after (built_from (record { made = 0; entries = []; shortages = [] }) begun) (taken_in past)
 
--- its entries are those of the log
+-- The entries that a builder keeps are the open entries of its log.
 pub record IsBuilt (model : LogBuilderModel) (kept : OpenEntries) : Type 0 where
   pub entries : OpenEntriesShow model.clock (2 ^ 61 + 2 * model.taken) model.log kept
   pub few : model.log.made ≤ 2 ^ 62 + 2 * model.taken
 
--- what is told, without where it lies in memory
+-- What an input adds to the log, as lists.
 abbrev pub part_in : InputPart → LogDelta
 part_in part = record { ended = part.ended.items; made = part.made.items; refused = part.refused.items }
 
--- why an input is not taken: there are too many, or there are not and memory ran out or no run has it next
+-- Why an input is refused: there were too many before it; or memory ran out; or no run has it next.
 abbrev pub IsBuilderFault : LogBuilderModel → Trace → RunFault → Type 0
 IsBuilderFault model effects reasons.TooMany = 2 ^ 62 ≤ model.taken + 1
 IsBuilderFault model effects reasons.Memory = model.taken + 1 < 2 ^ 62

@@ -1,4 +1,4 @@
--- What the log tells with each input as the run goes on, and which entries it has left.
+-- What each input adds to the log, and which entries are open after it.
 use Rattle.std.specs.Prelude.{◌≤◌, ℕ, ◌+◌, nat_lt, Bool, true, false, not, ◌&&◌, ◌||◌, cond, length, List, [], ◌∷◌, drop, filter, Option, Some, None}
 use Rattle.napt_rules.specs.Prelude.{Each}
 use Rattle.napt_binding.specs.Ends.{is_before}
@@ -12,7 +12,7 @@ is_open now numbered = is_before now numbered.entry.end
 abbrev pub ends_within : ℕ → ℕ → LogEntry → Bool
 ends_within was now numbered = is_open was numbered && not (is_open now numbered)
 
--- Whether an end is before another; that of a redirect never comes.
+-- Whether an end is before another; a redirect has no end, so that it comes last.
 abbrev pub is_sooner : Option ℕ → Option ℕ → Bool
 is_sooner (Some end) (Some other) = nat_lt end other
 is_sooner (Some end) None = true
@@ -33,19 +33,19 @@ abbrev pub in_order_of_end : List LogEntry → List LogEntry
 in_order_of_end [] = []
 in_order_of_end (numbered ∷ more) = placed numbered (in_order_of_end more)
 
--- what is told with an input
+-- What an input adds to the log.
 pub record LogDelta : Type 0 where
-  -- the entries that ended since the time of the input before
+  -- The entries that ended since the time of the input before.
   pub ended : List LogEntry
-  -- those that it made
+  -- The entries that the input made.
   pub made : List LogEntry
   pub refused : List Shortage
 
--- whether it has a number behind so many
+-- Whether the number of an entry is above the number of earlier entries.
 abbrev pub is_behind : ℕ → LogEntry → Bool
 is_behind made numbered = nat_lt made numbered.number
 
--- by the log at a time, and the log after the input at a later one
+-- What comes between the log at a time and the log after an input at a later time.
 abbrev pub part_between : ℕ → ℕ → LogModel → LogModel → LogDelta
 part_between was now earlier later = record {
   ended = in_order_of_end (filter (ends_within was now) earlier.entries);
@@ -53,19 +53,19 @@ part_between was now earlier later = record {
   refused = drop (length earlier.shortages) later.shortages;
 }
 
--- the entries that have not ended by a time, by end
+-- The entries that have not ended by a time, in order of end.
 abbrev pub living_at : ℕ → LogModel → List LogEntry
 living_at now log = in_order_of_end (filter (is_open now) log.entries)
 
--- what is kept of a log at a time: a log of its own, with which a run can go on
+-- What is kept of a log at a time: a log of the open entries, with which a run can go on.
 abbrev pub kept_at : ℕ → LogModel → LogModel
 kept_at now log = record log { entries = filter (is_open now) log.entries; shortages = [] }
 
--- its numbers are among those that were given
+-- The numbers of the entries are among those that were given.
 abbrev pub IsNumbered : LogModel → Type 0
 IsNumbered log = Each (λ numbered. numbered.number ≤ log.made) log.entries
 
--- numbers rise, from one on
+-- The numbers ascend, from the given one.
 abbrev pub Rises : ℕ → List LogEntry → Type 0
 Rises number [] = Unit {0}
 Rises number (numbered ∷ more) = (number ≤ numbered.number) × Rises (numbered.number + 1) more

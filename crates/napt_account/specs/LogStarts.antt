@@ -1,21 +1,21 @@
 -- How a log begins at a state, where each binding may have the account of its entry.
 --
--- The entries of the state's bindings go on, each with the end that its binding has under the configuration. An entry ends
--- where the configuration does not take up its binding: at the end under its timers, and a redirect that it does not have
--- at the clock. A binding that is live and has no entry gets one that is made at the clock, with the next number.
-use Rattle.std.specs.{Prelude.{◌≡◌, ◌≢◌, ℕ, ◌+◌, ◌^◌, ◌==◌, nat_le, nat_lt, Bool, true, false, not, ◌&&◌, ◌||◌, cond, length, List, [], ◌∷◌, ◌++◌, map, filter, Option, Some, None, unwrap_or}, List.{list_any, slice_get}, Option.option_map}
+-- The entries of the state's bindings go on, each with the end that its binding has under the configuration. The entry
+-- of a redirect that the configuration does not have ends at the clock. A binding that is live and has no entry gets
+-- one that is made at the clock, with the next number.
+use Rattle.std.specs.{Prelude.{◌≡◌, ◌≢◌, ℕ, ◌+◌, ◌^◌, ◌==◌, nat_le, nat_lt, Bool, true, not, ◌&&◌, ◌||◌, cond, length, List, [], ◌∷◌, ◌++◌, map, filter, Option, Some, None, unwrap_or}, List.{list_any, slice_get}, Option.option_map}
 use Rattle.napt_config.specs.Rules.{Rules, RulesInvariant}
 use Rattle.napt_rules.specs.{Prelude.{Arrival, Binding, Each, IsStateInOrder, State, TakesState, initial_state, next_state, opening, purge, row, with_redirects}, declared.Row.Row}
 use Rattle.napt_binding.specs.Ends.{end_of}
 use Rattle.napt_table.specs.{declared.TimedRow.TimedRow, TimedRows.timed_row}
-use Rattle.napt_account.specs.declared.{account.Account.Account, log.{Entry.Entry, LogEntry.LogEntry}}
-use Rattle.napt_account.specs.{Attribution.has_ends, BindingTallies.open_of, Log.{LogModel, begun_behind, numbered_from, shares, unused_entry}, LogParts.{LogDelta, Rises, in_order_of_end, is_open}, OpenEntries.{entry_key, external_eq}, ResumedLogRuns.{IsLogOf, left_of}}
+use Rattle.napt_account.specs.declared.{account.Account.Account, log.{LogEntry.LogEntry}}
+use Rattle.napt_account.specs.{Attribution.has_ends, BindingTallies.open_of, Log.{LogModel, begun_behind, numbered_from, shares, unused_entry}, LogParts.{LogDelta, Rises, is_open}, OpenEntries.{entry_key, external_eq}, ResumedLogRuns.{IsLogOf, left_of}}
 
 -- What a state keeps of a log.
 pub record SavedLogStateModel : Type 0 where
-  -- how many entries the log has so far
+  -- The number of entries that the log has so far.
   pub made : ℕ
-  -- for each binding of the state, in its order, the account of its entry, if it has one that has not ended
+  -- For each binding of the state, in its order, the account of its entry, if it has one that has not ended.
   pub accounts : List (Option Account)
 
 -- What a state of a run without a log keeps.
@@ -32,7 +32,7 @@ abbrev pub with_account : Binding → Option Account → List (Binding × Accoun
 with_account binding None others = others
 with_account binding (Some account) others = (binding, account) ∷ others
 
--- The bindings that have an account, each with it; accounts past the last binding say nothing.
+-- The bindings that have an account, each with its account; accounts past the last binding are ignored.
 abbrev pub accounted : List Binding → List (Option Account) → List (Binding × Account)
 accounted [] accounts = []
 accounted (binding ∷ list) [] = []
@@ -86,7 +86,7 @@ resumed_entries rules state saved = map (resumed_entry rules state.clock) (accou
 
 -- THE LOG WITH WHICH A RUN BEGINS
 
--- An entry is put before the first of a greater number.
+-- Inserts an entry before the first one with a greater number.
 abbrev pub placed_by_number : LogEntry → List LogEntry → List LogEntry
 placed_by_number numbered [] = numbered ∷ []
 placed_by_number numbered (other ∷ others) =
@@ -96,7 +96,7 @@ abbrev pub in_order_of_number : List LogEntry → List LogEntry
 in_order_of_number [] = []
 in_order_of_number (numbered ∷ more) = placed_by_number numbered (in_order_of_number more)
 
--- No two have one number.
+-- No two entries have the same number.
 abbrev pub NumbersDiffer : List LogEntry → Type 0
 NumbersDiffer [] = Unit {0}
 NumbersDiffer (numbered ∷ more) = Each (λ other. numbered.number ≢ other.number) more × NumbersDiffer more
@@ -140,8 +140,8 @@ log_before rules state saved = record {
 abbrev pub entry_ended_at : ℕ → LogEntry → LogEntry
 entry_ended_at now numbered = record numbered { entry = record numbered.entry { end = Some now } }
 
--- What is told before the first input: the entries that have ended by the clock, and the new ones. The former end at the
--- clock, up to which the run before had their bindings.
+-- What the log gets before the first input: the entries that have ended by the clock, and the new ones. The former end
+-- at the clock, since the run before had their bindings until then.
 abbrev pub started_part : Rules → State → SavedLogStateModel → LogDelta
 started_part rules state saved = record {
   ended = map (entry_ended_at state.clock) (in_order_of_number
@@ -151,7 +151,8 @@ started_part rules state saved = record {
 }
 
 -- WHAT A STATE MAY KEEP of a log: at most 2 ^ 61 entries and packets; the number of each account is among those of the
--- log, and was given by the clock; no two accounts have one number, and no two of their bindings one external endpoint.
+-- log, and was given by the clock; no two accounts have the same number, and no two of their bindings the same external
+-- endpoint.
 
 abbrev pub most_saved : ℕ
 most_saved = 2 ^ 61
@@ -165,7 +166,7 @@ abbrev pub are_apart : Binding × Account → Binding × Account → Bool
 are_apart kept other =
     not ((kept.1.number == other.1.number) || external_eq (entry_key kept.0.row) (entry_key other.0.row))
 
--- Returns whether these may follow those before them.
+-- Whether each is an account of the log, and apart from all those before it.
 abbrev pub are_accounts : ℕ → ℕ → List (Binding × Account) → List (Binding × Account) → Bool
 are_accounts made clock before [] = true
 are_accounts made clock before (kept ∷ more) = is_account made clock kept.1
@@ -176,7 +177,7 @@ abbrev pub is_saved_log_state : State → SavedLogStateModel → Bool
 is_saved_log_state state saved =
     nat_le saved.made most_saved && are_accounts saved.made state.clock [] (accounted state.list saved.accounts)
 
--- WHAT IS SAVED of a log at a time beside the bindings of a state
+-- WHAT IS SAVED of a log at a time, in addition to the bindings of a state
 
 abbrev pub account_at : ℕ → LogModel → Row → Option Account
 account_at now log row = option_map account_of_entry (open_of now row log)
@@ -194,12 +195,12 @@ StartedLogsAreOfTheirStates = (rules : Rules) → RulesInvariant rules → (stat
     IsLogOf rules (with_redirects rules state) (log_started rules state saved)
     × Rises 1 (log_started rules state saved).entries
 
--- A run that begins anew has the log of its redirects.
+-- The log of a new run has its redirects.
 abbrev pub StartedLogsBeginAnew : Type 0
 StartedLogsBeginAnew = (rules : Rules) →
     log_started rules empty_state no_saved_log ≡ begun_behind 0 rules (initial_state rules)
 
--- What a run leaves of its log is what the next run begins with under the same configuration, and nothing is told there.
+-- What a run leaves of its log is what the next run begins with under the same configuration, which adds nothing there.
 abbrev pub SavedLogsAreTakenUp : Type 0
 SavedLogsAreTakenUp = (rules : Rules) → RulesInvariant rules → (state : State) → TakesState rules state →
     (log : LogModel) → IsLogOf rules (with_redirects rules state) log → Rises 1 log.entries →

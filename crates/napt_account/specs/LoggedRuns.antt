@@ -7,14 +7,14 @@ use Rattle.napt_account.specs.{declared.logged_run.LogStep.LogStep, BindingTalli
 
 pub record LoggedRunModel : Type 0 where
   pub rules : Rules
-  -- the state from which the run goes on, as its configuration takes it up, and the log there
+  -- The state from which the run goes on, as its configuration takes it up, and the log there.
   pub state : State
   pub log : LogModel
   pub inputs : List Arrival
-  -- it does not go on
+  -- Whether a step failed.
   pub is_stopped : Bool
 
--- The one thing that a record has, or another.
+-- The only value in a ghost log, or a default if it has none.
 abbrev pub only_in : {X : Type 0} → X → List (ℕ × X) → X
 only_in none [] = none
 only_in none (kept ∷ more) = kept.1

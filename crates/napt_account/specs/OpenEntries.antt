@@ -1,6 +1,6 @@
 -- The entries that have not ended, as they are kept while a run goes on: found by their endpoints, and queued by the
 -- times at which they are looked at.
-use Rattle.std.specs.Prelude.{◌≡◌, ◌⊎◌, ℕ, ◌+◌, ◌^◌, ◌<◌, ◌≤◌, ◌==◌, nat_le, Bool, true, false, ◌&&◌, cond, List, [], ◌∷◌, length, map, filter, Option, Some, None, unwrap_or}
+use Rattle.std.specs.Prelude.{◌≡◌, ◌⊎◌, ℕ, ◌^◌, ◌<◌, ◌≤◌, ◌==◌, nat_le, Bool, true, false, ◌&&◌, cond, List, [], ◌∷◌, length, map, filter, Option, Some, None, unwrap_or}
 use Rattle.std.specs.{List.IsDistinct, Option.{option_and_then, option_map}, Ordering.{ordering_then, nat_cmp, bool_cmp}, declared.cmp.Ordering.Ordering}
 use Rattle.std.specs.BTreeSet as sorted
 use Rattle.std.specs.HashMap as hash
@@ -8,7 +8,6 @@ use denote.Enum.Bare.{sameb}
 use Rattle.napt_wire.specs.contracts.Protocol.{the_type}
 use Rattle.napt_wire.specs.contracts.ProtocolOrd.TheImpl as protocols
 use Rattle.napt_rules.specs.declared.Row.{Row}
-use Rattle.napt_binding.specs.Ends.{is_before}
 use Rattle.napt_account.specs.declared.{log.LogEntry.LogEntry, open_entries.{DueEntry.DueEntry, EndKey.EndKey, EntryKey.EntryKey, Open.Open}}
 use Rattle.napt_account.specs.{declared.open_entries.OpenEntries.OpenEntries, Log.LogModel, LogParts.{IsNumbered, Rises, is_open}}
 
@@ -16,6 +15,10 @@ use Rattle.napt_account.specs.{declared.open_entries.OpenEntries.OpenEntries, Lo
 
 abbrev pub entry_key : Row → EntryKey
 entry_key row = record { address = row.external.address; number = row.external.number; protocol = row.protocol }
+
+-- Its external endpoint is one of IPv4.
+abbrev pub IsNumberedRow : Row → Type 0
+IsNumberedRow row = (row.external.address < 2 ^ 32) × (row.external.number < 2 ^ 16)
 
 abbrev pub end_key_of : Option ℕ → ℕ → EndKey
 end_key_of None number = record { is_endless = true; end = 0; number = number }
@@ -44,7 +47,7 @@ due_cmp a b = ordering_then (nat_cmp a.at b.at) (external_cmp a.key b.key)
 abbrev pub open_at : OpenEntries → EntryKey → Option Open
 open_at all x = hash.get external_eq all.by_external x
 
--- the entry of an endpoint, and when it is looked at next
+-- The entry of an endpoint, and when it is looked at next.
 abbrev pub entry_at : OpenEntries → EntryKey → Option LogEntry
 entry_at all x = option_map (λ (o : Open). o.numbered) (open_at all x)
 
@@ -82,16 +85,16 @@ pub record IsIndexedBut (key : EntryKey) (at : Option ℕ) (all : OpenEntries) :
   pub queued : (due : DueEntry) → is_queued all due
       ≡ entry_is_at (cond (external_eq key due.key) at (due_at all due.key)) due.at
 
--- it is in the list
+-- It is in the list.
 abbrev pub Has : {X : Type 0} → List X → X → Type 0
 Has [] x = ⊥
 Has (y ∷ ys) x = (y ≡ x) ⊎ Has ys x
 
--- no two rows have one protocol and external endpoint
+-- No two rows have one protocol and external endpoint.
 abbrev pub AreKeyed : List Row → Type 0
 AreKeyed rows = IsDistinct (λ a b. external_eq (entry_key a) (entry_key b)) rows
 
--- of this log it has the entries that have not ended by a time; none counts more than `most` packets either way
+-- The entries are those of a log that have not ended by a time, and none counts more than `most` packets either way.
 pub record OpenEntriesShow (now most : ℕ) (log : LogModel) (all : OpenEntries) : Type 0 where
   pub indexed : IsIndexed all
   pub made : all.made ≡ log.made

@@ -23,9 +23,9 @@ pub struct Account {
     pub number: u64,
     /// When the binding was made; 0 for a redirect of the first configuration.
     pub made: u64,
-    /// How many packets went out through it.
+    /// The number of packets that went out through it.
     pub sent: u64,
-    /// How many packets came in through it.
+    /// The number of packets that came in through it.
     pub received: u64,
     /// When a packet last went through it, either way.
     pub last: u64,
@@ -33,13 +33,12 @@ pub struct Account {
     pub last_sent: u64,
 }
 
-/// What a state keeps of a log. It stands beside a state, whose bindings it counts.
+/// What a state keeps of a log, in addition to its bindings.
 #[derive(Drop)]
 pub struct SavedLogState {
-    /// How many entries the log has so far.
+    /// The number of entries that the log has so far.
     pub made: u64,
-    /// For each binding of the state, in its order, the account of its entry; `None` for a binding without an entry that
-    /// has not ended. Bindings past the last account have none.
+    /// The accounts of the state's bindings, in their order; a binding without an open entry has none.
     pub accounts: Vec<Option<Account>>,
 }
 
@@ -84,7 +83,7 @@ impl Account {
         }
     }
 
-    /// Returns whether its number is among so many, its binding was made by a time, in ns, and it counts few packets.
+    /// Returns whether its number is from 1 to `made`, it was made by a time, in ns, and its counts may be saved.
     fn is_within(self, made: u64, clock: u64) -> bool
         ensures { result ≡ starts.is_account made clock self }
     {
@@ -104,7 +103,7 @@ impl SavedLogState {
         }
     }
 
-    /// Returns whether a binding of a state that is no redirect lives under a configuration, and no binding has an account.
+    /// Returns whether no binding of a state has an account, although one other than a redirect is live.
     pub fn lacks_all(&self, config: &Config, state: &State) -> bool {
         let (timers, now) = (config.timers(), u128::from(state.clock));
         let mut lives = false;
@@ -124,9 +123,9 @@ impl SavedLogState {
         }
     }
 
-    /// Returns whether a run with a log can begin with it at a state: it has at most 2^61 entries and packets, each number is
-    /// among those of the log, each binding was made by the clock, and no two accounts have one number or one external
-    /// endpoint. What a run leaves is so. Linear in the size of the state. Fails only if memory is refused.
+    /// Returns whether a run with a log can begin with it at a state: it has at most 2^61 entries and packets, each
+    /// number is among those of the log, each binding was made by the clock, and no two accounts have the same number
+    /// or external endpoint. This holds of what a run leaves. Takes linear time. Fails only if memory is refused.
     pub fn is_valid(&self, alloc: Global, state: &State) -> Result<bool, AllocError>
         ensures { IfOk result (λ is. is ≡ starts.is_saved_log_state state.now self.now) }
     {

@@ -50,7 +50,7 @@ fn binding_key(row: Row) -> BindingKey
 impl Redirects {
     ghost use Rattle.napt_rules.specs.declared.Row.{Row as Bound};
 
-    /// Returns those of a configuration. Fails only if memory is refused.
+    /// Returns the redirects of a configuration. Fails only if memory is refused.
     pub(crate) fn from_config(alloc: Global, config: &Config) -> Result<Redirects, AllocError>
         ensures { IfOk result (λ redirects. (row : Bound) →
             lookups.is_among redirects row ≡ starts.has_redirect config.now row) }
@@ -63,7 +63,7 @@ impl Redirects {
         Ok(Redirects { keys })
     }
 
-    /// Returns whether one of them has the protocol and both endpoints of a row.
+    /// Returns whether a redirect has the protocol and both endpoints of a row.
     fn has(&self, row: Row) -> bool
         ensures { result ≡ lookups.is_among self.now row }
     {
@@ -85,8 +85,8 @@ pub(crate) fn resumed_entry(
     account.to_entry(binding.row, end)
 }
 
-/// Returns when the entry of a binding of a state ends, in ns, under timers and redirects; `None` if it never does. A
-/// redirect that is not among them ends at the clock.
+/// Returns when the entry of a binding of a state ends, in ns, under the timers and redirects of a configuration;
+/// `None` if it never does. A redirect that the configuration does not have ends at the clock.
 fn resumed_end(
     redirects: &Redirects,
     timers: Timers,
@@ -105,7 +105,7 @@ fn resumed_end(
     }
 }
 
-/// Returns when a binding that is no redirect ends.
+/// Returns when a binding that is not a redirect ends, in ns.
 pub(crate) fn dynamic_end(timers: Timers, binding: &StateBinding) -> u128
     ensures { result ≡ ends.end_by_protocol binding.now.row.protocol timers binding.now }
 {

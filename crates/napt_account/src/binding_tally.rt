@@ -9,24 +9,24 @@ use napt_wire::Way;
 /// What a packet did to the binding that it used first.
 #[derive(Clone, Copy, Debug, PartialEq, Eq)]
 pub enum LogNote {
-    /// It used none: it was dropped before, is an error, or found none.
+    /// The packet used no binding: it was dropped before, is an ICMP error, or found none.
     Nothing,
-    /// It made one.
+    /// The packet made the binding.
     Made,
-    /// It found one.
+    /// The packet found the binding.
     Found,
-    /// It found a redirect.
+    /// The packet found a redirect.
     Redirect,
 }
 
-/// What a packet did to the bindings, and which entries of the log are theirs.
+/// What a packet did to the bindings, and the numbers of their entries in the log.
 #[derive(Clone, Copy, Debug, PartialEq, Eq)]
 pub struct BindingTally {
-    /// What it did to the binding that it used first.
+    /// What the packet did to the binding that it used first.
     pub note: LogNote,
     /// The number of the entry of the binding that it went out through.
     pub out: Option<u64>,
-    /// That of the binding that it came in through; a hairpin has both.
+    /// The number of the entry of the binding that it came in through; a hairpin has both numbers.
     pub into: Option<u64>,
 }
 
@@ -37,7 +37,7 @@ pub(crate) const NO_USE: BindingTally = BindingTally {
     into: None,
 };
 
-/// What a packet did to a binding that was there before it.
+/// Returns what a packet did to a binding that existed before it.
 pub(crate) fn found(entry: &Entry) -> LogNote
     ensures { result ≡ uses.noted entry.now }
 {
@@ -49,7 +49,7 @@ pub(crate) fn found(entry: &Entry) -> LogNote
 }
 
 impl BindingTally {
-    /// What a packet did that went one way through the binding of an entry.
+    /// Returns what a packet did that went one way through the binding of an entry.
     #[inline(always)]
     pub(crate) fn through(way: Way, note: LogNote, number: u64) -> BindingTally
         ensures { result ≡ uses.tally_used way note number }
@@ -69,7 +69,7 @@ impl BindingTally {
     }
 }
 
-/// What both legs of an input did.
+/// Returns what both legs of an input did.
 pub(crate) fn both_uses(first: BindingTally, second: BindingTally) -> BindingTally
     ensures { result ≡ uses.both_uses first second }
 {

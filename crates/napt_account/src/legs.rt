@@ -1,4 +1,4 @@
-//! What the legs of an input did, for the log.
+//! Records in the log what the legs of an input did.
 
 ghost use Rattle.std.specs.Prelude.{◌≡◌, ◌+◌, ◌<◌, ◌^◌, ◌++◌, ℕ, [], ◌∷◌, List, true, false, filter, length, drop, OnOk, IfOk, IfSome, Ok, None};
 ghost use Rattle.napt_account.specs.{BindingTallies.use_of, Effects.CanCome, Log.{LogModel, after_input, after_leg, shortages_by, shortages_in}, MadeEntries.made_entry, OpenEntries.OpenEntriesShow, LogParts.is_behind};
@@ -13,13 +13,13 @@ use std::alloc::{AllocError, Global};
 #[derive(Drop)]
 pub(crate) struct Legs {
     pub(crate) used: BindingTally,
-    /// The entries that the legs made, as they are after both.
+    /// The entries that the legs made, as they are after both legs.
     pub(crate) made: Vec<LogEntry>,
     pub(crate) refused: Vec<Shortage>,
 }
 
 impl OpenEntries {
-    /// Enters the legs of an input; `None` if one of them cannot come.
+    /// Records the legs of an input, and returns `None` if one of them is not possible (`CanCome`).
     #[inline(always)]
     pub(crate) fn enter(
         &mut self,
@@ -80,7 +80,7 @@ impl OpenEntries {
     }
 }
 
-/// The packets of the legs for which no binding could be made.
+/// Returns the packets of the legs for which no binding could be made.
 #[inline(always)]
 fn refused_by(alloc: Global, effects: Trace) -> Result<Vec<Shortage>, AllocError>
     ensures { IfOk result (λ refused. refused.items ≡ shortages_in effects) }

@@ -33,7 +33,7 @@ pub(crate) fn live_rows(
     Ok(live)
 }
 
-/// The redirects of a configuration.
+/// Returns the redirects of a configuration, which have no end.
 pub(crate) fn redirects(alloc: Global, config: &Config) -> Result<Vec<TimedRow>, AllocError>
     ensures all { IfOk result (λ made. made.items
         ≡ map (timed_row config.now.timers) (opening config.now)) }
@@ -49,7 +49,7 @@ pub(crate) fn redirects(alloc: Global, config: &Config) -> Result<Vec<TimedRow>,
     Ok(made)
 }
 
-/// Returns a binding of a state, if it is not a redirect and is live at a time, in ns.
+/// Returns the row and the end of a binding of a state, if it is not a redirect and is live at a time, in ns.
 fn live_row(
     alloc: Global,
     binding: &StateBinding,

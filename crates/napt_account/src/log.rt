@@ -8,7 +8,7 @@ ghost use Rattle.napt_binding.specs.Ends.{EndsAreFirst, is_before};
 
 use napt_config::{Config, Redirect};
 use napt_laws::{runs_go_on, saved_runs_go_on, taken_states_are_kept};
-use napt_table::{Row, TimedRow, opening_is_sound};
+use napt_table::{Row, TimedRow};
 use napt_wire::{Cause, Endpoint, Protocol, Way, packets_carry_numbers};
 use std::alloc::{AllocError, Global};
 
@@ -118,7 +118,7 @@ pub struct LogEntry {
     pub entry: Entry,
 }
 
-/// Whether no binding could be made.
+/// Whether a cause says that no binding could be made.
 pub(crate) fn is_shortage(cause: Cause) -> bool
     ensures { result ≡ is_shortage cause }
 {
@@ -138,8 +138,8 @@ pub struct Shortage {
     pub host: u32,
 }
 
-/// The entries in the order in which their bindings were made, of all entries of a run's log in any order. Fails only if
-/// memory is refused.
+/// Returns the entries in the order in which their bindings were made, given all entries of a run's log in any order.
+/// Fails only if memory is refused.
 pub fn in_order_of_making(alloc: Global, numbered: Vec<LogEntry>) -> Result<Vec<Entry>, AllocError>
     ensures { (rules : Rules) (inputs : List Arrival) →
         IsPermutation numbered.items (log_of rules inputs).entries →
@@ -157,7 +157,7 @@ fn without_numbers(alloc: Global, numbered: &[LogEntry]) -> Result<Vec<Entry>, A
     numbered.iter().map(|one| one.entry).collect(alloc)
 }
 
-/// The log of a run is that of the effects of its inputs, and each of them can come.
+/// The log of a run follows from the effects of its inputs, each of which is possible when it comes (`CanCome`).
 pub fn effects_are_the_log()
     ensures log { EffectsAreTheLog }
     ensures come { EffectsCome }
@@ -167,23 +167,26 @@ pub fn effects_are_the_log()
 }
 
 /// At each moment of a run the log of the whole run names exactly the live bindings: each host that it names had the
-/// endpoint, and each host that had it is named.
+/// endpoint, and each host that had it is named. The run may go on from a state, with a log of it.
 pub fn log_attributes()
     ensures ends { EndsAreFirst }
     ensures names { LogNamesTheHolders }
     ensures lists { LogListsTheLiving }
 {
-    opening_is_sound();
+    runs_go_on();
+    taken_states_are_kept();
 }
 
 /// If two entries of one protocol and external endpoint have different inside endpoints, the later one was made no
-/// sooner than the hold after the earlier one's end (RFC 6888, REQ-8).
+/// sooner than the hold after the earlier one's end (RFC 6888, REQ-8). Where the run goes on from a state, the earlier
+/// one may be a binding that had ended there and whose number the state holds.
 pub fn held_numbers_have_one_holder()
     ensures ends { EndsAreFirst }
     ensures held { HeldNumbersHaveOneHolder }
 {
     packets_carry_numbers();
-    opening_is_sound();
+    runs_go_on();
+    taken_states_are_kept();
 }
 
 /// An entry whose end is not after the time of the next input is final: the log of each longer run has it, unchanged,
@@ -192,9 +195,9 @@ pub fn ended_entries_stay()
     ensures { EndedEntriesStay }
 {}
 
-/// A run that goes on from a state, with what is left of the log there, tells with each input what the run over all inputs
-/// tells, and leaves the same of the log; also where the state was saved and taken up. What it leaves of its log is that of
-/// the state that it leaves.
+/// A run that goes on from a state, with the open entries of the log there, adds to the log with each input what the
+/// run over all inputs adds, and leaves the same open entries. The same holds if the state was saved and taken up. The
+/// entries that it leaves are those of the state that it leaves.
 pub fn logs_go_on()
     ensures go_on { LogsGoOn }
     ensures saved { SavedLogsGoOn }
@@ -205,9 +208,10 @@ pub fn logs_go_on()
     taken_states_are_kept();
 }
 
-/// What a run tells with its inputs is its log: the entries told as ended, with those that are left, are the entries of
-/// the log, each once and with its number; the bindings told as made, behind the first, are those of the log in its
-/// order, each with its number and when it was made; and the refused packets are its shortages, in its order.
+/// The parts that the inputs of a run add are its log. The entries that end in a part, with those that are left, are
+/// the entries of the log, each once and with its number. The bindings that are made in a part, after the first ones,
+/// are those of the log in its order, each with its number and the time when it was made. The refused packets are its
+/// shortages, in its order.
 pub fn parts_are_the_log()
     ensures { PartsAreTheLog }
 {}

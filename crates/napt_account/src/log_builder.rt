@@ -15,31 +15,31 @@ use napt_sequential::{RunFault, Trace};
 use std::alloc::{AllocError, Global};
 use std::marker::Model;
 
-/// The greatest number of inputs that a log takes. Its counts fit 64 bits, and no run comes to it.
+/// The greatest number of inputs of a log, so that its counts fit 64 bits. No run reaches it.
 const MOST_INPUTS: u64 = 4_611_686_018_427_387_903;
 
-/// A log under a configuration, built of what the legs of a run's inputs did, one input after another. Contracts see the
-/// whole log; it keeps the entries whose bindings have not ended, so its memory is that of the bindings that live.
+/// A log under a configuration, built from what the legs of a run's inputs did, one input after another. Contracts see
+/// the whole log, but only the entries whose bindings have not ended are kept in memory.
 #[derive(Drop)]
 pub struct LogBuilder<'a> {
     config: &'a Config,
-    /// How many inputs it took.
+    /// The number of inputs so far.
     taken: u64,
-    /// The time of the last, in ns; before the first, that at which it began.
+    /// The time of the last input, in ns; before the first input, the time at which the log began.
     clock: u64,
     entries: OpenEntries,
-    /// The log with which it began. It takes no memory: only proofs read it.
+    /// The log at its beginning. It takes no memory: only proofs read it.
     begun: Log<u64, OpenLog>,
     /// What the inputs did. It takes no memory: only proofs read it.
     past: Log<u64, Trace>,
-    /// Whether an input was refused. From then on it does not go on.
+    /// Whether an input was refused. All later inputs are then refused too.
     is_stopped: bool,
 }
 
-/// What the log has to say with an input.
+/// What an input adds to the log.
 #[derive(Drop)]
 pub struct InputPart {
-    /// What it did to the bindings.
+    /// What the input did to the bindings.
     pub used: BindingTally,
     /// The bindings that ended since the time of the input before, each with its final entry, by end, equal ends by
     /// number.
@@ -102,14 +102,14 @@ impl<'a> LogBuilder<'a> {
         })
     }
 
-    /// Its configuration.
+    /// Returns its configuration.
     pub fn config(&self) -> &'a Config
         ensures { result.now ≡ self.now.rules }
     {
         self.config
     }
 
-    /// The time of the last input, in ns; `None` before the first.
+    /// Returns the time of the last input, in ns; `None` before the first.
     #[inline(always)]
     pub fn last(&self) -> Option<u64>
         ensures { result ≡ cond (self.now.taken == 0) None (Some self.now.clock) }
@@ -121,8 +121,8 @@ impl<'a> LogBuilder<'a> {
         }
     }
 
-    /// The entries that have not ended by the time of the last input, by end, equal ends by number; redirects, which never
-    /// end, last. Fails only if memory is refused.
+    /// Returns the entries that have not ended by the time of the last input, by end, equal ends by number; redirects,
+    /// which never end, come last. Fails only if memory is refused.
     pub fn living(&self, alloc: Global) -> Result<Vec<LogEntry>, AllocError>
         ensures { self.now.is_stopped ≡ false → IfOk result (λ all.
             all.items ≡ living_at self.now.clock self.now.log) }
@@ -131,7 +131,7 @@ impl<'a> LogBuilder<'a> {
         Ok(living)
     }
 
-    /// What is kept of it beside the state that the run leaves. Fails only if memory is refused.
+    /// Returns what is kept of the log in addition to the state that the run leaves. Fails only if memory is refused.
     pub fn left(&self, alloc: Global) -> Result<OpenLog, AllocError>
         ensures { self.now.is_stopped ≡ false → IfOk result (λ left. left
             ≡ kept_at self.now.clock self.now.log) }
@@ -139,11 +139,11 @@ impl<'a> LogBuilder<'a> {
         self.entries.left(alloc)
     }
 
-    /// Takes what the legs of the next input did; returns what the log has to say with it. After a fault it does not go on,
-    /// and each later input fails with `RunFault::Memory`.
+    /// Records what the legs of the next input did, and returns what this adds to the log. After a fault each later
+    /// input fails with `RunFault::Memory`.
     ///
-    /// Fails with `RunFault::TooMany` exactly if it took 4,611,686,018,427,387,903 inputs before, with `RunFault::Pool` if no
-    /// run has this input next, else with `RunFault::Memory` only if memory is refused.
+    /// Fails with `RunFault::TooMany` exactly if there were 4,611,686,018,427,387,903 inputs before, with
+    /// `RunFault::Pool` if no run has this input next, and otherwise with `RunFault::Memory` only if memory is refused.
     #[inline(always)]
     pub fn enter(&mut self, alloc: Global, effects: Trace) -> Result<InputPart, RunFault>
         ensures tells { self.old.is_stopped ≡ false → IfOk result (λ part. part_in part
@@ -164,7 +164,7 @@ impl<'a> LogBuilder<'a> {
         if self.is_stopped {
             return Err(RunFault::Memory);
         }
-        // unless it comes to the end of this call
+        // reset at the end, if nothing fails
         self.is_stopped = true;
         if self.taken >= MOST_INPUTS {
             return Err(RunFault::TooMany);

@@ -5,6 +5,7 @@ ghost use Rattle.napt_rules.specs.Prelude.{TakesState, initial_state};
 ghost use Rattle.napt_account.specs.Log.{begun_behind, numbered_from, unused_entry};
 ghost use Rattle.napt_account.specs.LogParts.{LogDelta, is_open};
 ghost use Rattle.napt_account.specs.LogStarts as starts;
+ghost use Rattle.napt_account.specs.OpenEntries.{AreKeyed};
 
 use crate::account::SavedLogState;
 use crate::binding_end::{Redirects, resumed_entry};
@@ -20,23 +21,20 @@ use napt_table::TimedRow;
 use std::alloc::{AllocError, Global};
 use std::collections::HashSet;
 
-/// How many bindings a log begins at most. No state has so many, since no two of its bindings have one external endpoint.
-const MOST_BINDINGS: usize = 2_305_843_009_213_693_952;
-
-/// A log that begins, and what it has to say before the first input.
+/// A log that begins at a state, and what this adds to its text before the first input.
 #[derive(Drop)]
 pub struct LogFromState<'a> {
     pub log: LogBuilder<'a>,
     /// The log as it was saved: an entry for each account, in the order of their numbers.
     pub before: OpenLog,
-    /// Those that end at the clock of the state, in the order of their numbers.
+    /// The entries that end at the clock of the state, in the order of their numbers.
     pub ended: Vec<LogEntry>,
     /// The entries that begin at the clock, for live bindings that had none, in the order of their numbers.
     pub made: Vec<LogEntry>,
 }
 
 impl<'a> LogBuilder<'a> {
-    /// Returns the log of a run that begins anew, before the first input; it has the redirects. Fails only if memory is
+    /// Returns the log of a new run before its first input, with an entry for each redirect. Fails only if memory is
     /// refused.
     pub fn from_config(alloc: Global, config: &'a Config) -> Result<LogBuilder<'a>, AllocError>
         ensures { IfOk result (λ builder. builder ≡ record {
@@ -57,10 +55,10 @@ impl<'a> LogBuilder<'a> {
         Ok(started.log)
     }
 
-    /// Returns the log at a state, before the first input, and what it has to say there. The entries of the bindings go on,
-    /// each with the end that its binding has under the configuration; a live binding without an entry gets one that begins
-    /// at the clock. An entry whose binding does not go on, since it has ended under the timers of the configuration or is a
-    /// redirect that it does not have, ends at the clock. Fails only if memory is refused.
+    /// Returns the log at a state before the first input, with the entries that end or begin there. The entries of the
+    /// bindings go on, each with the end that its binding has under the configuration; a live binding without an entry
+    /// gets one that begins at the clock. An entry ends at the clock if its binding has ended under the timers of the
+    /// configuration, or is a redirect that the configuration does not have. Fails only if memory is refused.
     pub fn resume(
         alloc: Global,
         config: &'a Config,
@@ -82,7 +80,7 @@ impl<'a> LogBuilder<'a> {
         ensures before { IfOk result (λ from.
             from.before ≡ starts.log_before config.now state.now saved.now) }
     {
-        // called for its clause alone: the rules of a configuration are valid
+        // called only for its clause: the rules of a configuration are valid
         let _pool = config.pool();
         let all = resumed_entries(alloc, config, state, saved)?;
         let continued = open_among(alloc, &all, state.clock)?;
@@ -91,9 +89,6 @@ impl<'a> LogBuilder<'a> {
         let gone = by_number(gone)?;
         let ended = all_ended_at(alloc, &gone, state.clock)?;
         let live = live_rows(alloc, config, state)?;
-        if live.len() > MOST_BINDINGS {
-            return Err(AllocError);
-        }
         let made = new_entries(alloc, &entries, &live, saved.made, state.clock)?;
         entries.extend_from_slice(&made)?;
         let begun = OpenLog {
@@ -136,7 +131,7 @@ fn resumed_entries(
     Ok(all)
 }
 
-/// Returns those that have not ended by a time, in ns.
+/// Returns the entries that have not ended by a time, in ns.
 fn open_among(alloc: Global, all: &[LogEntry], now: u64) -> Result<Vec<LogEntry>, AllocError>
     ensures { IfOk result (λ found. found.items ≡ filter (is_open now) all.now) }
 {
@@ -146,7 +141,7 @@ fn open_among(alloc: Global, all: &[LogEntry], now: u64) -> Result<Vec<LogEntry>
         .collect(alloc)
 }
 
-/// Returns those that have ended by a time, in ns.
+/// Returns the entries that have ended by a time, in ns.
 fn ended_among(alloc: Global, all: &[LogEntry], now: u64) -> Result<Vec<LogEntry>, AllocError>
     ensures { IfOk result (λ found.
         found.items ≡ filter (λ numbered. not (is_open now numbered)) all.now) }
@@ -157,7 +152,7 @@ fn ended_among(alloc: Global, all: &[LogEntry], now: u64) -> Result<Vec<LogEntry
         .collect(alloc)
 }
 
-/// Puts entries in the order of their numbers, which differ.
+/// Returns entries, whose numbers are distinct, in the order of their numbers.
 fn by_number(entries: Vec<LogEntry>) -> Result<Vec<LogEntry>, AllocError>
     requires { starts.NumbersDiffer entries.items }
     ensures { IfOk result (λ sorted. sorted.items ≡ starts.in_order_of_number entries.items) }
@@ -167,7 +162,7 @@ fn by_number(entries: Vec<LogEntry>) -> Result<Vec<LogEntry>, AllocError>
     Ok(sorted)
 }
 
-/// Returns entries, each of which ends at a time, in ns.
+/// Returns the entries with a time, in ns, as their end.
 fn all_ended_at(alloc: Global, entries: &[LogEntry], now: u64) -> Result<Vec<LogEntry>, AllocError>
     ensures { IfOk result (λ ended. ended.items ≡ map (starts.entry_ended_at now) entries.now) }
 {
@@ -177,7 +172,7 @@ fn all_ended_at(alloc: Global, entries: &[LogEntry], now: u64) -> Result<Vec<Log
         .collect(alloc)
 }
 
-/// Returns an entry that ends at a time, in ns.
+/// Returns the entry with a time, in ns, as its end.
 fn entry_ended_at(numbered: LogEntry, now: u64) -> LogEntry
     ensures { result ≡ starts.entry_ended_at now numbered }
 {
@@ -187,7 +182,7 @@ fn entry_ended_at(numbered: LogEntry, now: u64) -> LogEntry
 }
 
 /// Returns new entries, with the numbers after `made`, for the rows whose external endpoint no open entry has. They begin
-/// at a time, in ns.
+/// at a time, in ns. There are few rows, since no two of them have one external endpoint.
 fn new_entries(
     alloc: Global,
     entries: &[LogEntry],
@@ -195,10 +190,12 @@ fn new_entries(
     made: u64,
     clock: u64,
 ) -> Result<Vec<LogEntry>, AllocError>
-    requires { (made ≤ 2 ^ 61) × (length live.now ≤ 2 ^ 61) }
-    ensures { IfOk result (λ begun. begun.items ≡ numbered_from (made + 1)
+    requires made { made ≤ 2 ^ 61 }
+    requires apart { AreKeyed (map (λ timed. timed.row) live.now) }
+    ensures begun { IfOk result (λ begun. begun.items ≡ numbered_from (made + 1)
         (map (λ timed. unused_entry timed.row clock timed.end)
         (filter (λ timed. not (starts.has_entry entries.now timed)) live.now))) }
+    ensures few { IfOk result (λ _. length live.now ≤ 2 ^ 50) }
 {
     let mut endpoints: HashSet<EntryKey> = HashSet::new(alloc);
     for numbered in entries {
@@ -219,8 +216,8 @@ fn new_entries(
     Ok(begun)
 }
 
-/// A log begins with an entry for each live binding, with its row and its end. Of a run that begins anew these are the
-/// redirects, and of a state as a run leaves it they are the entries that were left: nothing is told there.
+/// A log begins with an entry for each live binding, with its row and its end. In a new run these are the redirects. At
+/// a state that a run leaves they are the entries that the run left, and none ends or begins there.
 pub fn started_logs_go_on()
     ensures states { starts.StartedLogsAreOfTheirStates }
     ensures anew { starts.StartedLogsBeginAnew }

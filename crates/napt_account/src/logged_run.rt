@@ -19,8 +19,8 @@ use napt_table::Row;
 use std::alloc::{AllocError, Global};
 use std::marker::Model;
 
-/// A run on one thread under a configuration, and its log. Contracts see the inputs that it took, which it does not keep:
-/// its memory is that of the bindings that live.
+/// A run on one thread under a configuration, and its log. Contracts see the inputs that it took, but only the bindings
+/// that have not ended are kept in memory.
 #[derive(Drop)]
 pub struct LoggedRun<'a> {
     run: SequentialRun,
@@ -31,11 +31,11 @@ pub struct LoggedRun<'a> {
     saved: Log<u64, SavedLogState>,
     /// The inputs that it took. It takes no memory: only proofs read it.
     past: Log<u64, Input>,
-    /// Whether a step failed. From then on the run does not go on.
+    /// Whether a step failed. All later steps then fail too.
     is_stopped: bool,
 }
 
-/// A run that goes on from a state, and what its log has to say before the first input (`LogFromState`).
+/// A run that goes on from a state, and what this adds to its log before the first input (`LogFromState`).
 #[derive(Drop)]
 pub struct RunFromState<'a> {
     pub run: LoggedRun<'a>,
@@ -73,7 +73,7 @@ impl<'a> Model for LoggedRun<'a> {
 }
 
 impl<'a> LoggedRun<'a> {
-    /// Returns a run that begins anew, before its first input; its log has the redirects. Fails only if memory is refused.
+    /// Returns a new run before its first input; its log has the redirects. Fails only if memory is refused.
     pub fn from_config(alloc: Global, config: &'a Config) -> Result<LoggedRun<'a>, AllocError>
         ensures { IfOk result (λ run. run ≡ record {
           rules = config.now;
@@ -93,7 +93,7 @@ impl<'a> LoggedRun<'a> {
         Ok(resumed.run)
     }
 
-    /// Returns a run from a state on, before its first input, with its log of what the state keeps (`LogBuilder::resume`).
+    /// Returns a run from a state before its first input, with the log that the state keeps (`LogBuilder::resume`).
     /// Fails only if memory is refused.
     pub fn resume(
         alloc: Global,
@@ -162,9 +162,8 @@ impl<'a> LoggedRun<'a> {
         self.run.bindings(alloc)
     }
 
-    /// Passes the next input through the run, at the latest clock so far, its own included; returns its outcome and the part
-    /// of the log that comes with it. After a fault the run does not go on, and each later step fails with
-    /// `RunFault::Memory`.
+    /// Handles the next input at the latest clock so far, its own included, and returns its outcome and what it adds to
+    /// the log. After a fault each later step fails with `RunFault::Memory`.
     ///
     /// Fails with `RunFault::TooMany` exactly if it took 4,294,967,295 inputs before and no step failed, with
     /// `RunFault::Memory` only if memory is refused or a step failed before, and never with `RunFault::Pool`.
@@ -182,7 +181,7 @@ impl<'a> LoggedRun<'a> {
         if self.is_stopped {
             return Err(RunFault::Memory);
         }
-        // unless it comes to the end of this step
+        // reset at the end, if nothing fails
         self.is_stopped = true;
         let config = self.log.config();
         let stepped = self.run.step(alloc, config, input)?;

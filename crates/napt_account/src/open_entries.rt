@@ -58,12 +58,13 @@ pub(crate) struct OpenEntries {
     by_external: HashMap<EntryKey, Open>,
     /// An element for each entry that has a time.
     queue: BTreeSet<DueEntry>,
-    /// How many entries the log has.
+    /// The number of entries of the log.
     made: u64,
 }
 
 pub(crate) fn external_key(row: Row) -> EntryKey
-    ensures { result ≡ keys.entry_key row }
+    ensures key { result ≡ keys.entry_key row }
+    ensures numbered { keys.IsNumberedRow row }
 {
     EntryKey {
         address: row.external.address,
@@ -89,8 +90,7 @@ fn end_key(numbered: LogEntry) -> EndKey
     }
 }
 
-/// Returns when an entry with this end is checked next, if it was to be checked by a time: then, or at its end if that
-/// is sooner.
+/// Returns when an entry with this end is checked next, in ns: at its time `was` in the queue, or at an earlier end.
 fn due_by(was: Option<u64>, end: Option<u128>) -> Option<u64>
     ensures early { (time : ℕ) → time < unwrap_or result (2 ^ 64) → is_before time end ≡ true }
     ensures first { was ≡ None → (time : ℕ) → is_before time end ≡ true →
@@ -103,7 +103,7 @@ fn due_by(was: Option<u64>, end: Option<u128>) -> Option<u64>
     }
 }
 
-/// Puts entries in order of end.
+/// Sorts entries by end, equal ends by number.
 #[inline(always)]
 pub(crate) fn sort_by_end(entries: &mut Vec<LogEntry>)
     ensures moved { IsPermutation entries.old.items entries.new.items }
@@ -136,7 +136,7 @@ impl OpenEntries {
         }
     }
 
-    /// Begins with what was kept of a log.
+    /// Returns the open entries that were kept of a log.
     pub(crate) fn from_entries(alloc: Global, log: &OpenLog) -> Result<OpenEntries, AllocError>
         ensures { (now most : ℕ) → kept_at now log.now ≡ log.now → IsNumbered log.now →
             Rises 1 log.now.entries →
@@ -151,7 +151,7 @@ impl OpenEntries {
         Ok(all)
     }
 
-    /// What is kept of the log.
+    /// Returns what is kept of the log.
     pub(crate) fn left(&self, alloc: Global) -> Result<OpenLog, AllocError>
         ensures { (now most : ℕ) (log : LogModel) → OpenEntriesShow now most log self.now →
             IfOk result (λ left. left ≡ kept_at now log) }
@@ -258,7 +258,7 @@ impl OpenEntries {
         self.by_external.get(&external_key(row)).copied()
     }
 
-    /// Whether a leg can do this at a time, in ns.
+    /// Whether a leg can have this effect at a time, in ns.
     #[inline(always)]
     pub(crate) fn can_come(&self, now: u64, effect: Passage) -> bool
         ensures yes { (most : ℕ) (log : LogModel) → OpenEntriesShow now most log self.now → result ≡ true →
@@ -276,8 +276,8 @@ impl OpenEntries {
         }
     }
 
-    /// Counts a packet that went one way through the binding of a row, which now has this end; returns what it did to the
-    /// binding, if the binding has an entry.
+    /// Counts a packet that went one way through the binding of a row, which now has this end, and returns what it did
+    /// to the binding, if the binding has an entry.
     #[inline(always)]
     fn count(&mut self, way: Way, now: u64, timed: TimedRow) -> Result<BindingTally, AllocError>
         requires { (most : ℕ) × (log : LogModel) × OpenEntriesShow now most log self.old
@@ -394,7 +394,7 @@ impl OpenEntries {
             .collect(alloc)
     }
 
-    /// Enters what one leg did; returns what it did to the bindings.
+    /// Records the effect of one leg, and returns what it did to the bindings.
     #[inline(always)]
     pub(crate) fn pass(&mut self, now: u64, effect: Passage) -> Result<BindingTally, AllocError>
         requires { (most : ℕ) × (log : LogModel) × OpenEntriesShow now most log self.old

@@ -13,12 +13,12 @@ use std::alloc::{AllocError, Global};
 use std::collections::HashMap;
 use std::marker::Model;
 
-/// What is kept of a log where a run leaves its state: a log of its own, with which a run goes on.
+/// What is kept of a log when a run leaves its state: a log of the open entries, with which the next run goes on.
 #[derive(Drop)]
 pub struct OpenLog {
-    /// How many entries the log had so far.
+    /// The number of entries that the log had so far.
     pub made: u64,
-    /// Those that have not ended by the clock of the state, with their numbers, in the order of making.
+    /// The entries that have not ended by the clock of the state, with their numbers, in the order of making.
     pub entries: Vec<LogEntry>,
 }
 
@@ -32,7 +32,7 @@ impl Model for OpenLog {
 }
 
 impl OpenLog {
-    /// That of a run without entries.
+    /// Returns what is kept of a log without entries.
     pub fn none(alloc: Global) -> OpenLog
         ensures { result ≡ record { made = 0; entries = []; shortages = [] } }
     {
@@ -42,8 +42,8 @@ impl OpenLog {
         }
     }
 
-    /// Returns what a state that a run leaves keeps of it: for each binding of the state the account of its entry. Linear in
-    /// the size of both. Fails only if memory is refused.
+    /// Returns what a state that a run leaves keeps of the log: the account of each binding of the state that has an
+    /// entry. Takes linear time. Fails only if memory is refused.
     pub fn saved(&self, alloc: Global, state: &State) -> Result<SavedLogState, AllocError>
         ensures { IfOk result (λ saved. (now : ℕ) → kept_at now self.now ≡ self.now →
             saved ≡ saved_log_state now self.now state.now) }

@@ -10,12 +10,12 @@ use napt_wire::Endpoint;
 pub struct Party {
     /// The address, in host order.
     pub address: u32,
-    /// The port or identifier; any if absent.
+    /// The port or identifier; `None` for any.
     pub number: Option<u16>,
 }
 
 impl Party {
-    /// Whether an endpoint is this one, or one of this address.
+    /// Whether an endpoint is the requested one, or one of the requested address.
     pub fn has(self, endpoint: Endpoint) -> bool
         ensures { result ≡ is_meant self endpoint }
     {

@@ -3,7 +3,8 @@
 
 use crate::owners::{add_owners, add_party};
 use crate::requests::HolderRequest;
-use crate::saved_bindings::{SavedBindings, read_saved};
+use crate::saved_bindings::read_saved;
+use crate::saved_rows::SavedBindings;
 use napt_account::Entry;
 use napt_commands::{Exit, Page, SortedEntries};
 use napt_config::Config;

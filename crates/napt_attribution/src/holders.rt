@@ -27,7 +27,7 @@ impl<'a> Holders<'a> {
         })
     }
 
-    /// Takes bindings that ended, and keeps those that requests ask about.
+    /// Adds bindings that ended, if requests ask about them.
     pub fn add(&mut self, entries: &[LogEntry]) -> Result<(), AllocError> {
         for listed in entries {
             if self.wanted.has(listed.entry.binding.external) {

@@ -26,8 +26,8 @@ pub struct LogOpening<'a> {
     pub made: &'a [LogEntry],
 }
 
-/// Begins a log in a file or standard output: the names of its fields, the entries that were saved, and what ends and begins
-/// with the run.
+/// Begins a log in a file or on standard output with the names of its fields, the entries that were saved, and the
+/// entries that end or begin with the run.
 pub fn begin_log<'a, R: Files + Print + Eprint + AllocGlobal>(
     rt: &R,
     path: Option<&'a str>,

@@ -127,7 +127,7 @@ fn add_nobody(asked: &HolderRequest, config: &Config, text: &mut String) -> Resu
     text.push_str("nobody has ")?;
     add_party(party, text)?;
     text.push_str(match config.pool_index(party.address) {
-        Some(_) => ": it is in no host's block, and no redirect\n",
+        Some(_) => ": it is in no host's block and is not a redirect\n",
         None => ": it is no address of the pool\n",
     })
 }

@@ -1,43 +1,55 @@
 //! The external addresses and endpoints that requests name.
 
+ghost use Rattle.std.specs.{BTreeMap.values, Prelude.{◌≡◌, IfOk, filter}};
+ghost use Rattle.napt_attribution.specs.Asked.{Wants, is_wanted};
+
 use crate::requests::HolderRequest;
+use napt_account::Entry;
 use napt_wire::Endpoint;
 use std::alloc::{AllocError, Global};
-use std::collections::BTreeSet;
+use std::collections::{BTreeMap, BTreeSet};
 
-/// The addresses all of whose endpoints requests ask about, and the other endpoints that they name.
+/// The endpoints that requests name, and the addresses all of whose endpoints they ask about.
 #[derive(Drop)]
 pub struct WantedEndpoints {
-    addresses: BTreeSet<u32>,
-    endpoints: BTreeSet<(u32, u16)>,
+    /// Addresses with a number, and without one where every number is wanted.
+    parties: BTreeSet<(u32, Option<u16>)>,
 }
 
 impl WantedEndpoints {
     /// Returns the addresses and endpoints that the requests name.
-    pub fn of(alloc: Global, asked: &[HolderRequest]) -> Result<WantedEndpoints, AllocError> {
-        let mut wanted = WantedEndpoints {
-            addresses: BTreeSet::new(alloc),
-            endpoints: BTreeSet::new(alloc),
-        };
+    pub fn of(alloc: Global, asked: &[HolderRequest]) -> Result<WantedEndpoints, AllocError>
+        ensures { IfOk result (λ wanted. Wants asked.now wanted) }
+    {
+        let mut parties = BTreeSet::new(alloc);
         for one in asked {
-            wanted.add(one)?;
+            let party = one.request.party;
+            parties.insert((party.address, party.number))?;
         }
-        Ok(wanted)
-    }
-
-    fn add(&mut self, asked: &HolderRequest) -> Result<(), AllocError> {
-        match asked.endpoint() {
-            Some(Endpoint { address, number }) => self.endpoints.insert((address, number))?,
-            None => self.addresses.insert(asked.request.party.address)?,
-        };
-        Ok(())
+        Ok(WantedEndpoints { parties })
     }
 
     /// Whether a request asks about an external endpoint.
-    pub fn has(&self, external: Endpoint) -> bool {
-        self.addresses.contains(&external.address)
-            || self
-                .endpoints
-                .contains(&(external.address, external.number))
+    pub fn has(&self, external: Endpoint) -> bool
+        ensures { result ≡ is_wanted self.now external }
+    {
+        let Endpoint { address, number } = external;
+        self.parties.contains(&(address, None)) || self.parties.contains(&(address, Some(number)))
+    }
+
+    /// Returns the entries that requests ask about, in the order of their numbers.
+    pub fn among(
+        &self,
+        alloc: Global,
+        entries: &BTreeMap<u64, Entry>,
+    ) -> Result<Vec<Entry>, AllocError>
+        ensures { IfOk result (λ found. found.items
+            ≡ filter (λ entry. is_wanted self.now entry.binding.external) (values entries.now)) }
+    {
+        entries
+            .values()
+            .filter(|entry| self.has(entry.binding.external))
+            .copied()
+            .collect(alloc)
     }
 }

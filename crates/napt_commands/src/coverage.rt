@@ -81,11 +81,11 @@ impl Coverage {
         let (span, longest) = (span / SECOND, self.longest / SECOND);
         let _ = match is_half {
             true => eprintln!(rt;
-                "explain: {living} of {made} bindings have not ended when the captures do, after {span} s: more at once may come"
+                "explain: {living} of {made} bindings have not ended when the captures do, after {span} s: the greatest number at once may be higher"
             ),
             false => eprintln!(rt;
                 "explain: the captures span {span} s, less than the {longest} s that a binding lives after its last packet: \
-more at once may come"
+the greatest number at once may be higher"
             ),
         };
     }

@@ -17,18 +17,18 @@ pub fn print_unwritten<R: Eprint>(rt: &R, name: &str, path: &str, error: &io::Er
     unwritten()
 }
 
-/// Prints that a file cannot be written, where the system gives no reason, and returns how the program stops.
+/// Prints that a file cannot be written if the system gives no reason, and returns how the program stops.
 pub fn unexplained<R: Eprint>(rt: &R, name: &str, path: &str) -> Exit {
     let _ = eprintln!(rt; "explain: {name} {path}: it cannot be written whole");
     unwritten()
 }
 
-/// How the program stops if a file cannot be written: as `napt` does for an output.
+/// Returns how the program stops if a file cannot be written, which is how `napt` stops for an output.
 pub fn unwritten() -> Exit {
     Exit::Told(Stop::File(FileRole::Report))
 }
 
-/// Opens a file for reading, or standard input for `-`, and prints the reason if that fails. `name` is its option.
+/// Opens a file for reading, or standard input for `-`, and prints the reason if that fails. `name` names its option.
 pub fn opened<R: Files + Input + Eprint + AllocGlobal>(
     rt: &R,
     name: &str,

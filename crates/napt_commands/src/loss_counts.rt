@@ -7,14 +7,14 @@ use napt_sequential::{Input, Outcome};
 use napt_wire::{Cause, Side};
 use std::alloc::{AllocError, Global};
 
-/// How many packets came from each side, and how many of those from outside were dropped for some causes.
+/// The number of packets from each side, and how many of those from outside were dropped for some causes.
 #[derive(Drop)]
 pub struct LossCounts {
     pub all: u64,
-    /// How many packets came from inside, and how many of them from an inside address.
+    /// The number of packets that came from inside, and how many of them had an inside address.
     pub inside: u64,
     pub from_hosts: u64,
-    /// How many packets from inside got no binding, for the quota or for lack of a free number.
+    /// The number of packets from inside that got no binding, because of the quota or for want of a free number.
     pub refused: u64,
     /// Packets for an endpoint without a live binding.
     pub no_binding: u64,

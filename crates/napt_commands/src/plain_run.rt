@@ -20,7 +20,7 @@ pub struct PlainRun<'a> {
     begun: Log<u64, State>,
     /// The packets that the run has taken. They take no memory: only proofs read them.
     past: Log<u64, Input>,
-    /// Whether a step failed. From then on the run does not go on.
+    /// Whether a step failed. All later steps then fail too.
     is_stopped: bool,
 }
 

@@ -42,7 +42,7 @@ pub struct EndedRun<'a> {
 
 /// Takes the packets of the captures, one after another, and keeps none.
 pub trait Consumer<R> {
-    /// Takes the next packet, by its number, from 1.
+    /// Takes the next packet, which has this number, from 1.
     fn take(&mut self, rt: &R, number: u64, input: &Input) -> Result<(), Exit>;
 
     /// Flushes the output so far, before the program waits for more packets or prints a fault.

@@ -12,8 +12,8 @@ use napt_rules::State;
 use std::alloc::{AllocError, Global};
 use std::marker::Model;
 
-/// A configuration, and the state from which a run under it goes on, with what it keeps of a log: without bindings, the run
-/// begins anew.
+/// A configuration, and the state from which a run under it starts, with what the state keeps of a log. A new run
+/// starts from a state without bindings.
 #[derive(Drop)]
 pub struct RunStart<'a> {
     config: &'a Config,
@@ -58,14 +58,14 @@ impl<'a> RunStart<'a> {
         self.config
     }
 
-    /// The clock of the state, in ns.
+    /// Returns the clock of the state, in ns.
     pub fn clock(&self) -> u64
         ensures { result ≡ self.now.state.clock }
     {
         self.state.clock
     }
 
-    /// Whether the log begins new entries for the bindings of the state, since that has no accounts of them.
+    /// Returns whether the log begins new entries for the bindings of the state, which has no accounts of them.
     pub fn begins_entries(&self) -> bool {
         self.saved.lacks_all(self.config, &self.state)
     }

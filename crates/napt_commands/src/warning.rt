@@ -3,8 +3,8 @@
 use crate::loss_counts::LossCounts;
 use crate::outside_capture::OutsideCapture;
 
-/// Prints that the captures are swapped, or that many packets from outside were dropped, what that says of the captures,
-/// and what to do. `under` names the configuration, where there are several.
+/// Prints that the captures are swapped, or that many packets from outside were dropped, what that says about the
+/// captures, and what to do. `under` names the configuration, if there are several.
 pub fn print_warning<R: Eprint>(
     rt: &R,
     outside: OutsideCapture,
@@ -47,7 +47,7 @@ fn print_losses<R: Eprint>(rt: &R, outside: OutsideCapture, losses: &LossCounts)
             losses.not_ours
         ),
         OutsideCapture::Replies if losses.refused > 0 => eprintln!(rt;
-            "{} of {all} replies find no binding: {} packets from inside got none, by the quota or for lack of a free number",
+            "{} of {all} replies find no binding: {} packets from inside got none, because of the quota or for want of a free number",
             losses.no_binding, losses.refused
         ),
         OutsideCapture::Replies => eprintln!(rt;

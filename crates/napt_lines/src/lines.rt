@@ -143,7 +143,7 @@ pub fn has_party(row: &Row, host: Option<Party>) -> bool {
     host.is_none_or(|host| host.has(row.inside) || host.has(row.external))
 }
 
-/// What a forwarded packet did to a binding.
+/// Returns what a forwarded packet did to a binding.
 fn used(packet: &Packet, note: LogNote) -> &'static str {
     match (packet.kind(), note) {
         (Kind::ErrorOf(_), _) => "error about a binding",

@@ -69,7 +69,7 @@ fn is_reply(bytes: &[u8]) -> bool {
     }
 }
 
-/// Appends flags in brackets as tcpdump prints them, such as `[S]`, `[S.]`, `[F.]`, `[R]` and `[.]`, after a space.
+/// Appends a space and the flags in brackets as tcpdump prints them, such as `[S]`, `[S.]`, `[F.]`, `[R]` and `[.]`.
 fn add_flags(text: &mut String, flags: Flags) -> Result<(), AllocError> {
     text.push_str(" [")?;
     text.push_str(if flags.fin { "F" } else { "" })?;

@@ -1,5 +1,5 @@
-//! What packets from outside say as answers to what left just before. Only the remotes of the last minutes are kept, and
-//! those of live bindings.
+//! Finds packets from outside that answer packets which left just before. Only the remotes of the last minutes and
+//! those of live bindings are kept.
 
 use napt_account::LogNote;
 use napt_commands::{Exit, LossCounts, RunPacket, destination_of, source_of};
@@ -14,7 +14,7 @@ const JUST_BEFORE: u64 = 60_000_000_000;
 /// The number of remotes from which on old ones are forgotten.
 const FEW: usize = 1024;
 
-/// How many remotes of a binding are known. Of one that sent to more, nothing is said.
+/// The greatest number of remotes that are kept for a binding. Nothing is known about a binding that sent to more.
 const MOST: usize = 64;
 
 /// A remote endpoint: its protocol, its address, and its port, 0 for echoes; or a whole address, without a protocol.
@@ -41,7 +41,7 @@ pub struct Remotes {
     of_bindings: BTreeMap<u64, Vec<Remote>>,
     /// The number of answers among the packets that found no binding or were not for the gateway.
     unmet_answers: u64,
-    /// Answers that were for an address of the gateway, and how many of them find no binding, or one that did not ask.
+    /// The number of answers for the gateway, and how many of them found no binding, or one that had not asked.
     answers: u64,
     astray: u64,
     /// The number of the first packet that `astray` counts, or 0.
@@ -78,8 +78,8 @@ impl Remotes {
     pub fn tell_astray<R: Eprint>(&self, rt: &R) -> Exit {
         let (astray, answers, first) = (self.astray, self.answers, self.first_astray);
         let _ = eprintln!(rt;
-            "explain: these captures are of a gateway with other numbers: {astray} of {answers} answers from outside, packet \
-{first} the first, do not find here who asked for them (--as-napt tells of the run of napt)"
+            "explain: the captured gateway used other numbers: {astray} of {answers} answers from outside, the first of them packet \
+{first}, do not reach the host that asked for them (--as-napt answers from the run of napt)"
         );
         Exit::Others
     }
@@ -155,13 +155,13 @@ impl Remotes {
         self.full = self.sent.len().saturating_mul(2).max(FEW);
     }
 
-    /// What was sent to a remote, if a packet was within the minute before.
+    /// Returns what was sent to a remote, if a packet was sent to it within the minute before.
     fn just_sent(&self, remote: Remote, now: u64) -> Option<SentCounts> {
         let sent = self.sent.get(&remote).copied()?;
         (now.saturating_sub(sent.at) <= JUST_BEFORE).then_some(sent)
     }
 
-    /// A packet comes from outside. It is an answer if a packet left for its remote just before.
+    /// Counts a packet from outside, which is an answer if a packet left for its remote just before.
     fn come(&mut self, passing: RunPacket<'_>, outcome: &Outcome) {
         let input = passing.input;
         let (bytes, now) = (&input.bytes, input.clock);
@@ -178,7 +178,7 @@ impl Remotes {
         }
     }
 
-    /// A packet comes from a remote to which this was sent just before.
+    /// Counts a packet from a remote to which this was sent just before.
     fn answer(
         &mut self,
         passing: RunPacket<'_>,
@@ -205,7 +205,7 @@ impl Remotes {
         }
     }
 
-    /// Whether a packet of the binding with a number went to a remote, or that is not known.
+    /// Whether a packet of the binding with a number went to a remote, or this is not known.
     fn has_sent(&self, number: Option<u64>, remote: Remote) -> bool {
         match number.and_then(|number| self.of_bindings.get(&number)) {
             Some(remotes) => remotes.len() >= MOST || remotes.contains(&remote),
@@ -214,7 +214,7 @@ impl Remotes {
     }
 }
 
-/// The remote endpoint in the headers of a packet that comes from a side, unless it is an ICMP error.
+/// Returns the remote endpoint in the headers of a packet from a side, unless it is an ICMP error.
 fn remote_of(bytes: &[u8], side: Side) -> Option<Remote> {
     let (address, ports) = match side {
         Side::Inside => (destination_of(bytes)?, 2),

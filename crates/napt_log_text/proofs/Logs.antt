@@ -19,7 +19,7 @@ module _ {X : Type 0} where
   added-append adds before (x ∷ xs) ys =
       grind (arith, common_steps, nat_tests, append_assoc, added-append adds (before ++ x ∷ []) xs ys)
 
-  -- others that add the same behind others
+  -- If inputs add the same after other ones, their texts are the same.
   added_as : (adds others : List X → X → TimeText) (front also all : List X) →
       ((more : List X) (x : X) → adds (front ++ more) x ≡ others (also ++ more) x) →
       log_added adds front all ≡ log_added others also all
@@ -41,7 +41,7 @@ grows rules state origin each inputs more = grind (arith, common_steps, nat_test
 joined_parts : (a b c d : TimeText) → (a ++ (b ++ c)) ++ d ≡ ((a ++ b) ++ []) ++ (c ++ d)
 joined_parts a b c d = simp (append_assoc, append-nil)
 
--- a run's first input begins no piece
+-- The first input of a run begins no piece.
 none_first : (rules : Rules) (each : Option ℕ) (now : ℕ) (log : LogModel) → piece_opening rules each None now log ≡ []
 none_first rules None now log = refl
 none_first rules (Some seconds) now log = refl

@@ -181,7 +181,7 @@ csv_row-line rules event =
 
 module _ (left new : Option (List ℕ)) (old line : TimeText) (text rest : TimeText) (none : old ≡ [])
     (got : IfSome left (λ xs. line ≡ old ++ take_through 10 xs)) (left_is : left ≡ Some (text ++ rest)) where
-  -- The line that is read is the first of those left, and the rest is then left.
+  -- The line that is read is the first of those that were left, and the rest is left after it.
   pub line_read : IfSome left (λ xs. new ≡ Some (drop_through 10 xs)) → Line text → (line ≡ text) × (new ≡ Some rest)
   line_read h k = grind (arith, common_steps, nat_tests, append_assoc, take_through-append, drop_through-append)
 

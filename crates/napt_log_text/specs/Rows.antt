@@ -35,17 +35,17 @@ time_fields time = number_if_any time ∷ date_of_any time ∷ []
 abbrev pub time_text : Option ℕ → TimeText
 time_text time = number_if_any time ++ codes "," ++ date_of_any time
 
--- natEvent: 8, NAT44 BIB create; 9, NAT44 BIB delete; 12, NAT ports exhausted; 13, quota exceeded (RFC 8158)
+-- NatEvent: 8, NAT44 BIB create; 9, NAT44 BIB delete; 12, NAT ports exhausted; 13, quota exceeded (RFC 8158).
 abbrev pub shortage_number : Cause → ℕ
 shortage_number OverQuota = 13
 shortage_number _ = 12
 
--- natQuotaExceededEvent: 3, maximum entries per user (RFC 8158)
+-- NatQuotaExceededEvent: 3, maximum entries per user (RFC 8158).
 abbrev pub quota_text : Cause → TimeText
 quota_text OverQuota = codes "3"
 quota_text _ = []
 
--- protocolIdentifier (IANA)
+-- ProtocolIdentifier (IANA).
 abbrev pub csv_protocol : Protocol → ℕ
 csv_protocol Icmp = 1
 csv_protocol Tcp = 6

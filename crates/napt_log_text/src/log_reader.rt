@@ -17,7 +17,7 @@ use std::io::BufRead;
 pub enum LogFileFault {
     /// A read failed, memory ran out, or the bytes are not UTF-8.
     Unread(io::Error),
-    /// A row is not one of a log; with it, what was expected.
+    /// A line is not a row of a log; the value says what was expected.
     Wrong(&'static str),
     /// The last row is incomplete: it has no line feed at its end.
     Torn,
@@ -50,7 +50,7 @@ impl<R: BufRead + Drop> LogReader<R> {
         }
     }
 
-    /// Returns the reader of a later piece of a log, of which nothing has been read yet.
+    /// Returns the reader of a later piece of a log, before anything of it has been read.
     pub fn piece(alloc: Global, reader: R) -> LogReader<R>
         ensures { R.remaining result.reader ≡ R.remaining reader }
     {
@@ -60,7 +60,7 @@ impl<R: BufRead + Drop> LogReader<R> {
         }
     }
 
-    /// Whether the line that was read last is the names of the fields, with which a piece may begin.
+    /// Whether the line that was read last has the names of the fields, with which a piece may begin.
     pub fn is_at_names(&self) -> bool {
         self.line.as_str() == header()
     }
@@ -95,7 +95,8 @@ impl<R: BufRead + Drop> LogReader<R> {
     }
 }
 
-/// The rows of the events of a log follow its header, so that [`LogReader`] reads these events, in order.
+/// A log that is begun has its header, and each has the rows of its events, so that [`LogReader`] reads these events, in
+/// order. The run may go on from a state.
 #[tactic(auto, using(crate::proofs::SavedLogs::has_rows))]
 pub fn log_has_rows()
     ensures { logs.LogHasRows }

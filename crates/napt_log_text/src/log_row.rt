@@ -33,7 +33,7 @@ pub struct LogRow {
     pub event: LogField,
     /// The number of the protocol (IANA).
     pub protocol: LogField,
-    /// `None` also if there is only an address.
+    /// `None` also if the row has only an address.
     pub inside: Option<Endpoint>,
     pub external: Option<Endpoint>,
     /// The number of the binding, from 1.

@@ -11,8 +11,8 @@ use std::num::NonZeroU32;
 
 const NANOSECONDS_A_SECOND: u64 = 1_000_000_000;
 
-/// Appends the beginning of a log, or of a piece of one: the names of its fields, and a row for each entry that has not ended.
-/// Fails only if memory runs out.
+/// Appends the beginning of a log, or of a piece of one: the names of its fields, and a row for each entry that has not
+/// ended. Fails only if memory is refused.
 pub fn add_opening(config: &Config, log: &OpenLog, text: &mut String) -> Result<(), AllocError>
     ensures { OnOk result (string_bytes text.new ≡ string_bytes text.old
         ++ logs.opening_text config.now log.now) }
@@ -21,8 +21,7 @@ pub fn add_opening(config: &Config, log: &OpenLog, text: &mut String) -> Result<
     add_made(config, &log.entries, text)
 }
 
-/// Appends the rows of what a log tells before the first input: entries that end, and new ones. Fails only if memory runs
-/// out.
+/// Appends the rows of entries that end, and of new ones, before the first input. Fails only if memory is refused.
 pub fn add_first(
     config: &Config,
     ended: &[LogEntry],
@@ -36,8 +35,8 @@ pub fn add_first(
     add_made(config, made, text)
 }
 
-/// Appends the rows of what the log tells with an input: the bindings that ended since the time of the input before, the
-/// binding that its packet made, and the packet itself if no binding could be made for it. Fails only if memory runs out.
+/// Appends the rows that an input adds: the bindings that ended since the time of the input before, the binding that
+/// its packet made, and the packet itself if no binding could be made for it. Fails only if memory is refused.
 #[inline(never)]
 pub fn add_part(config: &Config, part: &InputPart, text: &mut String) -> Result<(), AllocError>
     ensures { OnOk result (string_bytes text.new ≡ string_bytes text.old
@@ -48,8 +47,8 @@ pub fn add_part(config: &Config, part: &InputPart, text: &mut String) -> Result<
     add_refused(config, &part.refused, text)
 }
 
-/// Whether a log in pieces of `each` seconds begins one with an input at a time, in ns, whose clock was `last` before: whether
-/// that passes a multiple of them. A log in one piece, and the first input of a run, for which there is no `last`, begin none.
+/// Whether a log in pieces of `each` seconds begins a new piece with an input: from `last` to `now`, in ns, the clock
+/// passes a multiple of them. A log in one piece begins none, nor does the first input of a run, which has no `last`.
 #[inline(always)]
 pub fn begins_piece(each: Option<NonZeroU32>, last: Option<u64>, now: u64) -> bool
     ensures { result ≡ logs.begins_piece (option_map non_zero_u32_get each) last now }
@@ -61,7 +60,7 @@ pub fn begins_piece(each: Option<NonZeroU32>, last: Option<u64>, now: u64) -> bo
     last / length < now / length
 }
 
-/// Appends the end of a log: a row without an event for each binding that lives at the end. Fails only if memory runs out.
+/// Appends the end of a log: a row without an event for each live binding. Fails only if memory is refused.
 pub fn add_living(config: &Config, living: &[LogEntry], text: &mut String) -> Result<(), AllocError>
     ensures { OnOk result (string_bytes text.new ≡ string_bytes text.old
         ++ logs.living_rows config.now living.now) }
@@ -77,9 +76,9 @@ pub fn log_grows()
     ensures { logs.LogGrows }
 {}
 
-/// The log of a run, without rows of what lives, and then that of the run that goes on where it was left, is the log of the
-/// run over all inputs; also where the state was saved and taken up. From where a piece begins the log is that of the run
-/// that goes on there with a new one.
+/// The log of a run without its rows of live bindings, followed by the log of the run that goes on from there, is the
+/// log of the run over all inputs. The same holds if the state was saved and taken up. From where a piece begins, the
+/// log is that of the run that goes on there with a new log.
 pub fn logs_join()
     ensures join { logs.LogsJoin }
     ensures saved { logs.SavedLogsJoin }
@@ -88,7 +87,7 @@ pub fn logs_join()
     logs_go_on();
 }
 
-/// The rows by the effects of a run's inputs are those of its log.
+/// The rows that follow from the effects of a run's inputs are those of its log.
 pub fn effects_have_the_rows()
     ensures { logs.EffectsHaveTheRows }
 {

@@ -23,12 +23,12 @@ pub struct Request {
     pub at: Option<TimeSpan>,
 }
 
-/// Those who had the endpoint last before the span of a request, and first after it.
+/// The entries of those who had the endpoint last before the span of a request, and first after it.
 #[derive(Clone, Copy)]
 pub struct NearestEntries {
-    /// The one that ended last; of several that ended then, the one that was made last.
+    /// The entry that ended last; of several that ended then, the one that was made last.
     pub before: Option<Entry>,
-    /// The one that was made first.
+    /// The entry that was made first.
     pub after: Option<Entry>,
 }
 

@@ -10,7 +10,7 @@ use std::str;
 /// The capacity in bytes: an endpoint needs 21.
 const ROOM: usize = 40;
 
-/// The end of an ASCII text, which grows to the front and takes no memory. A text of many numbers is appended at once.
+/// The end of an ASCII text, which grows to the front and takes no memory. Many numbers are then appended at once.
 #[derive(Drop)]
 pub(crate) struct Suffix {
     bytes: [u8; ROOM],

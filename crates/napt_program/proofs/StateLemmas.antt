@@ -3,13 +3,12 @@ use Rattle.std.proofs.{lemmas.{Grind.common_steps, Bool.Decides.nat_tests}, Comm
 use Rattle.clap.specs.Words.{Text}
 use Rattle.napt_program.specs.{CommandLine.{files_of, files_with_log}, Command.IsRunStop, State.{IsNewStop, IsSaveStop}}
 use Rattle.napt_program.specs.declared.{options.RunOptions.RunOptions, options_with_log.OptionsWithLog.OptionsWithLog, stop.Stop.Stop, streams.StandardStreams.StandardStreams}
-use Rattle.napt_state.specs.{StateContents.unless_for, declared.fault.StateReason.{StateReason, TheVariants.{Unread, NotUtf8, Memory}}}
+use Rattle.napt_state.specs.{StateContents.unless_for, declared.fault.StateReason.{StateReason, TheVariants.{Unread, Memory}}}
 
 -- A text was not read if what would hold after reading it does not hold.
 pub unread : (reason : StateReason) (fact : Type 0) (told : Bool) → (fact → ⊥) → unless_for reason fact
     → (unless_for reason ⊥ → told ≡ false) → told ≡ false
 unread (Unread error) fact told not is told_so = told_so is
-unread NotUtf8 fact told not is told_so = told_so is
 unread Memory fact told not is told_so = told_so is
 unread other fact told not is told_so = told_so (not is)
 

@@ -8,7 +8,7 @@ use crate::options::{LineFault, Manual};
 use crate::record_counter::CountedSource;
 use crate::role::FileRole;
 use crate::stop::{LogRefusal, Stop, line_at_end, status_at_end};
-use crate::stop_reason::StopReason;
+use crate::stop_reason::{StopReason, take_end_misfits};
 use crate::streams::StandardStreams;
 use napt_config::{Address, Config};
 use napt_log_text::TimeStamp;
@@ -33,8 +33,8 @@ pub fn answer_line(rt: &impl Print, fault: LineFault) -> Result<(), Stop>
     }
 }
 
-/// Prints on standard error that the log lists all bindings of the state anew, at the state's
-/// clock, in ns. Fails only if memory is refused.
+/// Prints on standard error that the log begins a new entry for each binding of the state, at the state's clock, in ns.
+/// Fails only if memory is refused.
 pub fn print_new_entries(
     rt: &impl Eprint,
     alloc: Global,
@@ -44,9 +44,18 @@ pub fn print_new_entries(
     let mut date = String::new(alloc);
     TimeStamp(u128::from(clock)).add_date(&mut date)?;
     let _ = eprintln!(rt;
-        "{name}: the log lists all bindings of the state anew, at {date}: the run before had no log"
+        "{name}: the log begins a new entry for each binding of the state, at {date}: the run before had no log"
     );
     Ok(())
+}
+
+/// Prints on standard error how many bindings of a state end at its start, if any do.
+pub fn print_ended(rt: &impl Eprint, name: &str, ended: u64) {
+    if ended > 0 {
+        let _ = eprintln!(rt;
+            "{name}: bindings of the state that the configuration cannot keep, and that end here: {ended}"
+        );
+    }
 }
 
 /// How a program was called.
@@ -60,6 +69,8 @@ pub struct ProgramCall {
     pub at_terminal: bool,
     /// Whether standard error gets more than the fault line: at a terminal, or with `--verbose`.
     pub is_verbose: bool,
+    /// Whether bindings of a state that the configuration cannot keep end: with `--end-misfits`.
+    pub ends_misfits: bool,
 }
 
 impl ProgramCall {
@@ -71,6 +82,15 @@ impl ProgramCall {
             is_heard: streams.error,
             at_terminal,
             is_verbose: at_terminal,
+            ends_misfits: false,
+        }
+    }
+
+    /// Returns the call with `--end-misfits`, if that is among the arguments, and removes it.
+    pub fn with_misfits(self, words: &mut Vec<String>) -> ProgramCall {
+        ProgramCall {
+            ends_misfits: take_end_misfits(words),
+            ..self
         }
     }
 
@@ -122,8 +142,8 @@ impl ProgramCall {
         }
     }
 
-    /// Prints in a line after the fault line why the program stopped, if that is requested, or
-    /// where help is; what a run must not write after in a log is printed in any case.
+    /// Prints in a line after the fault line why the program stopped, if that is requested, or where help is. Why a run
+    /// must not append to a log is printed in any case.
     fn print_reason(self, rt: &impl Eprint, stop: Stop, reason: &StopReason) {
         if !self.is_heard {
             return;
@@ -133,11 +153,11 @@ impl ProgramCall {
             (Stop::LogFile(refusal), _) => eprintln!(rt; "  the log {refusal}"),
             _ if !reason.is_requested => Ok(()),
             (_, Some(text)) => eprintln!(rt; "{name}: {text}"),
-            _ => eprintln!(rt; "  {name} --help tells what it takes, and what each line means"),
+            _ => eprintln!(rt; "  {name} --help lists the options and the meaning of each line"),
         };
     }
 
-    /// Warns that the state's bindings have no accounts, so that the log lists all of them anew, at
+    /// Warns that the state has no accounts of its bindings, so that the log begins a new entry for each of them, at
     /// the state's clock, in ns. Fails only if memory is refused.
     pub fn print_new_entries(
         self,
@@ -149,6 +169,13 @@ impl ProgramCall {
             print_new_entries(rt, alloc, self.name, clock)?;
         }
         Ok(())
+    }
+
+    /// Prints how many bindings of the state end at the start, if any do.
+    pub fn print_ended(self, rt: &impl Eprint, ended: u64) {
+        if self.is_heard {
+            print_ended(rt, self.name, ended);
+        }
     }
 
     /// Prints that a packet has this time, in ns, which is earlier than the clock of the state with
@@ -168,13 +195,12 @@ impl ProgramCall {
         TimeStamp(u128::from(clock)).add_date(&mut dated)?;
         let name = self.name;
         let _ = eprintln!(rt;
-            "{name}: a packet is of {date}, earlier than the state's time, {dated}: until then packets count as at that time, and no timer ends"
+            "{name}: a packet of {date} is earlier than the state's time, {dated}: until then packets count as if they came at that time, and no timer ends"
         );
         Ok(())
     }
 
-    /// Prints what the captures show against themselves: that they seem to be swapped, and which
-    /// end inside a record.
+    /// Prints that the captures seem to be swapped, and which of them end inside a record.
     pub fn print_flaws<S, Q>(
         self,
         rt: &impl Eprint,
@@ -221,10 +247,10 @@ impl fmt::Display for LogRefusal {
     fn fmt<W: fmt::Write>(&self, f: &mut fmt::Formatter<W>) -> fmt::Result {
         match self {
             LogRefusal::Anew => f.write_str(
-                "has text or pieces, and this run begins anew: name a new file, or go on with --resume",
+                "has text or pieces, and this run starts without a state: name a new file, or use --resume",
             ),
             LogRefusal::Untold => f.write_str(
-                "has text, and the state tells of no log in a file: name a new file",
+                "has text, but the state records no log in a file: name a new file",
             ),
             LogRefusal::Another(bytes) => write!(
                 f,
@@ -232,11 +258,11 @@ impl fmt::Display for LogRefusal {
             ),
             LogRefusal::Piece(number) => write!(
                 f,
-                "does not end with piece {number} as the state has it: move later pieces away, or name a new file"
+                "does not end with piece {number} as the state records it: move later pieces away, or name a new file"
             ),
             LogRefusal::Longer(bytes) => write!(
                 f,
-                "goes on behind the {bytes} bytes that the state tells of: cut it there (truncate -s {bytes}), or name a new file"
+                "goes on after the {bytes} bytes that the state records: cut it there (truncate -s {bytes}), or name a new file"
             ),
         }
     }

@@ -57,6 +57,8 @@ pub struct RunResources<S, T: Write + Drop, F: Write + Drop, P> {
     pub config: Config,
     /// The state from which the run starts.
     pub state: State,
+    /// How many of its bindings end at the start, since the configuration cannot keep them.
+    pub ended: u64,
     /// What the state keeps of its log, or nothing if there was no log.
     pub saved: SavedLogState,
     pub devices: RunDevices<S, T, F>,
@@ -71,12 +73,13 @@ pub struct RunResources<S, T: Write + Drop, F: Write + Drop, P> {
 ///
 /// Before that, fails with the role of a needed standard stream that is closed, or that another
 /// option uses; then if the configuration, of which the place is set, or the state is refused, or
-/// as `open_files` does.
+/// as `open_files` does. If `ends_misfits`, bindings that the configuration cannot keep end.
 pub fn open<'r, R: Files + Input + Print + AllocGlobal>(
     rt: &'r R,
     streams: StandardStreams,
     options: &OptionsWithLog,
     place: &mut ConfigPlace,
+    ends_misfits: bool,
 ) -> Result<RunResources<Box<R::Reader>, Printer<'r, R>, R::File, LogPieces<'r, R>>, Stop>
     ensures taken { IfOk result (λ o. TakesState o.config o.state) }
     ensures saved { IfOk result (λ o. is_saved_log_state o.state o.saved ≡ true) }
@@ -96,13 +99,20 @@ pub fn open<'r, R: Files + Input + Print + AllocGlobal>(
         return Err(Stop::File(role));
     }
     let config = configuration(rt, options.files.config.as_ref(), place)?;
-    let ResumedState { state, saved, log } = state_at(rt, &config, options.files.resume.as_ref())?;
-    let told = options.files.resume.as_ref().map(|_| log);
+    let resume = options.files.resume.as_ref();
+    let ResumedState {
+        state,
+        saved,
+        log,
+        ended,
+    } = state_at(rt, &config, resume, ends_misfits)?;
+    let told = resume.map(|_| log);
     let FilesWithLog { files, log: file } = open_files(rt, options, told)?;
     let held = if file.is_some() { HELD } else { BUFFERED };
     Ok(RunResources {
         config,
         state,
+        ended,
         saved,
         devices: buffered(rt.alloc(), files, held)?,
         log: buffered_log(rt.alloc(), file)?,

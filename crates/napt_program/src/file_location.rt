@@ -95,12 +95,9 @@ pub(crate) fn folder_of<'a>(path: &'a str) -> Option<Path<'a>>
     }
 }
 
-/// Returns whether `known` is of the file at `path`; also if the system cannot tell files apart.
-pub(crate) fn is_at<R: Files>(rt: &R, known: &Metadata, path: &str) -> bool {
-    let Ok(there) = fs::metadata(rt, path) else {
-        return false;
-    };
-    match (node_of(known), node_of(&there)) {
+/// Returns whether both are of one file; also if the system cannot tell files apart.
+pub(crate) fn is_one_file(known: &Metadata, there: &Metadata) -> bool {
+    match (node_of(known), node_of(there)) {
         (Some(known), Some(there)) => is_same_node(known, there),
         _ => true,
     }

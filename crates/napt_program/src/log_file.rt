@@ -180,8 +180,8 @@ impl<F: Read + Write + Seek + OpenFile> SeekableFile for F {}
 impl<'r, T: Write + Drop, F: SeekableFile + Drop, R: Files + AllocGlobal> LogOutput<
     LogDevice<Either<T, F>, LogPieces<'r, R>>,
 > {
-    /// Syncs the file, or the last piece, after the run. Returns where its text ends; all is 0 if it
-    /// is not a regular file. Fails with `Stop::Log`.
+    /// Syncs the file, or the last piece, after the run. Returns where its text ends; every number is 0 if it is not a
+    /// regular file. Fails with `Stop::Log`.
     pub fn synced_end(self) -> Result<LogEnd, Stop>
         ensures { IfErr result (λ stop. stop ≡ Stop.Log) }
     {
@@ -207,8 +207,8 @@ pub(crate) fn synced_length<F: OpenFile>(file: &F) -> io::Result<Option<u64>> {
     Ok(Some(known.len()))
 }
 
-/// Syncs a file of a log, which is its piece of this number, or 0 if it is the log. Returns where its
-/// text ends; all is 0 if it is not a regular file.
+/// Syncs a file of a log, which is the piece with this number, or the whole log if the number is 0. Returns where its
+/// text ends; every number is 0 if it is not a regular file.
 pub(crate) fn synced_end<F: SeekableFile + Drop>(mut file: F, piece: u64) -> io::Result<LogEnd> {
     let Some(length) = synced_length(&file)? else {
         return Ok(LogEnd::default());

@@ -17,7 +17,7 @@ const INPUT: &str = "/dev/stdin";
 
 const OUTPUT: &str = "/dev/stdout";
 
-/// What names the file of a state that is saved, and the new file beside it.
+/// What names the file of a state that is saved, and the new file next to it.
 const SAVE: &str = "--save";
 
 const BY_NEW: &str = "--save, by way of";
@@ -210,7 +210,7 @@ fn standing<'a>(path: &'a str, stream: &'a str) -> &'a str {
 /// Returns that the standard stream which stands for a role is closed.
 pub fn closed_text(alloc: Global, role: FileRole) -> Result<String, AllocError> {
     let (stream, name) = (stream_of(role), role.name());
-    format!(in alloc; "{stream} is closed, and stands for --{name}")
+    format!(in alloc; "{stream} is closed, and --{name} needs it")
 }
 
 /// Returns that a file is `-` and another has the standard stream, after what names the file.
@@ -244,7 +244,7 @@ pub fn again_text(
 
 /// Returns that a state cannot be saved over what is at a path, after what names it.
 fn aside_text(alloc: Global, name: &str, path: &str) -> Result<String, AllocError> {
-    format!(in alloc; "{name} {path}: expected a file, no device, pipe or folder")
+    format!(in alloc; "{name} {path}: expected a file, not a device, pipe or folder")
 }
 
 /// Returns the system's reason why an output cannot be created, or `None` if it has none.

@@ -49,6 +49,8 @@ Examples:
 
 --verbose adds a second line on standard error, which a terminal gets anyway: the
 option, its file, and what is wrong with it (in a configuration, with the place).
+With --end-misfits the bindings of the state that the configuration cannot keep end
+at its time, and one line on standard error counts them; all others go on.
 
 Exit status, and the line on standard error that says why:
   0  done, without a line
@@ -60,8 +62,8 @@ Exit status, and the line on standard error that says why:
        missing            a required key is absent, or its list is empty
        bad-shape          a value is not of the type that its key takes
        too-many           a list has more entries than it may have
-       bad-address        it is no IPv4 address, or in a redirect no endpoint
-       bad-prefix         it is no IPv4 prefix, or bits past its length are set
+       bad-address        not an IPv4 address, or not an endpoint in a redirect
+       bad-prefix         not an IPv4 prefix, or bits past its length are set
        bad-number         a number is out of its range
        bad-word           the key does not take this word
        bad-seed           the seed is not 32 hexadecimal digits
@@ -81,7 +83,7 @@ Exit status, and the line on standard error that says why:
        memory             memory ran out
   4  napt: capture SIDE WORD, where SIDE is inside or outside
        no-header        there are fewer than 24 bytes
-       bad-magic        it is no libpcap capture (pcapng is another format)
+       bad-magic        not a libpcap capture (pcapng is another format)
        bad-version      it is not version 2.4
        bad-link         the link type is neither 101 (raw IP) nor 228 (raw IPv4)
        bad-fraction N   the time of record N has a fraction of a second or more
@@ -94,7 +96,7 @@ Exit status, and the line on standard error that says why:
        too-many         there are more than 4294967295 packets
        no-thread        the system refused a worker its thread
        gate-shut N      the gate kept worker N waiting; never in this program
-       ring             the ends of a ring disagree; nothing is known to cause it
+       ring             the ends of a ring disagree; no cause of this is known
   6  napt: file OPTION
        it cannot be opened, read or created; its stream is closed; a configuration
        has over 64 MiB; or another option has the same output or standard stream
@@ -106,11 +108,11 @@ Exit status, and the line on standard error that says why:
        not-utf-8 N      line N is not UTF-8
        not-inside       the host of a binding is in no prefix of inside
        not-paired       its external address is not the one of its host
-       not-its-number   a number of it is 0, or is not of its host's block
-       used-later       it, or a flow of it, was used after the time of the state
-       flows-share      two of its flows are of one remote endpoint
+       not-its-number   one of its numbers is 0, or not in its host's block
+       used-later       it or one of its flows was used after the state's time
+       flows-share      two of its flows have the same remote endpoint
        redirected       a redirect has its inside or its external endpoint
-       shared           another binding has one of them";
+       shared           another binding has one of its endpoints";
 
 // The options that name files, each with its meaning, in the order of the help text.
 const OPTIONS: [(&str, &str); 8] = [
@@ -120,7 +122,7 @@ const OPTIONS: [(&str, &str); 8] = [
     ),
     (
         "resume",
-        "State from which the run goes on, as written by --save [default: the run begins anew]",
+        "State from which the run goes on, as written by --save [default: a new run]",
     ),
     (
         "inside",

@@ -61,6 +61,10 @@ impl RecordCounter {
         let mut rest = bytes;
         // each turn consumes at least one byte
         for _ in 0..bytes.len() {
+            if let Some(tail) = self.skip_header(rest) {
+                rest = tail;
+                continue;
+            }
             let Some(byte) = rest.first() else {
                 return records;
             };
@@ -77,6 +81,21 @@ impl RecordCounter {
             }
         }
         records
+    }
+
+    /// Skips the time and the captured length of a record whose bytes need not be noted, if all of
+    /// both is there. Returns what follows them.
+    fn skip_header<'a>(&mut self, bytes: &'a [u8]) -> Option<&'a [u8]> {
+        let is_at_record = matches!(self.part, CounterState::Time) && self.left == 8;
+        if !is_at_record || self.first_time.is_none() || self.first_source.is_none() {
+            return None;
+        }
+        let [_, _, _, _, _, _, _, _, a, b, c, d, tail @ ..] = bytes else {
+            return None;
+        };
+        self.part = CounterState::Record;
+        self.left = u64::from(self.number([*a, *b, *c, *d])) + 4;
+        Some(tail)
     }
 
     /// Returns whether the bytes of this part are read one by one.

@@ -5,13 +5,13 @@ ghost use Rattle.napt_state.specs.StateText.{saved_text};
 ghost use Rattle.napt_program.specs.State.{IsNewStop, IsSaveStop};
 
 use crate::devices::{BUFFERED, writer};
-use crate::file_location::is_at;
+use crate::file_location::is_one_file;
 use crate::options::RunOptions;
 use crate::role::FileRole;
 use crate::stop::{MEMORY, Stop};
 use napt_state::{StateFileContents, write_state};
 use std::alloc::{AllocError, Global};
-use std::fs::{OpenFile, OpenOptions};
+use std::fs::{Metadata, OpenFile, OpenOptions};
 use std::io::{ErrorKind, Write};
 use std::rt::Files;
 use std::{fs, io};
@@ -20,10 +20,25 @@ use std::{fs, io};
 #[derive(Drop)]
 pub struct StateFile<F> {
     file: F,
-    /// The path of the new file.
-    new: String,
+    new: NewPath,
     /// The path that it gets at the end.
     path: String,
+}
+
+/// The path of the new file, which it has until the run has ended.
+#[derive(Drop)]
+struct NewPath {
+    text: String,
+}
+
+impl NewPath {
+    /// Returns whether `known` is of the file at this path.
+    fn is_at<R: Files>(&self, rt: &R, known: &Metadata) -> bool {
+        match fs::metadata(rt, &self.text) {
+            Ok(there) => is_one_file(known, &there),
+            Err(_) => false,
+        }
+    }
 }
 
 impl<F: Write + OpenFile + Drop> StateFile<F> {
@@ -47,10 +62,10 @@ impl<F: Write + OpenFile + Drop> StateFile<F> {
         let file = writer.into_inner().map_err(|_| Stop::Save)?;
         file.sync_all().map_err(|error| unsaved(&error))?;
         let known = file.metadata().map_err(|error| unsaved(&error))?;
-        if !is_at(rt, &known, &new) {
+        if !new.is_at(rt, &known) {
             return Err(Stop::Save);
         }
-        fs::rename(rt, &new, &path).map_err(|error| unsaved(&error))?;
+        fs::rename(rt, &new.text, &path).map_err(|error| unsaved(&error))?;
         Ok(file)
     }
 }
@@ -73,7 +88,7 @@ pub(crate) fn state_file<R: Files + AllocGlobal>(
 ) -> Result<Option<StateFile<R::File>>, Stop>
     ensures named { IfOk result (λ made. is_some made ≡ is_some options.now.save) }
     ensures paths { IfOk result (λ made. IfSome made (λ it.
-        string_bytes it.new ≡ string_bytes it.path ++ codes ".new")) }
+        string_bytes it.new.text ≡ string_bytes it.path ++ codes ".new")) }
     ensures refused { IfErr result (IsNewStop (is_some options.now.save)) }
 {
     let Some(path) = &options.save else {
@@ -82,15 +97,19 @@ pub(crate) fn state_file<R: Files + AllocGlobal>(
     if path.is_empty() {
         return Err(Stop::File(FileRole::Save));
     }
-    let new = new_path(rt.alloc(), path)?;
+    let text = new_path(rt.alloc(), path)?;
     let path = String::from_str(rt.alloc(), path)?;
-    let _ = fs::remove_file(rt, &new);
+    let _ = fs::remove_file(rt, &text);
     let file = OpenOptions::new()
         .write(true)
         .create_new(true)
-        .open(rt, &new)
+        .open(rt, &text)
         .map_err(|_| Stop::File(FileRole::Save))?;
-    Ok(Some(StateFile { file, new, path }))
+    Ok(Some(StateFile {
+        file,
+        new: NewPath { text },
+        path,
+    }))
 }
 
 /// Returns the path of the new file for a state that is saved. Fails only if memory is refused.

@@ -1,11 +1,11 @@
 //! Reads the state from which a run starts, and its log position.
 
-ghost use Rattle.std.specs.Prelude.{◌≡◌, ℕ, List, IfErr, IfOk, IfSome, None, Some, false, is_some, true};
+ghost use Rattle.std.specs.Prelude.{◌≡◌, ℕ, Bool, List, IfErr, IfOk, IfSome, None, Some, false, is_some, true};
 ghost use Rattle.napt_config.specs.Rules.{Rules};
 ghost use Rattle.napt_account.specs.LogStarts.{is_saved_log_state};
 ghost use Rattle.napt_rules.specs.Prelude.{TakesState};
 ghost use Rattle.napt_state.specs.{StateContents.{unless_for}, Saved.{IsSaved}, StateFiles.{StateFileModel as Told}, StateText.{saved_text}};
-ghost use Rattle.napt_program.specs.State.{IsAnew, IsStateOf, IsStateStop, ReportsMisfit, is_bad_line};
+ghost use Rattle.napt_program.specs.State.{IsAnew, IsStateOf, IsStateStop, ReportsMisfit, is_bad_line, line_refusal};
 
 use crate::devices::reader;
 use crate::role::FileRole;
@@ -25,8 +25,10 @@ pub struct ResumedState {
     pub state: State,
     /// What the state keeps of its log; nothing if there was no log.
     pub saved: SavedLogState,
-    /// Where its log ends; all is 0 if there was none in a file.
+    /// Where its log ends; every number is 0 if there was none in a file.
     pub log: LogEnd,
+    /// How many of its bindings end at the start, since the configuration cannot keep them.
+    pub ended: u64,
 }
 
 /// Returns the state in the file as the configuration accepts it, or one without bindings or log
@@ -35,6 +37,7 @@ pub fn state_at<R: Files + AllocGlobal>(
     rt: &R,
     config: &Config,
     path: Option<&String>,
+    ends_misfits: bool,
 ) -> Result<ResumedState, Stop>
     ensures taken { IfOk result (λ saved. TakesState config.now saved.state) }
     ensures saved { IfOk result (λ it. is_saved_log_state it.state it.saved ≡ true) }
@@ -47,13 +50,15 @@ pub fn state_at<R: Files + AllocGlobal>(
             state: State { clock: 0, list },
             saved: SavedLogState::none(rt.alloc()),
             log: LogEnd::default(),
+            ended: 0,
         });
     };
     let file = File::open(rt, path).map_err(|error| unread(&error, FileRole::Resume))?;
-    state_from(rt.alloc(), config, file)
+    state_from(rt.alloc(), config, file, ends_misfits)
 }
 
-/// Reads a state from a reader to its end.
+/// Reads a state from a reader to its end. If `ends_misfits`, the bindings that the configuration
+/// cannot keep end at its clock.
 ///
 /// Fails with `Stop::State` if the text is refused or a binding is not accepted, with the file's
 /// role if the reader fails, and with `MEMORY` if memory is refused.
@@ -61,15 +66,16 @@ pub fn state_from<D: Read + Drop>(
     alloc: Global,
     config: &Config,
     device: D,
+    ends_misfits: bool,
 ) -> Result<ResumedState, Stop>
     ensures taken { IfOk result (λ saved. TakesState config.now saved.state) }
     ensures saved { IfOk result (λ it. is_saved_log_state it.state it.saved ≡ true) }
     ensures read { IfOk result (λ saved. IfSome (D.remaining device) (λ text.
-        IsStateOf config.now text saved)) }
+        IsStateOf ends_misfits config.now text saved)) }
     ensures whole { (told : Told) → IsSaved told → D.remaining device ≡ Some (saved_text told)
         → IfErr result (λ stop. is_bad_line stop ≡ false) }
     ensures misfit { (text : List ℕ) → D.remaining device ≡ Some text
-        → IfErr result (ReportsMisfit config.now text) }
+        → IfErr result (ReportsMisfit ends_misfits config.now text) }
     ensures stop { IfErr result (IsStateStop true) }
 {
     let saved = match read_state(alloc, reader(alloc, device)?) {
@@ -77,8 +83,17 @@ pub fn state_from<D: Read + Drop>(
         Err(fault) => return Err(stop_of_state(&fault)),
     };
     let log = saved.log.map_or(LogEnd::default(), |log| log.end);
-    match saved.take_up(alloc, config)? {
-        Ok(TakenState { state, log: saved }) => Ok(ResumedState { state, saved, log }),
+    match saved.take_up(alloc, config, ends_misfits)? {
+        Ok(TakenState {
+            state,
+            log: saved,
+            ended,
+        }) => Ok(ResumedState {
+            state,
+            saved,
+            log,
+            ended,
+        }),
         Err((_, misfit)) => Err(Stop::State(StateRefusal::Binding(misfit))),
     }
 }
@@ -86,12 +101,11 @@ pub fn state_from<D: Read + Drop>(
 /// Returns why a text gave no state: its file failed, memory was refused, or a line is malformed.
 pub fn stop_of_state(fault: &StateFault) -> Stop
     ensures line { unless_for fault.now.reason
-        (result ≡ Stop.State (StateRefusal.Line fault.now.line)) }
+        (result ≡ Stop.State (line_refusal fault.now.reason fault.now.line)) }
     ensures unread { unless_for fault.now.reason ⊥ → is_bad_line result ≡ false }
-    ensures utf8 { fault.now.reason ≡ StateReason.NotUtf8 →
-        result ≡ Stop.State (StateRefusal.NotUtf8 fault.now.line) }
     ensures memory { fault.now.reason ≡ StateReason.Memory → result ≡ MEMORY }
-    ensures misfit { (rules : Rules) (text : List ℕ) → ReportsMisfit rules text result }
+    ensures misfit { (ends : Bool) (rules : Rules) (text : List ℕ)
+        → ReportsMisfit ends rules text result }
     ensures stop { IsStateStop true result }
 {
     match &fault.reason {

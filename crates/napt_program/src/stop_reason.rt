@@ -17,6 +17,9 @@ use std::rt::Files;
 /// The word of the command line that requests the second line where there is no terminal.
 const VERBOSE: &str = "--verbose";
 
+/// The word of the command line by which bindings of a state end that the configuration cannot keep.
+const END_MISFITS: &str = "--end-misfits";
+
 /// Why a program stopped, in words: an option and its file, and what is wrong with it.
 #[derive(Debug, Drop)]
 pub struct StopReason {
@@ -86,7 +89,17 @@ impl StopReason {
 
 /// Removes the first `--verbose` from the arguments, and returns whether there was one.
 pub fn take_verbose(words: &mut Vec<String>) -> bool {
-    match words.iter().position(|word| word.as_str() == VERBOSE) {
+    take_word(words, VERBOSE)
+}
+
+/// Removes the first `--end-misfits` from the arguments, and returns whether there was one.
+pub(crate) fn take_end_misfits(words: &mut Vec<String>) -> bool {
+    take_word(words, END_MISFITS)
+}
+
+/// Removes the first such word from the arguments, and returns whether there was one.
+fn take_word(words: &mut Vec<String>, wanted: &str) -> bool {
+    match words.iter().position(|word| word.as_str() == wanted) {
         Some(index) => {
             words.remove(index);
             true
@@ -109,7 +122,7 @@ fn capture_text(
     fault: CaptureFault,
 ) -> Result<String, AllocError> {
     format!(in alloc;
-        "{name} {path}: {fault}; explain with the same words prints what it is, and what to do"
+        "{name} {path}: {fault}; explain with the same arguments prints what it is and what to do"
     )
 }
 
@@ -160,9 +173,9 @@ pub fn misfit_reason(misfit: Misfit) -> &'static str {
         Misfit::NotInside => "its host is in no prefix of inside",
         Misfit::NotPaired => "the configuration gives its host another external address",
         Misfit::NotItsNumber =>
-            "a number of it is 0, or its external one is not of its host's block",
-        Misfit::UsedLater => "it, or a flow of it, was used after the time of the state",
-        Misfit::FlowsShare => "two of its flows are of one remote endpoint",
+            "one of its numbers is 0, or its external number is not in its host's block",
+        Misfit::UsedLater => "it or one of its flows was used after the state's time",
+        Misfit::FlowsShare => "two of its flows have the same remote endpoint",
         Misfit::Redirected => "a redirect of the configuration has one of these endpoints",
         Misfit::Shared => "another binding of the state has one of these endpoints",
     }

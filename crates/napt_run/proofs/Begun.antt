@@ -1,4 +1,4 @@
--- Streams of captures whose headers were read, and how many reads failed behind them.
+-- Streams of captures whose headers were read, and the number of reads that failed after them.
 use native.Mathlib.Omega.{arith}
 use Rattle.std.proofs.lemmas.{Grind.common_steps, Bool.Decides.nat_tests, List.Elements.All-nil}
 use Rattle.std.proofs.Common.{◌≡◌, ◌⊎◌, inl, inr, ℕ, ◌+◌, List, Option, Some, None, Result, Ok, Err, sym, ◌∙◌, add-zero}
@@ -43,7 +43,7 @@ same_by side other fault = grind (arith, common_steps, nat_tests, same_failed)
 
 module _ {R Q : Type 0} {G : Ghosts R} {H : Ghosts Q} (begin end : StreamMerger R Q G H)
     (live : IsMergerLive begin) where
-  -- the streams read from the same references, and so many reads of them failed
+  -- The streams read from the same references, and this number of their reads failed.
   pub record ReadBy (read : Result (Unit {0}) Fault) : Type 0 where
     pub same : AreSame begin end
     pub inside_count : CountsFailures begin.inside (failed_readings sides.Inside read) end.inside

@@ -1,4 +1,4 @@
--- From what left during a run to what its outputs took, and to what its log was entered.
+-- From what left during a run to what its outputs took, and to what was recorded in its log.
 use Rattle.std.proofs.lemmas.{Grind.common_steps, Bool.Decides.nat_tests, List.map-append}
 use Rattle.std.proofs.Common.{◌≡◌, ◌⊎◌, inl, inr, ℕ, Bool, List, [], ◌∷◌, ◌++◌, length, map, Option, Some, None, Result, Ok, Err, refl, sym, ◌∙◌, ap, subst, arith, append_assoc}
 use Rattle.napt_wire.specs.declared.Side.{Side}
@@ -11,18 +11,16 @@ use Rattle.napt_dispatch.specs.declared.workers.RunSummary.{RunSummary}
 use Rattle.napt_dispatch.specs.RunsThrough as passing
 use Rattle.napt_dispatch.specs.declared.faults.PassFault.TheVariants as pass_faults
 use Rattle.napt_laws.specs.Dispatching.{IsFrontOf}
-use Rattle.napt_records.specs.{NewStreams.IsMergerNew, Counts.AreCountsOf, StreamMergers.{IsMergerLive, MergeEndsWith, HandsOutInputs}, declared.Fault.Fault}
-use Rattle.napt_records.specs.declared.{Fault.TheVariants.{Capture, Run, Write}, stream_merger.StreamMerger.StreamMerger}
+use Rattle.napt_records.specs.{NewStreams.IsMergerNew, StreamMergers.{MergeEndsWith, HandsOutInputs}, declared.{Fault.{Fault, TheVariants.{Capture, Run, Write}}, Which.TheVariants.{Outside, Inside, Report, Log}}}
+use Rattle.napt_records.specs.declared.stream_merger.{StreamMerger.StreamMerger, SideFault.SideFault}
 use Rattle.napt_rules.specs.Prelude.{Arrival}
 use Rattle.napt_sequential.specs.declared.{outcome.StepResult.StepResult, passage.{Passage.Passage, Trace.Trace}}
 use Rattle.napt_sequential.proofs.JoinedSteps.{steps_long, steps_outcomes, steps_traces}
-use Rattle.napt_run.specs.{OutputSinks.{AreTimesSound, FailsToBegin, SinkTakes, TimedOutcomes}, LogRuns.{EntersFront, LogFailsOver, Legs, LogsTo, as_run, legs_told}}
-use Rattle.napt_run.specs.LoggedOutputSinks.{AreSettled, FailsEither, IsSameSinkPlace, TakesBoth, legs_in, outcomes_in}
-use Rattle.napt_run.specs.CaptureRuns.{EntersBy, EntersFirst, EntersTo, FailsAfter, FailsFirst, PassesBy, RunPassesHalted, PassesOr, RunPassesTo, passed_as}
-use Rattle.napt_run.specs.{Runs.{IfHeld, run_left_of}, Streams.AreTaken, declared.output_sinks.{Leaving.Leaving, OutputFault.OutputFault}}
-use Rattle.napt_run.specs.declared.{logged_output_sinks.{LeavingFault.{LeavingFault, TheVariants.{Output, Log}}, LeavingWithLog.LeavingWithLog}, logging.LoggingFault.LoggingFault}
-use Rattle.napt_run.{specs.declared.capture_run.Totals.Totals, proofs.{Behind.{IfHeld-by, front, taken_is, whole_is}, Fronts.outcomes_of, TraceFronts.{TraceFront, trace_front}}}
-use Rattle.napt_run.specs.declared.logging.LoggingFault.TheVariants as log_faults
+use Rattle.napt_run.specs.{OutputSinks.{FailsToBegin, SinkTakes, TimedOutcomes}, LogRuns.{EntersFront, LogFailsOver, Legs, LogsTo, legs_told}}
+use Rattle.napt_run.specs.LoggedOutputSinks.{AreSettled, FailsEither, FailsLog, FailsOutput, IsSameSinkPlace, TakesBoth, legs_in, outcomes_in}
+use Rattle.napt_run.specs.CaptureRuns.{EntersBy, EntersFirst, EntersOr, EntersTo, FailsAfter, FailsFirst, PassesBy, PassesOr, RunPassesHalted, RunPassesTo}
+use Rattle.napt_run.specs.{Posts.IsBeforeReport, Runs.{IfHeld, run_left_of}, declared.{capture_run.Totals.Totals, output_sinks.Leaving.Leaving, logged_output_sinks.LeavingWithLog.LeavingWithLog}}
+use Rattle.napt_run.proofs.{Behind.{Refuses, fault_of, front, refused_held, taken_of, whole_is}, Ends.none_held, Fronts.outcomes_of, TraceFronts.{TraceFront, trace_front}}
 
 -- WHAT LEAVES
 
@@ -73,16 +71,13 @@ module _ {P : Type 0} (tells : Passage → P) where
 
 -- A RUN
 
-module _ {P A F W V K E : Type 0} {S : sink.Ghosts W} {T : sink.Ghosts V} (tells : Passage → P) (origin : OriginModel)
+module _ {P A F W V K : Type 0} {S : sink.Ghosts W} {T : sink.Ghosts V} (tells : Passage → P) (origin : OriginModel)
     (hands : A → List Arrival → A → Type 0) (ends : A → Option F → A → Type 0)
-    (enters : K → List (Legs P) → K → Type 0) (fails : K → List (Legs P) → E → K → Type 0) (is_settled : K → Type 0)
+    (enters : K → List (Legs P) → K → Type 0) (fails : K → List (Legs P) → Fault → K → Type 0) (is_settled : K → Type 0)
     (more : (x y z : K) (xs ys : List (Legs P)) → enters x xs y → enters y ys z → enters x (xs ++ ys) z)
-    (fails_more : (x y z : K) (xs ys : List (Legs P)) (fault : E) → enters x xs y → fails y ys fault z →
+    (fails_more : (x y z : K) (xs ys : List (Legs P)) (fault : Fault) → enters x xs y → fails y ys fault z →
     fails x (xs ++ ys) fault z) (from : A) (before : LeavingWithLog W V K S T) (left : A)
     (after : LeavingWithLog W V K S T) where
-  abbrev Failed : List (ℕ × InputResult P) → LeavingFault E → Type 0
-  Failed went fault = passing.DeparturesFail (TakesBoth enters) (FailsEither enters fails) before went fault after
-
   abbrev Told : Option F → Type 0
   Told end = passing.RunThroughEnd tells origin.rules origin.state hands ends (TakesBoth enters)
       (FailsEither enters fails)
@@ -93,222 +88,288 @@ module _ {P A F W V K E : Type 0} {S : sink.Ghosts W} {T : sink.Ghosts V} (tells
       (FailsEither enters fails)
       (AreSettled is_settled) from before left after
 
-  abbrev pub RunPasses : Result RunSummary (PassFault F (LeavingFault E)) → Type 0
+  abbrev pub RunPasses : Result RunSummary (PassFault F Fault) → Type 0
   RunPasses result = passing.RunThroughPost tells origin.rules origin.state hands ends (TakesBoth enters)
       (FailsEither enters fails)
       (AreSettled is_settled) from before left after result
 
-  -- THE OUTPUTS
-
-  passes_to : (end : Option F) → Told end → RunPassesTo origin hands ends from before.leaving left after.leaving end
-  passes_to end p = grind (arith, common_steps, nat_tests, outcomes_left)
-
-  output_failed : (went : List (ℕ × InputResult P)) (fault : OutputFault) → Failed went (Output fault) →
-      FailsAfter before.leaving (outcomes_in went) fault after.leaving
-  output_failed went fault f = record {
-    first = outcomes_in f.first;
-    others = outcomes_in f.others;
-    middle = f.middle.leaving;
-    went_is = ap (λ (l : List (ℕ × InputResult P)). outcomes_in l) f.went_is
-        ∙ map-append (λ left. let t : TimedOutcomes = (left.0, left.1.outcome) in t) f.first f.others;
-    took = f.took.took;
-    failed = f.failed.failed;
-  }
-
-  -- where the log failed the outputs have what left before
-  log_failed : (inputs : List Arrival) (went : List (ℕ × InputResult P)) → HasCome hands ends from inputs left →
-      IsFrontOf went (Goes tells origin inputs) → (fault : E) → Failed went (Log fault) →
-      RunPassesHalted origin hands ends from before.leaving left after.leaving
-  log_failed inputs went come front fault f = record {
-    inputs = inputs;
-    went = outcomes_in f.first;
-    come = come;
-    front = outcomes_front tells origin inputs f.first (
-      f.others ++ front.0,
-      sym (append_assoc f.first f.others front.0)
-          ∙ (ap (λ (l : List (ℕ × InputResult P)). l ++ front.0) (sym f.went_is) ∙ front.1),
-    );
-    took = inl (subst (λ (x : Leaving W V S T). SinkTakes before.leaving (outcomes_in f.first) x) (sym f.failed.kept)
-        f.took.took);
-  }
-
-  halted_by : (p : Halted) (fault : LeavingFault E) → Failed p.went fault →
-      RunPassesHalted origin hands ends from before.leaving left after.leaving
-  halted_by p (Output fault) f = record {
-    inputs = p.inputs;
-    went = outcomes_in p.went;
-    come = p.come;
-    front = outcomes_front tells origin p.inputs p.went p.front;
-    took = inr (fault, output_failed p.went fault f);
-  }
-  halted_by p (Log fault) f = log_failed p.inputs p.went p.come p.front fault f
-
-  halted : (p : Halted) → RunPassesHalted origin hands ends from before.leaving left after.leaving
-  halted p = elim p.took [
-    | inl took ↦ record {
-      inputs = p.inputs;
-      went = outcomes_in p.went;
-      come = p.come;
-      front = outcomes_front tells origin p.inputs p.went p.front;
-      took = inl took.took;
-    }
-    | inr failed ↦ halted_by p failed.0 failed.1
-  ]
-
-  pub passes_by : (result : Result RunSummary (PassFault F (LeavingFault E))) → RunPasses result →
-      PassesBy origin hands ends from before.leaving left after.leaving result
-  unfolding passes_to ran_by
-  passes_by (Ok passed) p = record { whole = passes_to None p.whole; bindings = p.bindings; leaves = p.leaves }
-  passes_by (Err (pass_faults.Arrival fault)) p = passes_to (Some fault) p
-  passes_by (Err (pass_faults.Departure (Output fault))) p = record {
-    inputs = p.inputs;
-    went = outcomes_in p.went;
-    come = p.come;
-    front = outcomes_front tells origin p.inputs p.went p.front;
-    failed = output_failed p.went fault p.failed;
-  }
-  passes_by (Err (pass_faults.Departure (Log fault))) p = log_failed p.inputs p.went p.come p.front fault p.failed
-  passes_by (Err (pass_faults.Run fault)) p = halted p
-
-  -- THE LOG
-
   abbrev First : Type 0
   First = EntersFirst tells origin hands ends enters fails is_settled from before.log.now left after.log.now
 
-  abbrev FailedFirst : E → Type 0
+  abbrev FailedFirst : Fault → Type 0
   FailedFirst fault =
       FailsFirst tells origin hands ends enters fails is_settled from before.log.now left after.log.now fault
+
+  passes_to : (end : Option F) → Told end → RunPassesTo origin hands ends from before.leaving left after.leaving end
+  passes_to end p = grind (arith, common_steps, nat_tests, outcomes_left)
 
   enters_to : (end : Option F) → Told end →
       EntersTo tells origin hands ends enters fails is_settled from before.log.now left after.log.now end
   enters_to end p = grind (arith, common_steps, nat_tests, legs_left)
 
-  legs_join : (went first others : List (ℕ × InputResult P)) → went ≡ first ++ others →
-      legs_in first ++ legs_in others ≡ legs_in went
-  legs_join went first others is = grind (arith, common_steps, nat_tests, ℕ, map-append)
+  -- a front of what leaves left
+  module _ (inputs : List Arrival) (went : List (ℕ × InputResult P)) (come : HasCome hands ends from inputs left)
+      (front : IsFrontOf went (Goes tells origin inputs)) where
+    enters_first : enters before.log.now (legs_in went) after.log.now → First
+    enters_first entered =
+        let f : TraceFront (legs_of tells) origin inputs (legs_in went) = legs_front tells origin inputs went front in
+        record {
+          first = f.first;
+          later = f.later;
+          come = subst (λ (l : List Arrival). HasCome hands ends from l left) (sym f.whole) come;
+          entered = subst (λ (l : List (Legs P)). enters before.log.now l after.log.now) f.went_is entered;
+        }
 
-  enters_first : (inputs : List Arrival) (went : List (ℕ × InputResult P)) → HasCome hands ends from inputs left →
-      IsFrontOf went (Goes tells origin inputs) → enters before.log.now (legs_in went) after.log.now → First
-  enters_first inputs went come front entered =
-      let f : TraceFront (legs_of tells) origin inputs (legs_in went) = legs_front tells origin inputs went front in
+    -- or a fault came while it did
+    module _ (fault : Fault)
+        (f : passing.DeparturesFail (TakesBoth enters) (FailsEither enters fails) before went fault after) where
+      legs_join : legs_in f.first ++ legs_in f.others ≡ legs_in went
+      legs_join = sym (ap (λ (l : List (ℕ × InputResult P)). legs_in l) f.went_is
+          ∙ map-append (λ left. let l : Legs P = (left.1.now, left.1.first, left.1.second) in l) f.first f.others)
+
+      -- an output failed, and the log was entered all
+      output_failed : FailsOutput enters f.middle f.others fault after →
+          FailsAfter before.leaving (outcomes_in went) fault after.leaving × First
+      output_failed o = (
+        record {
+          first = outcomes_in f.first;
+          others = outcomes_in f.others;
+          middle = f.middle.leaving;
+          went_is = ap (λ (l : List (ℕ × InputResult P)). outcomes_in l) f.went_is
+              ∙ map-append (λ left. let t : TimedOutcomes = (left.0, left.1.outcome) in t) f.first f.others;
+          took = f.took.took;
+          failed = o.failed;
+        },
+        enters_first (subst (λ (l : List (Legs P)). enters before.log.now l after.log.now) legs_join
+            (more before.log.now f.middle.log.now after.log.now (legs_in f.first) (legs_in f.others) f.took.entered
+            o.entered)),
+      )
+
+      -- the log failed, and the outputs have what left before
+      log_failed : FailsLog fails f.middle f.others fault after →
+          RunPassesHalted origin hands ends from before.leaving left after.leaving × FailedFirst fault
+      log_failed l =
+          let g : TraceFront (legs_of tells) origin inputs (legs_in went) = legs_front tells origin inputs went front in (
+            record {
+              inputs = inputs;
+              went = outcomes_in f.first;
+              come = come;
+              front = outcomes_front tells origin inputs f.first (
+                f.others ++ front.0,
+                sym (append_assoc f.first f.others front.0)
+                    ∙ (ap (λ (l : List (ℕ × InputResult P)). l ++ front.0) (sym f.went_is) ∙ front.1),
+              );
+              took = inl (subst (λ (x : Leaving W V S T). SinkTakes before.leaving (outcomes_in f.first) x) (sym l.kept)
+                  f.took.took);
+            },
+            record {
+              first = g.first;
+              later = g.later;
+              come = subst (λ (l : List Arrival). HasCome hands ends from l left) (sym g.whole) come;
+              of_log = l.of_log;
+              failed = subst (λ (l : List (Legs P)). fails before.log.now l fault after.log.now) (legs_join ∙ g.went_is)
+                  (fails_more before.log.now f.middle.log.now after.log.now (legs_in f.first) (legs_in f.others) fault
+                  f.took.entered l.failed);
+            },
+          )
+
+      same_failed : IsSameSinkPlace before after
+      same_failed = elim f.failed [
+        | inl o ↦ o.same ∙ f.took.same
+        | inr l ↦ l.same ∙ f.took.same
+      ]
+
+  abbrev Both : Type 0
+  Both = RunPassesHalted origin hands ends from before.leaving left after.leaving
+      × (First ⊎ ((fault : Fault) × FailedFirst fault))
+
+  halted_by : (p : Halted) (fault : Fault)
+      (f : passing.DeparturesFail (TakesBoth enters) (FailsEither enters fails) before p.went fault after) → Both
+  halted_by p fault f = elim f.failed [
+    | inl o ↦ let both = output_failed p.inputs p.went p.come p.front fault f o in (
       record {
-        first = f.first;
-        later = f.later;
-        come = subst (λ (l : List Arrival). HasCome hands ends from l left) (sym f.whole) come;
-        entered = subst (λ (l : List (Legs P)). enters before.log.now l after.log.now) f.went_is entered;
-      }
+        inputs = p.inputs;
+        went = outcomes_in p.went;
+        come = p.come;
+        front = outcomes_front tells origin p.inputs p.went p.front;
+        took = inr (fault, both.0);
+      },
+      inl both.1,
+    )
+    | inr l ↦ let both = log_failed p.inputs p.went p.come p.front fault f l in (both.0, inr (fault, both.1))
+  ]
 
-  -- where an output failed the log was entered all
-  output_entered : (went : List (ℕ × InputResult P)) (fault : OutputFault) → Failed went (Output fault) →
-      enters before.log.now (legs_in went) after.log.now
-  output_entered went fault f = grind (arith, common_steps, nat_tests, legs_join)
-
-  fails_first : (inputs : List Arrival) (went : List (ℕ × InputResult P)) → HasCome hands ends from inputs left →
-      IsFrontOf went (Goes tells origin inputs) → (fault : E) → Failed went (Log fault) → FailedFirst fault
-  fails_first inputs went come front fault f =
-      let g : TraceFront (legs_of tells) origin inputs (legs_in went) = legs_front tells origin inputs went front in
+  halted : (p : Halted) → Both
+  halted p = elim p.took [
+    | inl took ↦ (
       record {
-        first = g.first;
-        later = g.later;
-        come = subst (λ (l : List Arrival). HasCome hands ends from l left) (sym g.whole) come;
-        failed = subst (λ (l : List (Legs P)). fails before.log.now l fault after.log.now)
-            (legs_join went f.first f.others f.went_is ∙ g.went_is)
-            (fails_more before.log.now f.middle.log.now after.log.now (legs_in f.first) (legs_in f.others) fault
-            f.took.entered f.failed.failed);
-      }
+        inputs = p.inputs;
+        went = outcomes_in p.went;
+        come = p.come;
+        front = outcomes_front tells origin p.inputs p.went p.front;
+        took = inl took.took;
+      },
+      inl (enters_first p.inputs p.went p.come p.front took.entered),
+    )
+    | inr failed ↦ halted_by p failed.0 failed.1
+  ]
 
-  enters_or_fails : (p : Halted) (fault : LeavingFault E) → Failed p.went fault →
-      First ⊎ ((fault : E) × FailedFirst fault)
-  enters_or_fails p (Output fault) f = inl (enters_first p.inputs p.went p.come p.front (output_entered p.went fault f))
-  enters_or_fails p (Log fault) f = inr (fault, fails_first p.inputs p.went p.come p.front fault f)
+  pub passes_by : (result : Result RunSummary (PassFault F Fault)) → RunPasses result →
+      PassesBy origin hands ends from before.leaving left after.leaving result
+  unfolding passes_to ran_by
+  passes_by (Ok passed) p = record { whole = passes_to None p.whole; bindings = p.bindings; leaves = p.leaves }
+  passes_by (Err (pass_faults.Arrival fault)) p = passes_to (Some fault) p
+  passes_by (Err (pass_faults.Departure fault)) p = elim p.failed.failed [
+    | inl o ↦ inl (
+      o.of_output,
+      record {
+        inputs = p.inputs;
+        went = outcomes_in p.went;
+        come = p.come;
+        front = outcomes_front tells origin p.inputs p.went p.front;
+        failed = (output_failed p.inputs p.went p.come p.front fault p.failed o).0;
+      },
+    )
+    | inr l ↦ inr (l.of_log, (log_failed p.inputs p.went p.come p.front fault p.failed l).0)
+  ]
+  passes_by (Err (pass_faults.Run fault)) p = (halted p).0
 
-  pub enters_by : (result : Result RunSummary (PassFault F (LeavingFault E))) → RunPasses result →
+  pub enters_by : (result : Result RunSummary (PassFault F Fault)) → RunPasses result →
       EntersBy tells origin hands ends enters fails is_settled from before.log.now left after.log.now result
   enters_by (Ok passed) p = enters_to None p.whole
   enters_by (Err (pass_faults.Arrival fault)) p = enters_to (Some fault) p
-  enters_by (Err (pass_faults.Departure (Output fault))) p =
-      enters_first p.inputs p.went p.come p.front (output_entered p.went fault p.failed)
-  enters_by (Err (pass_faults.Departure (Log fault))) p = fails_first p.inputs p.went p.come p.front fault p.failed
-  enters_by (Err (pass_faults.Run fault)) p = elim p.took [
-    | inl took ↦ inl (enters_first p.inputs p.went p.come p.front took.entered)
-    | inr failed ↦ enters_or_fails p failed.0 failed.1
+  enters_by (Err (pass_faults.Departure fault)) p = elim p.failed.failed [
+    | inl o ↦ inl (o.of_output, (output_failed p.inputs p.went p.come p.front fault p.failed o).1)
+    | inr l ↦ inr (log_failed p.inputs p.went p.come p.front fault p.failed l).1
   ]
+  enters_by (Err (pass_faults.Run fault)) p = (halted p).1
 
-  -- WHERE THEY ARE LEFT
+  -- WHERE THE OUTPUTS ARE LEFT
 
-  same_failed : (went : List (ℕ × InputResult P)) (fault : LeavingFault E) → Failed went fault →
-      IsSameSinkPlace before after
-  same_failed went fault f = grind (arith, common_steps, nat_tests)
-
-  pub same_place : (result : Result RunSummary (PassFault F (LeavingFault E))) → RunPasses result →
+  pub same_place : (result : Result RunSummary (PassFault F Fault)) → RunPasses result →
       IsSameSinkPlace before after
   same_place result p = grind (arith, common_steps, nat_tests, same_failed)
 
 -- OVER CAPTURES
 
-module _ {R Q W V P K E : Type 0} {G : source.Ghosts R} {H : source.Ghosts Q} {S : sink.Ghosts W} {T : sink.Ghosts V}
-    (tells : Passage → P) (enters : K → List (Legs P) → K → Type 0) (fails : K → List (Legs P) → E → K → Type 0)
+module _ {R Q W V P K : Type 0} {G : source.Ghosts R} {H : source.Ghosts Q} {S : sink.Ghosts W} {T : sink.Ghosts V}
+    (tells : Passage → P) (enters : K → List (Legs P) → K → Type 0) (fails : K → List (Legs P) → Fault → K → Type 0)
     (is_settled : K → Type 0) (open_gate : Bool) (origin : OriginModel) (from : StreamMerger R Q G H)
-    (before : Leaving W V S T) (left : StreamMerger R Q G H) (after : Leaving W V S T) (old new : K)
-    (bytes others : Option (List ℕ)) (live : IsMergerLive from)
-    (begun : (b o : List ℕ) → bytes ≡ Some b → others ≡ Some o → IsMergerNew from b o)
-    (sound : AreTimesSound before) (counts : AreCountsOf [] before.counts) where
-  held : (first later : List Arrival) → HasCome HandsOutInputs MergeEndsWith from (first ++ later) left →
-      IfHeld bytes others (λ all. IsFrontOf first all.arrivals)
-  held first later (inl handed) =
-      front open_gate origin from before left after bytes others live begun sound counts (first ++ later) first later
-      left refl handed
-  held first later (inr (end, came)) =
-      front open_gate origin from before left after bytes others live begun sound counts (first ++ later) first later
-      came.last refl came.handed
+    (before : Leaving W V S T) (left : StreamMerger R Q G H) (after : Leaving W V S T) (old new : K) where
+  abbrev By : Result RunSummary (PassFault SideFault Fault) → Type 0
+  By result = EntersBy tells origin HandsOutInputs MergeEndsWith enters fails is_settled from old left new result
 
-  enters_front : EntersFirst tells origin HandsOutInputs MergeEndsWith enters fails is_settled from old left new →
-      EntersFront tells origin enters fails is_settled bytes others old new
-  enters_front e = record { inputs = e.first; front = held e.first e.later e.come; entered = e.entered }
+  abbrev Or : Result Totals Fault → Type 0
+  Or result = EntersOr open_gate tells origin HandsOutInputs MergeEndsWith enters fails is_settled from old left new result
 
-  fails_over : (fault : E) → FailsFirst tells origin HandsOutInputs MergeEndsWith enters fails is_settled from old
-      left new fault →
-      LogFailsOver tells origin enters fails is_settled bytes others old new fault
-  fails_over fault e = record { inputs = e.first; front = held e.first e.later e.come; failed = e.failed }
+  abbrev Outputs : Result RunSummary (PassFault SideFault Fault) → Type 0
+  Outputs result = PassesBy origin HandsOutInputs MergeEndsWith from before left after result
 
-  pub logs_to : (result : Result Totals (LoggingFault E)) →
-      PassesOr open_gate origin from before left after (as_run result) →
-      EntersBy tells origin HandsOutInputs MergeEndsWith enters fails is_settled from old left new (passed_as result) →
-      LogsTo tells origin enters fails is_settled bytes others old new result
-  logs_to (Ok totals) p e = record {
-    inputs = e.inputs;
-    all = whole_is open_gate origin from before left after bytes others live begun sound counts e.inputs totals.cuts
-        e.came p.cut_inside p.cut_outside;
-    entered = e.entered;
-    settled = e.settled;
-  }
-  logs_to (Err (log_faults.Run (Capture side fault))) p e = record {
-    inputs = e.inputs;
-    taken = taken_is open_gate origin from before left after bytes others live begun sound counts side fault e.inputs
-        e.came;
-    entered = e.entered;
-    settled = e.settled;
-  }
-  logs_to (Err (log_faults.Run (Write which fault))) p e = enters_front e
-  logs_to (Err (log_faults.Run (Run fault))) p e = elim e [
-    | inl entered ↦ inl (enters_front entered)
-    | inr failed ↦ inr (failed.0, fails_over failed.0 failed.1)
-  ]
-  logs_to (Err (log_faults.Log fault)) p e = fails_over fault e
+  -- an output or the log told this fault
+  pub departed : (fault : Fault) → Outputs (Err (pass_faults.Departure fault)) → By (Err (pass_faults.Departure fault)) →
+      PassesOr origin from before left after (Err fault) × Or (Err fault)
+  departed (Write Outside fault) (inl p) (inl e) = (p.1, e.1)
+  departed (Write Outside fault) (inl p) (inr e) = absurd e.of_log
+  departed (Write Outside fault) (inr p) e = absurd p.0
+  departed (Write Inside fault) (inl p) (inl e) = (p.1, e.1)
+  departed (Write Inside fault) (inl p) (inr e) = absurd e.of_log
+  departed (Write Inside fault) (inr p) e = absurd p.0
+  departed (Write Log fault) (inl p) e = absurd p.0
+  departed (Write Log fault) (inr p) (inl e) = absurd e.0
+  departed (Write Log fault) (inr p) (inr e) = (p.1, e)
+  departed (Run fault) (inl p) e = absurd p.0
+  departed (Run fault) (inr p) (inl e) = absurd e.0
+  departed (Run fault) (inr p) (inr e) = (p.1, inr e)
+  departed (Write Report fault) (inl p) e = absurd p.0
+  departed (Write Report fault) (inr p) e = absurd p.0
+  departed (Capture side fault) (inl p) e = absurd p.0
+  departed (Capture side fault) (inr p) e = absurd p.0
 
--- BEFORE ANYTHING CAME
+  module _ (bytes others : Option (List ℕ))
+      (begun : (b o : List ℕ) → bytes ≡ Some b → others ≡ Some o → IsMergerNew from b o) where
+    held_front : (first later : List Arrival) → HasCome HandsOutInputs MergeEndsWith from (first ++ later) left →
+        IfHeld bytes others (λ all. IsFrontOf first all.arrivals)
+    held_front first later (inl handed) = front from left bytes others begun (first ++ later) first later left refl handed
+    held_front first later (inr (end, came)) =
+        front from left bytes others begun (first ++ later) first later came.last refl came.handed
 
-module _ {P K E : Type 0} (tells : Passage → P) (origin : OriginModel) (enters : K → List (Legs P) → K → Type 0)
-    (fails : K → List (Legs P) → E → K → Type 0) (is_settled : K → Type 0) (inside outside : Option (List ℕ)) (it : K)
-    (none : enters it [] it) where
+    enters_front : EntersFirst tells origin HandsOutInputs MergeEndsWith enters fails is_settled from old left new →
+        EntersFront tells origin enters fails is_settled bytes others old new
+    enters_front e = record { inputs = e.first; front = held_front e.first e.later e.come; entered = e.entered }
+
+    fails_over : (fault : Fault) → FailsFirst tells origin HandsOutInputs MergeEndsWith enters fails is_settled from old
+        left new fault →
+        LogFailsOver tells origin enters fails is_settled bytes others old new fault
+    fails_over fault e = record {
+      inputs = e.first;
+      front = held_front e.first e.later e.come;
+      of_log = e.of_log;
+      failed = e.failed;
+    }
+
+    pub logs_to : (result : Result Totals Fault) → PassesOr origin from before left after result → Or result →
+        LogsTo tells origin enters fails is_settled bytes others old new open_gate result
+    logs_to (Ok totals) p e = record {
+      inputs = e.inputs;
+      all = whole_is from left bytes others begun e.inputs totals.cuts e.came p.cut_inside p.cut_outside;
+      entered = e.entered;
+      settled = e.settled;
+    }
+    logs_to (Err (Capture side fault)) p e =
+        let refuses = refused_held from left bytes others begun side fault e.inputs e.came in
+        record {
+          inputs = e.inputs;
+          taken = taken_of side fault e.inputs bytes others refuses;
+          is_fault = fault_of side fault e.inputs bytes others refuses;
+          entered = e.entered;
+          settled = e.settled;
+        }
+    logs_to (Err (Write Outside fault)) p e = enters_front e
+    logs_to (Err (Write Inside fault)) p e = enters_front e
+    logs_to (Err (Write Report fault)) p e = absurd e
+    logs_to (Err (Write Log fault)) p e = fails_over (Write Log fault) e
+    logs_to (Err (Run fault)) p (inl (under, inl entered)) = inl (under, inl (enters_front entered))
+    logs_to (Err (Run fault)) p (inl (under, inr (other, failed))) = inl (under, inr (other, fails_over other failed))
+    logs_to (Err (Run fault)) p (inr failed) = inr (fails_over (Run fault) failed)
+
+-- BEFORE ANY INPUT
+
+module _ {P K : Type 0} (tells : Passage → P) (open_gate : Bool) (origin : OriginModel)
+    (enters : K → List (Legs P) → K → Type 0) (fails : K → List (Legs P) → Fault → K → Type 0) (is_settled : K → Type 0)
+    (inside outside : Option (List ℕ)) (it : K) (none : enters it [] it) where
+  abbrev Untouched : Fault → Type 0
+  Untouched fault = LogsTo tells origin enters fails is_settled inside outside it it open_gate (Err fault)
+
   -- the headers of the outputs could not be written
   pub unbegun_logs : {W V : Type 0} {S : sink.Ghosts W} {T : sink.Ghosts V} (old new : Leaving W V S T)
-      (fault : Fault) → FailsToBegin old fault new →
-      LogsTo tells origin enters fails is_settled inside outside it it (Err (log_faults.Run fault))
-  unbegun_logs old new fault p = grind (arith, common_steps, nat_tests, front, IfHeld-by)
+      (fault : Fault) → FailsToBegin old fault new → Untouched fault
+  unbegun_logs old new (Write Outside fault) p =
+      record { inputs = []; front = none_held inside outside; entered = none }
+  unbegun_logs old new (Write Inside fault) p = record { inputs = []; front = none_held inside outside; entered = none }
+  unbegun_logs old new (Write Report fault) p = absurd p
+  unbegun_logs old new (Write Log fault) p = absurd p
+  unbegun_logs old new (Capture side fault) p = absurd p
+  unbegun_logs old new (Run fault) p = absurd p
 
-  -- a header of a capture was refused
+  -- A header of a capture was refused.
   pub unread_logs : is_settled it → (side : Side) (fault : CaptureFault) →
-      IfHeld inside outside (λ all. AreTaken side fault all []) →
-      LogsTo tells origin enters fails is_settled inside outside it it (Err (log_faults.Run (Capture side fault)))
-  unread_logs settled side fault taken = grind (arith, common_steps, nat_tests)
+      IfHeld inside outside (λ all. Refuses side fault all []) → Untouched (Capture side fault)
+  unread_logs settled side fault refuses = record {
+    inputs = [];
+    taken = taken_of side fault [] inside outside refuses;
+    is_fault = fault_of side fault [] inside outside refuses;
+    entered = none;
+    settled = settled;
+  }
+
+-- the report is not written yet
+pub before_report : {P K : Type 0} (tells : Passage → P) (open_gate : Bool) (origin : OriginModel)
+    (enters : K → List (Legs P) → K → Type 0) (fails : K → List (Legs P) → Fault → K → Type 0) (is_settled : K → Type 0)
+    (inside outside : Option (List ℕ)) (old new : K) (fault : Fault) →
+    LogsTo tells origin enters fails is_settled inside outside old new open_gate (Err fault) → IsBeforeReport fault
+before_report tells open_gate origin enters fails is_settled inside outside old new (Write Report fault) p = absurd p
+before_report tells open_gate origin enters fails is_settled inside outside old new (Write Outside fault) p = tt
+before_report tells open_gate origin enters fails is_settled inside outside old new (Write Inside fault) p = tt
+before_report tells open_gate origin enters fails is_settled inside outside old new (Write Log fault) p = tt
+before_report tells open_gate origin enters fails is_settled inside outside old new (Capture side fault) p = tt
+before_report tells open_gate origin enters fails is_settled inside outside old new (Run fault) p = tt

@@ -1,4 +1,4 @@
--- A fault behind what was written.
+-- A fault after what was written.
 use Rattle.std.proofs.Common.{◌≡◌, ℕ, ◌≤◌, List, [], length, Result, Ok, Err, IfErr, false, subst, arith, append-nil}
 use Rattle.napt_capture.specs.declared.{device.Sink.Ghosts, fault.WriteFault.WriteFault}
 use Rattle.napt_run.specs.{OutputSinkLaws.breaks_more, Outputs.{OutputGrows, Breaks}, declared.output.Output.Output}
@@ -9,7 +9,7 @@ module _ {W : Type 0} {S : Ghosts W} where
   unfolding breaks_more
   first_within x y z first second fault one two = omega arith
 
-  -- a flush failed behind a text
+  -- A flush failed after a text.
   pub flush_breaks : (x y z : Output W S) (text : List ℕ) (r : Result (Unit {0}) WriteFault) →
       OutputGrows x text y → IfErr r (λ fault. y.is_broken ≡ false → Breaks y [] fault z) →
       IfErr r (λ fault. x.is_broken ≡ false → Breaks x text fault z)

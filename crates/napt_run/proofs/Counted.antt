@@ -6,7 +6,7 @@ use Rattle.napt_records.specs.Counts.{AreCountsOf}
 use Rattle.napt_rules.specs.{Prelude.{Arrival}, declared.Outcome.Outcome}
 use Rattle.napt_run.{specs.{OutputSinks.{SinkTakes, TimedOutcomes}, Runs.run_left_of, declared.output_sinks.Leaving.Leaving}, proofs.Fronts.{as_many, outcomes_back}}
 
--- all outcomes of a run that left
+-- All outcomes of a run left.
 pub all_counted : {W V : Type 0} {S : Ghosts W} {T : Ghosts V} (origin : OriginModel) (inputs : List Arrival)
     (old new : Leaving W V S T) → AreCountsOf [] old.counts → length inputs < 2 ^ 64 →
     SinkTakes old (run_left_of origin inputs) new → AreCountsOf (ran_by origin inputs).outcomes new.counts

@@ -1,33 +1,17 @@
--- What a run comes to at its report.
+-- How a run ends with its report.
 use native.Mathlib.Omega.{arith}
 use Rattle.std.proofs.lemmas.{Grind.common_steps, Bool.Decides.nat_tests}
-use Rattle.std.proofs.Common.{◌≡◌, ◌⊎◌, ℕ, ◌+◌, Bool, true, false, append-nil, List, Option, Result, Ok, Err, IfErr, refl, subst}
+use Rattle.std.proofs.Common.{◌≡◌, ◌∙◌, ℕ, ◌+◌, List, Option, Result, Ok, Err, ap, refl, subst}
 use Rattle.napt_capture.specs.declared.device.Sink.{Ghosts}
 use Rattle.napt_run.specs.Origins.{OriginModel, ran_by}
-use Rattle.napt_records.specs.{Counts.AreCountsOf, Report.{report_of, report_text}, declared.{Fault.{Fault, TheVariants.{Run, Write}}, Which.Which}}
-use Rattle.napt_records.specs.{declared.Which.TheVariants.{Report}, Faults.is_shut_gate_fault}
+use Rattle.napt_records.specs.{Counts.AreCountsOf, Report.{report_of, report_text}, declared.{Fault.{Fault, TheVariants.{Capture, Run, Write}}}}
+use Rattle.napt_records.specs.declared.Which.TheVariants.{Outside, Inside, Report, Log}
+use Rattle.napt_wire.specs.declared.Side.TheVariants as sides
 use Rattle.napt_rules.specs.{Prelude.{Arrival}, declared.Outcome.Outcome}
-use Rattle.napt_run.specs.{Captures.failed_writings, Posts.IsBeforeReport, Runs.{IfHeld, IsToldOf}}
-use Rattle.napt_run.specs.Streams.{GetsReport, HasAll, HasPart, HasText, IsReportFault, IsStopFault, LeavesInTheEnd, ReportGetsFrom, Reports, ReportsAll}
-use Rattle.napt_run.{specs.declared.capture_run.Totals.Totals, proofs.Streamed.{IfHeld-all, IfHeld-map}}
+use Rattle.napt_run.specs.{Captures.{failed_readings, failed_writings}, LogLaws.held, Posts.IsBeforeReport, Runs.{IfHeld, IsToldOf}}
+use Rattle.napt_run.specs.Streams.{GetsReport, HasRead, IsOfRun, IsReportFault, LeavesInTheEnd, ReportGetsFrom, Reports, ReportsAll}
+use Rattle.napt_run.{specs.declared.capture_run.Totals.Totals, proofs.Ends.IfHeld-all}
 use Rattle.napt_sequential.specs.declared.fault.RunFault.TheVariants as faults
-
--- all of the text, where no report could be made of it
-pub all_left : (origin : OriginModel) (which : Which) (inside outside : Option (List ℕ)) (old new : Option (List ℕ)) →
-    IfHeld inside outside (λ all. HasAll origin which all old new) →
-    IfHeld inside outside (λ all. HasText origin which all old new ⊎ HasPart origin which all old new)
-all_left origin which inside outside old new p = grind (arith, common_steps, nat_tests, IfHeld-map, append-nil)
-
-pub gate_of : (open_gate : Bool) (fault : Fault) → open_gate ≡ true → IsStopFault open_gate fault →
-    is_shut_gate_fault fault ≡ false
-gate_of open_gate fault is p = grind (arith, common_steps, nat_tests)
-
-closed_fault : (open_gate : Bool) (fault : Fault) → IsStopFault open_gate fault → IsBeforeReport fault
-closed_fault open_gate fault p = grind (arith, common_steps, nat_tests)
-
-pub closed : (open_gate : Bool) (told : Result Totals Fault) → IfErr told (IsStopFault open_gate) →
-    IfErr told IsBeforeReport
-closed open_gate told p = grind (arith, common_steps, nat_tests, closed_fault)
 
 -- THE REPORT
 
@@ -46,7 +30,7 @@ all_reported : (origin : OriginModel) (inside outside : Option (List ℕ)) (old 
     (totals : Totals) (result : Result (Unit {0}) Fault) → IsToldOf origin inside outside totals →
     Written totals result old new → IfHeld inside outside (λ all. ReportsAll origin result all old new)
 all_reported origin inside outside old new totals result told written =
-    IfHeld-map (λ all. all ≡ record { arrivals = told.inputs; end = Ok totals.cuts })
+    held (λ all. all ≡ record { arrivals = told.inputs; end = Ok totals.cuts })
     (λ all. ReportsAll origin result all old new) inside outside (λ all is. rw is (
       totals.cuts,
       refl,
@@ -72,7 +56,7 @@ none_written : (fault : Fault) → IsBeforeReport fault →
 none_written fault p = grind (arith, common_steps, nat_tests)
 
 module _ {U : Type 0} (S : Ghosts U) (origin : OriginModel) (inside outside : Option (List ℕ)) where
-  -- it was not begun
+  -- The report was not begun.
   pub report_unbegun : (report : U) (fault : Fault) → IsBeforeReport fault →
       ReportGetsFrom S origin inside outside (Err fault) report report
   report_unbegun report fault stop = record {
@@ -82,7 +66,7 @@ module _ {U : Type 0} (S : Ghosts U) (origin : OriginModel) (inside outside : Op
   }
 
   module _ (old new : U) (totals : Totals) (told : IsToldOf origin inside outside totals) where
-    -- it could not be made or written
+    -- The report could not be made or written.
     pub report_failed : (fault : Fault) → IsReportFault fault →
         Written totals (Err fault) (S.contents old) (S.contents new) →
         (let r : Result (Unit {0}) Fault = Err fault in S.failed new ≡ S.failed old + failed_writings Report r) →
@@ -93,7 +77,7 @@ module _ {U : Type 0} (S : Ghosts U) (origin : OriginModel) (inside outside : Op
       settled = tt;
     }
 
-    -- it was written
+    -- The report was written.
     pub report_written : Written totals (Ok tt) (S.contents old) (S.contents new) → S.failed new ≡ S.failed old + 0 →
         S.is_flushed new → ReportGetsFrom S origin inside outside (Ok tt) old new
     report_written written counted flushed = record {
@@ -102,7 +86,27 @@ module _ {U : Type 0} (S : Ghosts U) (origin : OriginModel) (inside outside : Op
       settled = flushed;
     }
 
--- what gives the state that is left
+-- The value that gives the state that is left.
 pub left_told : (origin : OriginModel) (inside outside : Option (List ℕ)) (totals : Totals) →
     IsToldOf origin inside outside totals → LeavesInTheEnd origin inside outside totals.passed
-left_told origin inside outside totals told = grind (arith, common_steps, nat_tests, IfHeld-map)
+left_told origin inside outside totals told = grind (arith, common_steps, nat_tests, held)
+
+-- where the report failed as many reads failed as before
+pub reads_after : {R Q : Type 0} (of : R → ℕ) (if : Q → ℕ) (old new : R) (other last : Q) (fault : Fault) →
+    IsReportFault fault → ((let r : Result (Unit {0}) Fault = Ok tt in (¬ IsOfRun r) →
+    HasRead of if old new other last r)) → (let r : Result (Unit {0}) Fault = Err fault in (¬ IsOfRun r) →
+    HasRead of if old new other last r)
+reads_after of if old new other last (Write Report fault) report reads none =
+    let (read, is, ours, theirs) = reads (λ run. run) in (
+      Err (Write Report fault),
+      refl,
+      ours ∙ ap (λ (r : Result (Unit {0}) Fault). of old + failed_readings sides.Inside r) is,
+      theirs ∙ ap (λ (r : Result (Unit {0}) Fault). if other + failed_readings sides.Outside r) is,
+    )
+reads_after of if old new other last (Run faults.Memory) report reads none = absurd (none tt)
+reads_after of if old new other last (Run faults.TooMany) report reads none = absurd report
+reads_after of if old new other last (Run (faults.Pool fault)) report reads none = absurd report
+reads_after of if old new other last (Capture side fault) report reads none = absurd report
+reads_after of if old new other last (Write Outside fault) report reads none = absurd report
+reads_after of if old new other last (Write Inside fault) report reads none = absurd report
+reads_after of if old new other last (Write Log fault) report reads none = absurd report

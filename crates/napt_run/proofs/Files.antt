@@ -1,4 +1,4 @@
--- What two files give, behind their headers.
+-- The inputs of two files, after their headers.
 use native.Mathlib.Omega.{arith}
 use Rattle.std.proofs.{lemmas.{Grind.common_steps, Bool.Decides.nat_tests}, Common.{◌≡◌, ℕ, List, take, drop, Option, None, Some, Result, Err, ap}}
 use Rattle.napt_wire.specs.declared.Side.{Side, TheVariants.{Inside, Outside}}
@@ -8,7 +8,7 @@ use Rattle.napt_records.specs.{NewStreams.IsMergerNew, MergeLaws.held_of, Record
 use Rattle.napt_records.{specs.declared.stream_merger.StreamMerger.StreamMerger, proofs.Merges.merge_meets}
 use Rattle.napt_run.specs.Files.{files_until, unless_bad, unless_refused}
 
--- a header that was read of known bytes
+-- A header that was read of known bytes.
 pub spelled : (bytes : List ℕ) (left : Option (List ℕ)) (r : Result CaptureFormat CaptureFault) →
     LeavesBytes (Some bytes) left (λ bytes left. (format_in (take 24 bytes) ≡ r) × (left ≡ drop 24 bytes))
     → format_in (take 24 bytes) ≡ r

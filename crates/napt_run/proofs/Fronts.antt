@@ -1,4 +1,4 @@
--- What leaves of a front of the inputs is a front of what leaves.
+-- The outcomes of a prefix of the inputs are a prefix of the outcomes.
 use Rattle.std.proofs.{lemmas.{Grind.common_steps, Bool.Decides.nat_tests, List.{length-take-le, take-append-drop}}, Math.Seq.take-append_seam}
 use Rattle.std.proofs.Common.{◌≡◌, suc, ◌≤◌, List, [], ◌∷◌, ◌++◌, length, map, take, drop, All, filter_map, flat_map, refl, sym, ◌∙◌, ap, arith, length-append}
 use Rattle.std.proofs.lemmas.List.Elements.{All-head, All-tail, All-nil, All-cons}
@@ -71,7 +71,7 @@ timed_long (input ∷ inputs) (outcome ∷ outcomes) same = ap suc (timed_long i
 left_long : (origin : OriginModel) (inputs : List Arrival) → length (run_left_of origin inputs) ≡ length inputs
 left_long origin inputs = timed_long inputs (ran_by origin inputs).outcomes (as_many origin inputs)
 
--- FRONTS
+-- PREFIXES
 
 timed_append : (xs ys : List Arrival) (os ps : List Outcome) → length os ≡ length xs →
     timed_results (xs ++ ys) (os ++ ps)
@@ -101,7 +101,7 @@ pub same_front : {X : Type 0} (a b x y : List X) → length a ≡ length b → a
 same_front a b x y n e = sym (take-append_seam a x) ∙ ap (take (length a)) e ∙ ap (λ k. take k (b ++ y)) n
     ∙ take-append_seam b y
 
--- the inputs of which these left
+-- The inputs whose outcomes left.
 pub record Front (origin : OriginModel) (inputs : List Arrival) (went : List TimedOutcomes) : Type 0 where
   pub first : List Arrival
   pub later : List Arrival

@@ -1,25 +1,23 @@
 -- A header of a capture that is refused, or could not be read.
-use Rattle.std.proofs.Common.{◌≡◌, ◌∙◌, ℕ, ◌+◌, Bool, List, [], take, drop, Option, Some, Result, Ok, Err, refl, sym, ap, subst, arith}
+use Rattle.std.proofs.Common.{◌≡◌, ◌∙◌, ℕ, ◌+◌, List, [], take, drop, Option, Some, Result, Ok, Err, refl, ap, subst, arith}
 use Rattle.napt_wire.specs.declared.Side.{Side}
 use Rattle.napt_wire.specs.declared.Side.TheVariants as sides
-use Rattle.napt_capture.specs.declared.{device.Sink.Ghosts, fault.CaptureFault.CaptureFault, capture_format.CaptureFormat.CaptureFormat, record_reader.RecordReader.RecordReader}
+use Rattle.napt_capture.specs.declared.{fault.CaptureFault.CaptureFault, capture_format.CaptureFormat.CaptureFormat, record_reader.RecordReader.RecordReader}
 use Rattle.napt_capture.specs.{Capture.{capture_of_bytes, format_in}, Reading.{LeavesBytes, IsReadResult, IsReadFault}}
-use Rattle.napt_run.specs.Origins.{OriginModel}
 use Rattle.napt_records.{specs.{RecordMerging.{MergedInputs, at_fault, inputs_until}, declared.Fault.{Fault, TheVariants.{Capture, Run, Write}}}, proofs.ReaderRests.StopsBy-says}
-use Rattle.napt_run.specs.{Files.{files_until, unless_bad, unless_refused}, OutputSinks.IsSettled, OutputSinkLaws.grows_none, Runs.{IfHeld, RunsTo, RunsToFault}}
-use Rattle.napt_run.{specs.{Streams.{AreTaken, IsStreamFaultOf, IsHeaderFault}, declared.output_sinks.Leaving.Leaving}, proofs.Behind.{IfHeld-by, refuses}}
-use Rattle.napt_run.proofs.Files.{spelled}
+use Rattle.napt_run.specs.{Files.{files_until, unless_bad, unless_refused}, Runs.IfHeld, Streams.IsHeaderFault}
+use Rattle.napt_run.proofs.{Behind.{Refuses, refuses}, Ends.IfHeld-by, Files.spelled}
 
--- a header of these bytes was read to this answer
+-- Reading a header of these bytes had this answer.
 abbrev pub Heads : Option (List ℕ) → Option (List ℕ) → Result CaptureFormat CaptureFault → Type 0
 Heads known left r = LeavesBytes known left (λ bytes left. (format_in (take 24 bytes) ≡ r) × (left ≡ drop 24 bytes))
 
--- and has this fault, unless the device or memory failed
+-- The header has this fault, unless the device or memory failed.
 abbrev pub HeadsBadly : Option (List ℕ) → Option (List ℕ) → CaptureFault → Type 0
 HeadsBadly known left fault = let answer : Result RecordReader CaptureFault = Err fault in
     IsReadResult answer (Heads known left (Err fault))
 
--- nothing is handed out of the files, where both are known
+-- No input is handed out of the files, if both are known.
 abbrev pub EndsAtHeader : Side → CaptureFault → Option (List ℕ) → Option (List ℕ) → Type 0
 EndsAtHeader side fault inside outside = (b o : List ℕ) → inside ≡ Some b → outside ≡ Some o →
     IsReadFault fault (files_until b o ≡ at_fault side fault)
@@ -34,7 +32,7 @@ inside_refused inside left outside fault heads b o is same =
     ap (λ r. unless_bad sides.Inside r (unless_refused sides.Outside o (all_of b o))) (spelled b left (Err fault) p))
     (subst (λ (k : Option (List ℕ)). HeadsBadly k left fault) is heads)
 
--- the header of the inside capture is good then
+-- The header of the inside capture is then right.
 pub outside_refused : (inside left known other : Option (List ℕ)) (spelling : CaptureFormat) (fault : CaptureFault) →
     Heads inside left (Ok spelling) → HeadsBadly known other fault → EndsAtHeader sides.Outside fault inside known
 outside_refused inside left known other spelling fault good bad b o is same =
@@ -45,31 +43,10 @@ outside_refused inside left known other spelling fault good bad b o is same =
     (subst (λ (k : Option (List ℕ)). HeadsBadly k other fault) same bad)
 
 pub none_taken : (inside outside : Option (List ℕ)) (side : Side) (fault : CaptureFault) →
-    EndsAtHeader side fault inside outside → IfHeld inside outside (λ all. AreTaken side fault all [])
+    EndsAtHeader side fault inside outside → IfHeld inside outside (λ all. Refuses side fault all [])
 none_taken inside outside side fault ends =
-    IfHeld-by (λ all. AreTaken side fault all []) inside outside (λ b o is same.
-    (refuses side fault b o [] ((files_until b o).arrivals, refl) (ends b o is same)).taken)
-
-module _ {W V : Type 0} {S : Ghosts W} {T : Ghosts V} (open_gate : Bool) (origin : OriginModel)
-    (inside outside : Option (List ℕ)) (old : Leaving W V S T) (settled : IsSettled old) where
-  header_fails : (side : Side) (fault : CaptureFault) → EndsAtHeader side fault inside outside →
-      RunsToFault open_gate origin inside outside [] old old side fault
-  header_fails side fault ends = record {
-    inputs = [];
-    wrote = record { to_outside = grows_none old.to_outside; to_inside = grows_none old.to_inside; settled = settled };
-    taken = none_taken inside outside side fault ends;
-    is_fault = IfHeld-by (IsStreamFaultOf side fault) inside outside (λ b o is same.
-        (refuses side fault b o [] ((files_until b o).arrivals, refl) (ends b o is same)).is_fault);
-  }
-
-  pub header_failed : (side : Side) (fault : Fault) (known left : Option (List ℕ)) →
-      ((inner : CaptureFault) → HeadsBadly known left inner → EndsAtHeader side inner inside outside) →
-      IsHeaderFault side known left fault → RunsTo open_gate origin inside outside [] old old (Err fault)
-  header_failed side (Capture other fault) known left ends is =
-      subst (λ (s : Side). RunsToFault open_gate origin inside outside []
-      old old s fault) (sym is.0) (header_fails side fault (ends fault is.1))
-  header_failed side (Run fault) known left ends is = absurd is
-  header_failed side (Write which fault) known left ends is = absurd is
+    IfHeld-by (λ all. Refuses side fault all []) inside outside (λ b o is same.
+    refuses side fault b o [] ((files_until b o).arrivals, refl) (ends b o is same))
 
 -- FAILED READS
 
@@ -79,6 +56,6 @@ header_of side (Capture other fault) old new is = (fault, ap (λ (s : Side). Cap
 header_of side (Run fault) old new is = absurd is
 header_of side (Write which fault) old new is = absurd is
 
--- behind a header that was read
+-- The failed reads after a header that was read.
 pub more_after : (old mid new more : ℕ) → mid ≡ old + 0 → new ≡ mid + more → new ≡ old + more
 more_after old mid new more none is = omega (arith, none, is)

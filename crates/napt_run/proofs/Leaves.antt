@@ -1,4 +1,4 @@
--- What leaving does to the outputs.
+-- What an outcome that leaves does to the outputs.
 use Rattle.std.{proofs.lemmas.{Grind.common_steps, Bool.Decides.nat_tests, List.Elements.All-head}, specs.Prelude.MatchResult}
 use Rattle.std.proofs.Common.{◌≡◌, ℕ, ◌-◌, ◌^◌, ◌<◌, List, [], ◌∷◌, ◌++◌, length, Result, IfErr, OnOk, false, sym, subst, arith, append-nil, length-append}
 use Rattle.napt_capture.specs.{Text.{entry_of_packet, record_text}, declared.{device.Sink.Ghosts, fault.WriteFault.WriteFault}}
@@ -9,7 +9,7 @@ use Rattle.napt_run.specs.{Outputs.{OutputGrows, Breaks}, OutputSinks.{AreTimes,
 time_of_one : (time : ℕ) (outcome : Outcome) → AreTimes ((time, outcome) ∷ []) → IsTime time
 time_of_one time outcome all = All-head (λ timed. IsTime timed.0) (time, outcome) [] all
 
--- one outcome more was counted
+-- One more outcome was counted.
 abbrev Counted : OutcomeCounts → Outcome → OutcomeCounts → Type 0
 Counted old outcome new = (outcomes : List Outcome) → length outcomes < 2 ^ 64 - 1 → AreCountsOf outcomes old →
     AreCountsOf (outcomes ++ outcome ∷ []) new
@@ -18,7 +18,7 @@ fewer : (outcomes : List Outcome) (outcome : Outcome) → length (outcomes ++ ou
     length outcomes < 2 ^ 64 - 1
 fewer outcomes outcome few = omega (arith, few, length-append outcomes (outcome ∷ []))
 
--- of a record that is the only one, or of a front of it
+-- The text of a single record, or a prefix of it.
 module _ {W : Type 0} {S : Ghosts W} (old new : Output W S) where
   grows_one : (text : List ℕ) → OutputGrows old text new → OutputGrows old (text ++ []) new
   grows_one text p = subst (λ (l : List ℕ). OutputGrows old l new) (sym (append-nil text)) p
@@ -27,7 +27,7 @@ module _ {W : Type 0} {S : Ghosts W} (old new : Output W S) where
   breaks_one text fault p = subst (λ (l : List ℕ). Breaks old l fault new) (sym (append-nil text)) p
 
 module _ {W V : Type 0} {S : Ghosts W} {T : Ghosts V} (time : ℕ) (packet : List ℕ) (old : Leaving W V S T) where
-  -- a packet to the outside
+  -- A packet to the outside.
   pub leaves_outside : (output : Output W S) (counts : OutcomeCounts) (r : Result (Unit {0}) WriteFault) →
       (IsTime time → OnOk r (OutputGrows old.to_outside (record_text (entry_of_packet time packet)) output)) →
       (IsTime time → IfErr r (λ fault. old.to_outside.is_broken ≡ false →
@@ -40,7 +40,7 @@ module _ {W V : Type 0} {S : Ghosts W} {T : Ghosts V} (time : ℕ) (packet : Lis
   leaves_outside output counts r ok err counted =
       grind (arith, common_steps, nat_tests, grows_one, time_of_one, fewer, breaks_one)
 
-  -- a packet to the inside
+  -- A packet to the inside.
   pub leaves_inside : (output : Output V T) (counts : OutcomeCounts) (r : Result (Unit {0}) WriteFault) →
       (IsTime time → OnOk r (OutputGrows old.to_inside (record_text (entry_of_packet time packet)) output)) →
       (IsTime time → IfErr r (λ fault. old.to_inside.is_broken ≡ false →

@@ -1,4 +1,5 @@
 pub mod Received
+pub mod JoinedTexts
 pub mod Pieces
 pub mod Counted
 pub mod PassesAll
@@ -11,12 +12,10 @@ pub mod Behind
 pub mod BothPassed
 pub mod Begun
 pub mod Headers
-pub mod Headed
-pub mod Streamed
+pub mod Ends
 pub mod Endings
 pub mod LogTaken
 pub mod Logged
 pub mod Outputs
 pub mod Leaves
 pub mod SameAsCaptures
-pub mod Posts

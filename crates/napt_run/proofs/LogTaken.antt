@@ -1,4 +1,4 @@
--- A log as it is taken up. Before any input it is that of a run that begins anew.
+-- A log as it is taken up. Before any input it is that of a new run.
 use Rattle.std.proofs.{Common.{◌≡◌, ℕ, Bool, true, string_bytes, lit<, List, [], false, Option, None, refl, sym, ◌∙◌, ap, ap₂, subst, append-nil}}
 use Rattle.std.specs.{Prelude.option_map, Int.NonZero.non_zero_u32_get}
 use Rattle.napt_config.specs.Rules.{Rules}
@@ -7,7 +7,7 @@ use Rattle.napt_account.specs.{Log.LogModel, LogBuilders.LogBuilderModel, LogSta
 use Rattle.napt_log_text.specs.{Logs.{LogOrigin, first_part, first_text, log_so_far, log_text, rows_from}, Times.TimeText}
 use Rattle.napt_capture.specs.declared.device.Sink.{Ghosts}
 use Rattle.napt_run.specs.LogOrigins.{IsTakenAs, LogTexts, LoggedOrigin, ending, log_origin, origin_saved, text_so_far, texts_anew, texts_from, texts_of, whole_text}
-use Rattle.napt_run.specs.{Origins.{OriginModel, origin_of}, RunningLogs.{IsReady, running_log_of}, declared.{start.Start.Start, running_log.RunningLog.RunningLog}}
+use Rattle.napt_run.specs.{Origins.{OriginModel, origin_of}, RunningLogs.{AreLaws, IsReady}, declared.{start.Start.Start, log_writer.LogWriter.LogWriter}}
 use Rattle.napt_run.specs.declared.log_start.{LogStart.LogStart, TakenLog.TakenLog}
 
 -- BEFORE ANY INPUT
@@ -17,7 +17,7 @@ module _ (rules : Rules) where
   texts_at state origin =
       record { so_far = log_so_far rules state origin None; whole = log_text rules state origin None false }
 
-  -- a log that is not there yet, and is told first
+  -- A log without entries, which gets the redirects first.
   abbrev told_anew : LogModel → LogOrigin
   told_anew log =
       let none : LogModel = record { made = 0; entries = []; shortages = [] } in
@@ -40,7 +40,7 @@ texts_begin begin rules items saved empty none =
     texts_at rules (with_redirects rules state) (origin_saved rules state kept true)) empty none
     ∙ texts_of_none rules begin
 
--- THE TEXTS OF ONE THAT GOES ON
+-- THE TEXTS OF A LOG THAT GOES ON
 
 pub texts_go_on : (origin : OriginModel) (log : LogOrigin) (each : Option ℕ) (goes_on : Bool) → texts_of (record {
   origin = origin;
@@ -66,37 +66,43 @@ same_origin : (origin : OriginModel) (a b : TimeText) (log other : LogModel) (ea
     } in f) ≡ record { origin = origin; opening = b; log = other; each = same; goes_on = also }
 same_origin origin a b log other each same goes_on also text kept pieces goes = cc
 
-module _ {L : Type 0} {S : Ghosts L} (start : Start) (log_start : LogStart) (taken : TakenLog)
-    (is_taken : IsTakenAs start log_start taken) where
-  pub log_of : (it : RunningLog L S) → it.log ≡ taken.log → it.log.log ≡ (log_origin start log_start).log
-  log_of it is = ap (λ (l : LogBuilderModel). l.log) (is ∙ is_taken.known)
+module _ (start : Start) (log_start : LogStart) (taken : TakenLog) (is_taken : IsTakenAs start log_start taken) where
+  pub log_of : taken.log.log ≡ (log_origin start log_start).log
+  log_of = ap (λ (l : LogBuilderModel). l.log) is_taken.known
 
-  pub ready : (it : RunningLog L S) → it.log ≡ taken.log → it.output.is_broken ≡ false → it.output.written ≡ 0 →
+  pub ready : {L : Type 0} {S : Ghosts L} →
+      ((log : LogModel) → IsLogOf start.config.now (origin_of start).state log → AreLaws (origin_of start) log) →
+      (it : LogWriter L S) → it.log ≡ taken.log → it.output.is_broken ≡ false → it.output.written ≡ 0 →
       IsReady (origin_of start) it
-  ready it is sound written = record {
-    at = record {
-      log = is ∙ (is_taken.known ∙ ap (λ (log : LogModel). let l : LogBuilderModel = record {
-        rules = start.config.now;
-        clock = start.state.now.clock;
-        log = log;
-        taken = 0;
-        is_stopped = false;
-      } in l) (sym (log_of it is)));
-      few = lit< tt;
-      sound = sound;
-      each = refl;
-      goes_on = refl;
-    };
-    of = subst (IsLogOf start.config.now (origin_of start).state) (sym (log_of it is)) is_taken.of;
-    written = written;
-  }
+  ready laws it is sound written =
+      let same : it.log.log ≡ (log_origin start log_start).log = ap (λ (l : LogBuilderModel). l.log) is ∙ log_of in
+      record {
+        at = record {
+          log = is ∙ (is_taken.known ∙ ap (λ (log : LogModel). let l : LogBuilderModel = record {
+            rules = start.config.now;
+            clock = start.state.now.clock;
+            log = log;
+            taken = 0;
+            is_stopped = false;
+          } in l) (sym same));
+          few = lit< tt;
+          sound = sound;
+          each = refl;
+          goes_on = refl;
+        };
+        laws = laws it.log.log (subst (IsLogOf start.config.now (origin_of start).state) (sym same) is_taken.of);
+        written = written;
+      }
 
   -- its texts are those that are promised
-  pub texts_taken : (it : RunningLog L S) → it.log ≡ taken.log → string_bytes it.opening ≡ string_bytes taken.opening →
-      it.each ≡ log_start.each → it.goes_on ≡ log_start.goes_on →
-      texts_of (running_log_of (origin_of start) it) ≡ texts_from start log_start
-  texts_taken it is opens each goes =
-      ap texts_of (same_origin (origin_of start) _ _ _ _ _ _ _ _ (opens ∙ is_taken.opening) (log_of it is)
-      (ap (option_map non_zero_u32_get) each) goes)
+  pub texts_taken : texts_of (record {
+    origin = origin_of start;
+    opening = string_bytes taken.opening;
+    log = taken.log.log;
+    each = option_map non_zero_u32_get log_start.each;
+    goes_on = log_start.goes_on;
+  }) ≡ texts_from start log_start
+  texts_taken =
+      ap texts_of (same_origin (origin_of start) _ _ _ _ _ _ _ _ is_taken.opening log_of refl refl)
       ∙ texts_go_on (origin_of start) (log_origin start log_start) (option_map non_zero_u32_get log_start.each)
       log_start.goes_on

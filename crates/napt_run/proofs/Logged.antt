@@ -1,28 +1,23 @@
--- What a run with a log leaves on its devices.
+-- What a run leaves in its log.
 use Rattle.std.proofs.lemmas.{Grind.common_steps, Bool.Decides.nat_tests}
 use Rattle.std.specs.Prelude.{if◌then◌else◌}
-use Rattle.std.proofs.Common.{◌≡◌, ◌⊎◌, inl, inr, ℕ, ◌+◌, ◌^◌, ◌<◌, ◌≤◌, max, Bool, true, List, [], ◌∷◌, ◌++◌, length, map, take, Option, Result, Ok, Err, IfErr, refl, sym, ◌∙◌, ap, subst, arith, append-nil, append_assoc, length-append}
-use Rattle.std.{proofs.{lemmas.List.take-append-le, Math.Seq.take-append_seam, KnownBytes.Appends-trans}, specs.Io.KnownBytes.Appends}
+use Rattle.std.proofs.Common.{◌≡◌, ◌⊎◌, inl, inr, ℕ, ◌+◌, ◌-◌, ◌^◌, ◌<◌, ◌≤◌, max, min, Bool, true, false, List, [], ◌∷◌, ◌++◌, length, map, take, Option, Result, Ok, Err, IfErr, IfOk, IsOk, OnOk, string_bytes, refl, sym, ◌∙◌, ap, subst, arith, append-nil, append_assoc, length-append}
+use Rattle.std.{proofs.{lemmas.List.take-append-le, KnownBytes.Appends-trans}, specs.Io.KnownBytes.Appends}
 use Rattle.napt_wire.specs.declared.Side.{Side}
 use Rattle.napt_capture.specs.declared.{device.Sink.Ghosts, fault.{CaptureFault.CaptureFault, WriteFault.WriteFault}}
+use Rattle.napt_dispatch.specs.Dispatch.{IsFaultUnder}
 use Rattle.napt_laws.specs.Dispatching.{IsFrontOf}
 use Rattle.napt_account.specs.{Effects.{IsNext, log_after}, Log.{LogModel, log_on}, LogParts.{in_order_of_end, kept_at}, ResumedLogRuns.left_of}
 use Rattle.napt_log_text.specs.{Logs.{living_rows, rows_from}, Times.TimeText}
-use Rattle.napt_records.specs.{RecordMerging.MergedInputs, declared.{Fault.Fault, Which.Which}}
-use Rattle.napt_records.specs.declared.Fault.TheVariants as faults
-use Rattle.napt_records.specs.declared.Which.TheVariants as outputs
+use Rattle.napt_records.specs.{RecordMerging.MergedInputs, declared.{Fault.{Fault, TheVariants.{Capture, Run, Write}}, Which.TheVariants.{Outside, Inside, Report, Log}, stream_merger.CutFlags.CutFlags}}
 use Rattle.napt_rules.specs.Prelude.{Arrival, Binding, RunEffect, Rules, last_clock, step}
-use Rattle.napt_sequential.{specs.{Traces.traces_from, declared.{fault.RunFault.RunFault, passage.{Passage.Passage, Trace.Trace}}}, proofs.JoinedSteps.traces_long}
-use Rattle.napt_sequential.specs.declared.fault.RunFault.TheVariants as reasons
-use Rattle.napt_run.specs.OutputSinkLaws.{breaks_more, grows_more}
-use Rattle.napt_run.specs.LoggedStreams.{FailsAtMostOnce, HasBytes, HasLog, HasPart, HasRows, HasWritten, LogIsKept, LogIsLeft, LoggedSays, besides_log, logged_fault_of}
-use Rattle.napt_run.specs.{LogRuns.{EntersAll, EntersFront, LogFailsOver, Legs, LogsTo, as_run, legs_told, traces_by}, LogOrigins.{LoggedOrigin, ending, text_so_far, texts_of, whole_text}, Outputs.{Breaks, OutputGrows}, Origins.OriginModel, Runs.{IfHeld, ResultSays}}
-use Rattle.napt_run.specs.RunningLogs.{Adds, AreLaws, Enters, LogFails, FailsBy, FailsMore, LogGoesOnFrom, LogHalts, LogIsAt, IsFlushedAt, ending_with, left_with, rows_in, running_log_traces, last_trace_time}
-use Rattle.napt_run.specs.{Streams.{AreTaken, DeviceGetsFrom, HasRead, IsOfRun}, declared.logged_fault.LogRunFault.{LogRunFault, TheVariants.{Run, Log}}}
-use Rattle.napt_run.specs.declared.{logging.LoggingFault.LoggingFault, output.Output.Output, capture_run.Totals.Totals, running_log.RunningLog.RunningLog}
-use Rattle.napt_run.proofs.{Endings.all_left, Streamed.{IfHeld-all, IfHeld-map}, TraceFronts.{NextInput, next_input}}
-use Rattle.napt_run.specs.declared.logging.LoggingFault.TheVariants as log_faults
-use Rattle.napt_run.specs.Posts.{IsBeforeReport}
+use Rattle.napt_sequential.{specs.{Traces.traces_from, declared.{fault.RunFault.{RunFault, TheVariants.{Memory, TooMany, Pool}}, passage.{Passage.Passage, Trace.Trace}}}, proofs.JoinedSteps.traces_long}
+use Rattle.napt_run.specs.{LogLaws.held, OutputSinkLaws.{breaks_more, grows_more}, Outputs.{Breaks, OutputGrows}, Origins.OriginModel}
+use Rattle.napt_run.specs.{LogRuns.{EntersAll, EntersFront, LogFailsOver, Legs, LogsTo, legs_told, traces_by}, LogOrigins.{LoggedOrigin, ending, text_so_far, texts_of, whole_text}, Logs.{LogPost}}
+use Rattle.napt_run.specs.{Posts.{AtMostOneMore, ExtentPost, FailedPost, FaultPost, OutputEnds, may_have_ended, text_if}, Runs.IfHeld, Streams.{AreTaken, IsSettledBy}}
+use Rattle.napt_run.specs.RunningLogs.{Adds, Closes, Enters, FlushPost, IsReady, LogFails, FailsBy, LogGoesOnFrom, FailsMore, IsAfterFault, LogHalts, LogIsAt, Opens, ending_with, left_with, rows_in, running_log_of, running_log_traces, last_trace_time}
+use Rattle.napt_run.specs.declared.{output.Output.Output, log_writer.LogWriter.LogWriter}
+use Rattle.napt_run.proofs.{Ends.{broken, ends, grown_if, none_held, take_whole}, TraceFronts.{NextInput, next_input}}
 
 -- TEXTS
 
@@ -43,7 +38,7 @@ text_is : (from : LoggedOrigin) (inputs : List Arrival) →
 unfolding whole_text
 text_is from inputs = refl
 
--- a front of what is so far is one of the whole
+-- A prefix of the text so far is one of the whole text.
 cut_is : (from : LoggedOrigin) (inputs : List Arrival) (count : ℕ) → count ≤ length (text_so_far from inputs) →
     take count (text_so_far from inputs) ≡ take count (whole_text from inputs)
 cut_is from inputs count within =
@@ -56,108 +51,12 @@ cut_within from inputs count within =
     subst (λ (l : TimeText). count ≤ length l) (text_is from inputs)
     (omega (arith, within, length-append (text_so_far from inputs) (ending from inputs)))
 
-pub take_whole : (l : TimeText) → take (length l) l ≡ l
-take_whole l = ap (λ (k : TimeText). take (length l) k) (sym (append-nil l)) ∙ take-append_seam l []
-
--- ONE OUTPUT
-
-module _ {L : Type 0} {S : Ghosts L} (from : LoggedOrigin) (inside outside : Option (List ℕ)) (old new : Output L S)
-    (none : old.written ≡ 0) where
-  abbrev Before : Option (List ℕ)
-  Before = S.contents old.device.now
-
-  abbrev After : Option (List ℕ)
-  After = S.contents new.device.now
-
-  abbrev Held : (MergedInputs → Type 0) → Type 0
-  Held Holds = IfHeld inside outside Holds
-
-  bytes_of : (inputs : List Arrival) (count : ℕ) → count ≤ length (text_so_far from inputs) →
-      Appends Before After (take count (text_so_far from inputs)) → (all : MergedInputs) →
-      IsFrontOf inputs all.arrivals →
-      HasBytes (texts_of from) count all Before After
-  bytes_of inputs count within appended all front = grind (arith, common_steps, nat_tests, cut_within, cut_is)
-
-  -- writing the rows failed
-  pub broken : (inputs : List Arrival) (fault : WriteFault) → Breaks old (text_so_far from inputs) fault new →
-      Held (λ all. IsFrontOf inputs all.arrivals) →
-      Held (λ all. HasWritten (texts_of from) fault.written all Before After)
-  broken inputs fault p = IfHeld-map (λ all. IsFrontOf inputs all.arrivals)
-      (λ all. HasWritten (texts_of from) fault.written all Before After) inside outside
-      (λ all front. (
-        p.count,
-        omega (arith, p.counted 0 (omega (arith, none))),
-        bytes_of inputs p.count p.within p.appended all front,
-      ))
-
-  -- or writing those of what lives
-  broken_end : (inputs : List Arrival) (fault : WriteFault) → Breaks old (whole_text from inputs) fault new →
-      Held (λ all. IsFrontOf inputs all.arrivals) →
-      Held (λ all. HasWritten (texts_of from) fault.written all Before After)
-  broken_end inputs fault p = IfHeld-map (λ all. IsFrontOf inputs all.arrivals)
-      (λ all. HasWritten (texts_of from) fault.written all Before After) inside outside
-      (λ all front. (
-        p.count,
-        omega (arith, p.counted 0 (omega (arith, none))),
-        record { inputs = inputs; front = front; within = p.within; appended = p.appended },
-      ))
-
-  pub part_of : (inputs : List Arrival) (count : ℕ) → count ≤ length (text_so_far from inputs) →
-      Appends Before After (take count (text_so_far from inputs)) → Held (λ all. IsFrontOf inputs all.arrivals) →
-      Held (λ all. HasPart (texts_of from) all Before After)
-  part_of inputs count within appended = IfHeld-map (λ all. IsFrontOf inputs all.arrivals)
-      (λ all. HasPart (texts_of from) all Before After) inside outside
-      (λ all front. (count, bytes_of inputs count within appended all front))
-
-  pub whole_part : (inputs : List Arrival) → Appends Before After (text_so_far from inputs) →
-      Held (λ all. IsFrontOf inputs all.arrivals) → Held (λ all. HasPart (texts_of from) all Before After)
-  whole_part inputs appended =
-      part_of inputs (length (text_so_far from inputs)) (omega arith)
-      (subst (λ (l : TimeText). Appends Before After l) (sym (take_whole (text_so_far from inputs))) appended)
-
-  pub rows_of : (side : Side) (fault : CaptureFault) (inputs : List Arrival) →
-      Appends Before After (text_so_far from inputs) → Held (λ all. AreTaken side fault all inputs) →
-      Held (λ all. HasRows (texts_of from) side fault all Before After)
-  rows_of side fault inputs appended taken = grind (arith, common_steps, nat_tests, IfHeld-map)
-
-none_held : (inside outside : Option (List ℕ)) → IfHeld inside outside (λ all. IsFrontOf [] all.arrivals)
-none_held inside outside = IfHeld-all (λ all. IsFrontOf [] all.arrivals) inside outside (λ all. (all.arrivals, refl))
-
-front_first : (inside outside : Option (List ℕ)) (inputs first others : List Arrival) → first ++ others ≡ inputs →
-    IfHeld inside outside (λ all. IsFrontOf inputs all.arrivals) →
-    IfHeld inside outside (λ all. IsFrontOf first all.arrivals)
-front_first inside outside inputs first others both front =
-    grind (arith, common_steps, nat_tests, IfHeld-map, append_assoc)
-
--- no call of the log failed, or one, and none since
-abbrev FailsThen : {L : Type 0} {S : Ghosts L} (old new : Output L S) → Type 0
-FailsThen {L} {S} old new =
-    (S.failed new.device.now ≡ S.failed old.device.now)
-    ⊎ ((new.is_broken ≡ true) × (S.failed new.device.now ≡ S.failed old.device.now + 1))
-
--- the log has a part of the rows
-record LeavesPart {L : Type 0} {S : Ghosts L} (from : LoggedOrigin) (inside outside : Option (List ℕ))
-    (old new : Output L S) : Type 0 where
-  same : new.device.ghost_name ≡ old.device.ghost_name
-  counts : FailsThen old new
-  part : IfHeld inside outside
-      (λ all. HasPart (texts_of from) all (S.contents old.device.now) (S.contents new.device.now))
-
-at_most_once : (broken : Bool) (old new : ℕ) →
-    (new ≡ old) ⊎ ((broken ≡ true) × (new ≡ old + 1)) → FailsAtMostOnce old new
-at_most_once broken old new few = grind (arith, common_steps, nat_tests)
-
-once_more : (broken : Bool) (old mid new : ℕ) → (mid ≡ old) ⊎ ((broken ≡ true) × (mid ≡ old + 1)) →
-    FailsMore broken mid new → FailsAtMostOnce old new
-once_more broken old mid new first more = grind (arith, common_steps, nat_tests)
-
--- and at the end
-record EndsPart {L : Type 0} {S : Ghosts L} (from : LoggedOrigin) (inside outside : Option (List ℕ))
-    (old new : Output L S) : Type 0 where
-  same : new.device.ghost_name ≡ old.device.ghost_name
-  counts : FailsAtMostOnce (S.failed old.device.now) (S.failed new.device.now)
-  part : IfHeld inside outside
-      (λ all. HasPart (texts_of from) all (S.contents old.device.now) (S.contents new.device.now))
+-- and of its text by a result
+cut_if : (from : LoggedOrigin) (ended : Bool) (inputs : List Arrival) (count : ℕ) →
+    count ≤ length (text_so_far from inputs) → (count ≤ length (text_if ended (texts_of from) inputs))
+    × (take count (text_so_far from inputs) ≡ take count (text_if ended (texts_of from) inputs))
+cut_if from true inputs count within = (cut_within from inputs count within, cut_is from inputs count within)
+cut_if from false inputs count within = (within, refl)
 
 -- TRACES
 
@@ -165,14 +64,14 @@ traces_back : (all : List Trace) → running_log_traces (map (λ trace. (trace.n
 traces_back [] = refl
 traces_back (trace ∷ all) = ap (λ (l : List Trace). trace ∷ l) (traces_back all)
 
--- the traces of the legs of these inputs
+-- The traces of the legs of these inputs.
 abbrev pub told_traces : OriginModel → List Arrival → List Trace
 told_traces origin inputs = running_log_traces (legs_told (λ (p : Passage). p) origin inputs)
 
 pub traces_told : (origin : OriginModel) (inputs : List Arrival) → told_traces origin inputs ≡ traces_by origin inputs
 traces_told origin inputs = traces_back (traces_by origin inputs)
 
--- the time of the last trace is that of the last input
+-- The time of the last trace is that of the last input.
 time_from : (rules : Rules) (number clock : ℕ) (inputs : List Arrival) (list : List Binding) →
     last_trace_time clock (traces_from rules number clock inputs list) ≡ last_clock clock inputs
 time_from rules number clock [] list = refl
@@ -187,460 +86,442 @@ time_is origin inputs = time_from origin.rules 0 origin.state.clock inputs origi
 
 -- THE LOG WHILE THE RUN GOES
 
-module _ {L : Type 0} {S : Ghosts L} (from : LoggedOrigin) (laws : AreLaws from.origin from.log)
-    (inside outside : Option (List ℕ))
-    (old mid after : RunningLog L S) (none : old.output.written ≡ 0)
-    (begun : LogGoesOnFrom from [] from.opening old.output mid) where
-  abbrev EntersLegs : RunningLog L S → List (Legs Passage) → RunningLog L S → Type 0
-  EntersLegs x all y = Enters x (running_log_traces all) y
+front_first : (inside outside : Option (List ℕ)) (inputs first others : List Arrival) → first ++ others ≡ inputs →
+    IfHeld inside outside (λ all. IsFrontOf inputs all.arrivals) →
+    IfHeld inside outside (λ all. IsFrontOf first all.arrivals)
+front_first inside outside inputs first others both front =
+    grind (arith, common_steps, nat_tests, held, append_assoc)
 
-  abbrev FailsLegs : RunningLog L S → List (Legs Passage) → LogRunFault → RunningLog L S → Type 0
-  FailsLegs x all fault y = LogFails x (running_log_traces all) fault y
+-- so many calls of it failed, and whether it is broken
+abbrev Was : Bool → ℕ → ℕ → Type 0
+Was broken old new = ((broken ≡ false) × (new ≡ old)) ⊎ ((broken ≡ true) × (new ≡ old + 1))
 
-  abbrev Settled : RunningLog L S → Type 0
-  Settled log = S.is_flushed log.output.device.now
+-- the log has a front of the rows, and no call of it failed, or one, and none since
+record LogPart {L : Type 0} {S : Ghosts L} (from : LoggedOrigin) (inside outside : Option (List ℕ))
+    (old new : Output L S) : Type 0 where
+  inputs : List Arrival
+  front : IfHeld inside outside (λ all. IsFrontOf inputs all.arrivals)
+  count : ℕ
+  within : count ≤ length (text_so_far from inputs)
+  appended : Appends (S.contents old.device.now) (S.contents new.device.now) (take count (text_so_far from inputs))
+  same : new.device.ghost_name ≡ old.device.ghost_name
+  counts : Was new.is_broken (S.failed old.device.now) (S.failed new.device.now)
 
-  abbrev pub Watched : Result Totals (LoggingFault LogRunFault) → Type 0
-  Watched result = LogsTo (λ (p : Passage). p) (from.origin) EntersLegs FailsLegs Settled inside outside mid after
-      result
+at_most : (broken : Bool) (old mid new : ℕ) → Was broken old mid → FailsMore broken mid new → AtMostOneMore old new
+at_most broken old mid new was more = grind (arith, common_steps, nat_tests)
 
-  abbrev Front : Type 0
-  Front = EntersFront (λ (p : Passage). p) (from.origin) EntersLegs FailsLegs Settled inside outside mid after
+tried_by : (broken : Bool) (old mid new : ℕ) (Flushed : Type 0) → Was broken old mid → FailsMore broken mid new →
+    (broken ≡ false → Flushed ⊎ (new ≡ mid + 1)) → Flushed ⊎ (new ≡ old + 1)
+tried_by broken old mid new Flushed was more tried = grind (arith, common_steps, nat_tests)
 
-  abbrev Failed : LogRunFault → Type 0
-  Failed fault = LogFailsOver (λ (p : Passage). p) (from.origin) EntersLegs FailsLegs Settled inside outside mid after
-      fault
+-- the same at the end, where it was flushed, if that still went
+record LogRest {L : Type 0} {S : Ghosts L} (from : LoggedOrigin) (inside outside : Option (List ℕ))
+    (old new : Output L S) : Type 0 where
+  inputs : List Arrival
+  front : IfHeld inside outside (λ all. IsFrontOf inputs all.arrivals)
+  count : ℕ
+  within : count ≤ length (text_so_far from inputs)
+  appended : Appends (S.contents old.device.now) (S.contents new.device.now) (take count (text_so_far from inputs))
+  same : new.device.ghost_name ≡ old.device.ghost_name
+  counts : AtMostOneMore (S.failed old.device.now) (S.failed new.device.now)
+  tried : S.is_flushed new.device.now ⊎ (S.failed new.device.now ≡ S.failed old.device.now + 1)
 
-  grew : (inputs : List Arrival) → OutputGrows mid.output (rows_on from inputs) after.output →
-      OutputGrows old.output (text_so_far from inputs) after.output
-  grew inputs p = subst (λ (l : TimeText). OutputGrows old.output l after.output) (so_far_is from inputs)
-      (grows_more old.output mid.output after.output _ _ begun.wrote p)
+rest : {L : Type 0} {S : Ghosts L} (from : LoggedOrigin) (inside outside : Option (List ℕ)) (old new last : Output L S) →
+    FlushPost new last → LogPart from inside outside old new → LogRest from inside outside old last
+rest {L} {S} from inside outside old new last flush p = record {
+  inputs = p.inputs;
+  front = p.front;
+  count = p.count;
+  within = p.within;
+  appended = subst (λ (l : TimeText). Appends (S.contents old.device.now) (S.contents last.device.now) l)
+      (append-nil (take p.count (text_so_far from p.inputs))) (Appends-trans _ _ _ _ [] p.appended flush.kept);
+  same = flush.same ∙ p.same;
+  counts = at_most _ _ _ _ p.counts flush.counts;
+  tried = tried_by _ _ _ _ _ p.counts flush.counts flush.tried;
+}
 
-  broke : (inputs : List Arrival) (fault : WriteFault) →
-      Breaks mid.output (rows_on from inputs) fault after.output →
-      Breaks old.output (text_so_far from inputs) fault after.output
-  broke inputs fault p = subst (λ (l : TimeText). Breaks old.output l fault after.output) (so_far_is from inputs)
-      (breaks_more old.output mid.output after.output _ _ fault begun.wrote p)
+module _ {L : Type 0} {S : Ghosts L} (origin : OriginModel) (inside outside : Option (List ℕ)) (old : LogWriter L S)
+    (ready : IsReady origin old) where
+  abbrev pub From : LoggedOrigin
+  From = running_log_of origin old
 
-  -- it was entered what these inputs tell
-  entered : (inputs : List Arrival) → Enters mid (told_traces from.origin inputs) after →
-      LogGoesOnFrom from (traces_by from.origin inputs) (rows_on from inputs) mid.output after
-  entered inputs enters =
-      let told = traces_told from.origin inputs in
-      subst (λ (ts : List Trace). LogGoesOnFrom from ts (rows_on from inputs) mid.output after) told
-      (subst (λ (l : TimeText). LogGoesOnFrom from (told_traces from.origin inputs) l mid.output after)
-      (ap (λ (ts : List Trace). rows_in from [] ts) told ∙ laws.rows from.each inputs) (enters from [] begun.at))
+  abbrev Ends : Result (Unit {0}) Fault → Output L S → Type 0
+  Ends result last = OutputEnds (texts_of From) Log inside outside result old.output last
 
-  wrote : (inputs : List Arrival) → Enters mid (told_traces from.origin inputs) after →
-      OutputGrows old.output (text_so_far from inputs) after.output
-  wrote inputs enters = grew inputs (entered inputs enters).wrote
+  -- it has a part of the rows, whatever failed
+  rest_ends : (result : Result (Unit {0}) Fault) (last : Output L S) → (IsSettledBy result → ⊥) →
+      ((all : MergedInputs) (inputs : List Arrival) (count size : ℕ) → ExtentPost Log result all inputs count size) →
+      (AtMostOneMore (S.failed old.output.device.now) (S.failed last.device.now) →
+      FailedPost Log result (S.failed old.output.device.now) (S.failed last.device.now)) →
+      LogRest From inside outside old.output last → Ends result last
+  rest_ends result last never extent failed p =
+      let cut = cut_if From (may_have_ended result) p.inputs p.count p.within in
+      ends (texts_of From) Log inside outside result old.output last p.inputs _ refl p.front p.count cut.0
+      (subst (λ (l : TimeText). Appends (S.contents old.output.device.now) (S.contents last.device.now) l) cut.1
+      p.appended) (λ all. extent all p.inputs p.count (length (text_if (may_have_ended result) (texts_of From) p.inputs)))
+      p.same (failed p.counts)
+      (λ settled. absurd (never settled))
 
-  failed_over : (inputs : List Arrival) (fault : LogRunFault) →
-      LogFails mid (told_traces from.origin inputs) fault after →
-      FailsBy from [] (traces_by from.origin inputs) fault mid after
-  failed_over inputs fault fails = subst (λ (ts : List Trace). FailsBy from [] ts fault mid after)
-      (traces_told from.origin inputs) (fails from [] begun.at)
+  front_taken : (side : Side) (fault : CaptureFault) (inputs : List Arrival) →
+      IfHeld inside outside (λ all. AreTaken side fault all inputs) →
+      IfHeld inside outside (λ all. IsFrontOf inputs all.arrivals)
+  front_taken side fault inputs taken = held (λ all. AreTaken side fault all inputs) (λ all. IsFrontOf inputs all.arrivals)
+      inside outside (λ all t. t.0) taken
 
-  grown_part : (inputs : List Arrival) → OutputGrows old.output (text_so_far from inputs) after.output →
+  extent_taken : (side : Side) (fault : CaptureFault) (inputs : List Arrival) (size : ℕ) →
+      IfHeld inside outside (λ all. AreTaken side fault all inputs) →
+      IfHeld inside outside (λ all. ExtentPost Log (Err (Capture side fault)) all inputs size size)
+  extent_taken side fault inputs size taken = held (λ all. AreTaken side fault all inputs)
+      (λ all. ExtentPost Log (Err (Capture side fault)) all inputs size size) inside outside (λ all t. (t.1, refl)) taken
+
+  -- its own fault tells how much of the text it has
+  told : (count written : ℕ) → ((a : ℕ) → old.output.written ≡ min a (2 ^ 64 - 1) → written ≡ min (a + count) (2 ^ 64 - 1)) →
+      written ≡ min count (2 ^ 64 - 1)
+  told count written counted = omega (arith, counted 0 (omega (arith, ready.written)))
+
+  -- writing the rows failed
+  rows_broken : (inputs : List Arrival) (fault : WriteFault) (last : LogWriter L S) →
       IfHeld inside outside (λ all. IsFrontOf inputs all.arrivals) →
-      LeavesPart from inside outside old.output after.output
-  grown_part inputs grown front = record {
-    same = grown.same;
-    counts = inl grown.kept;
-    part = whole_part from inside outside old.output after.output none inputs grown.appended front;
-  }
-
-  broken_over : (inputs : List Arrival) (fault : WriteFault) →
-      Breaks mid.output (rows_in from [] (traces_by from.origin inputs)) fault after.output →
-      Breaks old.output (text_so_far from inputs) fault after.output
-  broken_over inputs fault p = grind (arith, common_steps, nat_tests, broke, laws.rows from.each)
-
-  -- the input whose trace was not taken
-  next_of : (inputs : List Arrival) (fault : RunFault)
-      (p : LogHalts from [] (traces_by from.origin inputs) fault mid after) →
-      NextInput (from.origin) inputs p.first p.next
-  next_of inputs fault p = next_input (from.origin) inputs p.first p.next p.others p.all
-
-  halted_part : (inputs : List Arrival) (fault : RunFault) →
-      IfHeld inside outside (λ all. IsFrontOf inputs all.arrivals) →
-      LogHalts from [] (traces_by from.origin inputs) fault mid after →
-      LeavesPart from inside outside old.output after.output
-  halted_part inputs fault front p =
-      let n : NextInput (from.origin) inputs p.first p.next = next_of inputs fault p in
-      grown_part n.before (grew n.before (subst (λ (l : TimeText). OutputGrows mid.output l after.output)
-      (ap (λ (ts : List Trace). rows_in from [] ts) n.first_is ∙ laws.rows from.each n.before) p.wrote))
-      (front_first inside outside inputs n.before (n.input ∷ n.later)
-      (sym (append_assoc n.before (n.input ∷ []) n.later) ∙ n.whole) front)
-
-  failed_part : (fault : LogRunFault) (inputs : List Arrival) →
-      IfHeld inside outside (λ all. IsFrontOf inputs all.arrivals) →
-      FailsBy from [] (traces_by from.origin inputs) fault mid after →
-      LeavesPart from inside outside old.output after.output
-  failed_part (Log fault) inputs front p =
-      let all = broken_over inputs fault p in
+      Breaks old.output (text_so_far From inputs) fault last.output →
+      LogPost origin inside outside (Err (Write Log fault)) old last
+  rows_broken inputs fault last front p =
+      let cut = cut_if From true inputs p.count p.within in
       record {
-        same = all.same;
-        counts = inr (all.broken, all.failed_once);
-        part = part_of from inside outside old.output after.output none inputs all.count all.within all.appended front;
+        written = ends (texts_of From) Log inside outside (Err (Write Log fault)) old.output last.output inputs _ refl
+            front p.count cut.0 (subst (λ (l : TimeText). Appends (S.contents old.output.device.now)
+            (S.contents last.output.device.now) l) cut.1 p.appended)
+            (λ all. told p.count fault.written p.counted) p.same p.failed_once
+            (λ settled. absurd settled);
+        tried = inr p.failed_once;
+        kept = tt;
+        few = λ done. absurd done;
       }
-  failed_part (Run (faults.Run fault)) inputs front p = halted_part inputs fault front p
-  failed_part (Run (faults.Capture side fault)) inputs front p = absurd p
-  failed_part (Run (faults.Write which fault)) inputs front p = absurd p
 
-  front_part : Front → LeavesPart from inside outside old.output after.output
-  front_part s = grown_part s.inputs (wrote s.inputs s.entered) s.front
+  -- it could not be opened
+  unopened : (last : LogWriter L S) (fault : Fault) → Adds From [] From.opening old.output (Err fault) last →
+      LogPost origin inside outside (Err fault) old last
+  unopened last (Write Log fault) p = rows_broken [] fault last (none_held inside outside)
+      (subst (λ (l : TimeText). Breaks old.output l fault last.output) (none_so_far From) p)
+  unopened last (Write Outside fault) p = absurd p
+  unopened last (Write Inside fault) p = absurd p
+  unopened last (Write Report fault) p = absurd p
+  unopened last (Capture side fault) p = absurd p
+  unopened last (Run fault) p = absurd p
 
-  part : Front ⊎ ((fault : LogRunFault) × Failed fault) → LeavesPart from inside outside old.output after.output
-  part (inl s) = front_part s
-  part (inr (fault, f)) = failed_part fault f.inputs f.front (failed_over f.inputs fault f.failed)
+  module _ (mid after : LogWriter L S) (opens : Opens old mid) where
+    abbrev EntersLegs : LogWriter L S → List (Legs Passage) → LogWriter L S → Type 0
+    EntersLegs x all y = Enters x (running_log_traces all) y
 
-  abbrev Gets : LoggingFault LogRunFault → Output L S → Type 0
-  Gets halt new = LogIsLeft (texts_of from) inside outside (Err (logged_fault_of halt)) old.output new
+    abbrev FailsLegs : LogWriter L S → List (Legs Passage) → Fault → LogWriter L S → Type 0
+    FailsLegs x all fault y = LogFails x (running_log_traces all) fault y
 
-  failed_at : (fault : LogRunFault) (inputs : List Arrival) →
-      IfHeld inside outside (λ all. IsFrontOf inputs all.arrivals) →
-      FailsBy from [] (traces_by from.origin inputs) fault mid after → Gets (log_faults.Log fault) after.output
-  failed_at (Log fault) inputs front p =
-      let all = broken_over inputs fault p in
-      record {
-        same = all.same;
-        gets = record {
-          gets = broken from inside outside old.output after.output none inputs fault all front;
-          counts = all.failed_once;
-          settled = λ settled. absurd settled;
-        };
-      }
-  failed_at (Run (faults.Run fault)) inputs front p =
-      let all = failed_part (Run (faults.Run fault)) inputs front p in
-      record {
-        same = all.same;
-        gets = record { gets = all.part; counts = at_most_once _ _ _ all.counts; settled = λ settled. absurd settled };
-      }
-  failed_at (Run (faults.Capture side fault)) inputs front p = absurd p
-  failed_at (Run (faults.Write which fault)) inputs front p = absurd p
+    abbrev Settled : LogWriter L S → Type 0
+    Settled log = S.is_flushed log.output.device.now
 
-  -- what it leaves where the run failed, and the log is flushed after that, or not
-  module _ (last : Output L S) (same : last.device.ghost_name ≡ after.output.device.ghost_name)
-      (kept : Appends (S.contents after.output.device.now) (S.contents last.device.now) [])
-      (more : FailsMore after.output.is_broken (S.failed after.output.device.now) (S.failed last.device.now)) where
-    on : LeavesPart from inside outside old.output after.output → EndsPart from inside outside old.output last
-    on p = record {
-      same = same ∙ p.same;
-      counts = once_more _ _ _ _ p.counts more;
-      part = IfHeld-map (λ all. HasPart (texts_of from) all (S.contents old.output.device.now)
-          (S.contents after.output.device.now))
-          (λ all. HasPart (texts_of from) all (S.contents old.output.device.now) (S.contents last.device.now))
-          inside outside
-          (λ all has. (
-            has.0,
-            record {
-              inputs = has.1.inputs;
-              front = has.1.front;
-              within = has.1.within;
-              appended = subst (λ (l : TimeText). Appends (S.contents old.output.device.now)
-                  (S.contents last.device.now) l) (append-nil (take has.0 (whole_text from has.1.inputs)))
-                  (Appends-trans _ _ _ _ [] has.1.appended kept);
-            },
-          )) p.part;
+    abbrev All : CutFlags → Type 0
+    All cuts = EntersAll (λ (p : Passage). p) origin EntersLegs FailsLegs Settled inside outside mid after cuts
+
+    abbrev Front : Type 0
+    Front = EntersFront (λ (p : Passage). p) origin EntersLegs FailsLegs Settled inside outside mid after
+
+    abbrev Failed : Fault → Type 0
+    Failed fault = LogFailsOver (λ (p : Passage). p) origin EntersLegs FailsLegs Settled inside outside mid after fault
+
+    abbrev Watched : Bool → Fault → Type 0
+    Watched open_gate fault = LogsTo (λ (p : Passage). p) origin EntersLegs FailsLegs Settled inside outside mid after
+        open_gate (Err fault)
+
+    begun : LogGoesOnFrom From [] From.opening old.output mid
+    begun = (opens From ready.at).on
+
+    abbrev Part : Type 0
+    Part = LogPart From inside outside old.output after.output
+
+    grew : (inputs : List Arrival) → OutputGrows mid.output (rows_on From inputs) after.output →
+        OutputGrows old.output (text_so_far From inputs) after.output
+    grew inputs p = subst (λ (l : TimeText). OutputGrows old.output l after.output) (so_far_is From inputs)
+        (grows_more old.output mid.output after.output _ _ begun.wrote p)
+
+    -- it was entered what these inputs tell
+    pub entered : (inputs : List Arrival) → Enters mid (told_traces origin inputs) after →
+        LogGoesOnFrom From (traces_by origin inputs) (rows_on From inputs) mid.output after
+    entered inputs enters =
+        let told = traces_told origin inputs in
+        subst (λ (ts : List Trace). LogGoesOnFrom From ts (rows_on From inputs) mid.output after) told
+        (subst (λ (l : TimeText). LogGoesOnFrom From (told_traces origin inputs) l mid.output after)
+        (ap (λ (ts : List Trace). rows_in From [] ts) told ∙ ready.laws.rows From.each inputs) (enters From [] begun.at))
+
+    wrote : (inputs : List Arrival) → Enters mid (told_traces origin inputs) after →
+        OutputGrows old.output (text_so_far From inputs) after.output
+    wrote inputs enters = grew inputs (entered inputs enters).wrote
+
+    failed_over : (inputs : List Arrival) (fault : Fault) →
+        LogFails mid (told_traces origin inputs) fault after →
+        FailsBy From [] (traces_by origin inputs) fault mid after
+    failed_over inputs fault fails = subst (λ (ts : List Trace). FailsBy From [] ts fault mid after)
+        (traces_told origin inputs) (fails From [] begun.at)
+
+    broken_over : (inputs : List Arrival) (fault : WriteFault) →
+        Breaks mid.output (rows_in From [] (traces_by origin inputs)) fault after.output →
+        Breaks old.output (text_so_far From inputs) fault after.output
+    broken_over inputs fault p = subst (λ (l : TimeText). Breaks old.output l fault after.output)
+        (ap (λ (l : TimeText). From.opening ++ l) (ready.laws.rows From.each inputs) ∙ so_far_is From inputs)
+        (breaks_more old.output mid.output after.output _ _ fault begun.wrote p)
+
+    -- a part of the rows
+
+    grown_part : (inputs : List Arrival) → OutputGrows old.output (text_so_far From inputs) after.output →
+        IfHeld inside outside (λ all. IsFrontOf inputs all.arrivals) → Part
+    grown_part inputs p front = record {
+      inputs = inputs;
+      front = front;
+      count = length (text_so_far From inputs);
+      within = omega arith;
+      appended = subst (λ (l : TimeText). Appends (S.contents old.output.device.now) (S.contents after.output.device.now) l)
+          (sym (take_whole (text_so_far From inputs))) p.appended;
+      same = p.same;
+      counts = inl (p.sound ready.at.sound, p.kept);
     }
 
-    pub halted : (halt : LoggingFault LogRunFault) → Watched (Err halt) →
-        IfErr (as_run {T = Totals} (Err halt)) IsBeforeReport → (IsFlushedAt halt → last ≡ after.output) →
-        Gets halt last
-    halted (log_faults.Run (faults.Capture side fault)) s stop flushed =
-        let grown = wrote s.inputs s.entered in
-        subst (Gets (log_faults.Run (faults.Capture side fault))) (sym (flushed tt)) (record {
-          same = grown.same;
-          gets = record {
-            gets = rows_of from inside outside old.output after.output none side fault s.inputs grown.appended s.taken;
-            counts = grown.kept;
-            settled = λ done. s.settled;
-          };
-        })
-    halted (log_faults.Run (faults.Write outputs.Outside fault)) o stop flushed =
-        grind (arith, common_steps, nat_tests, on, front_part, part)
-    halted (log_faults.Run (faults.Write outputs.Inside fault)) o stop flushed =
-        grind (arith, common_steps, nat_tests, on, front_part, part)
-    halted (log_faults.Run (faults.Write outputs.Report fault)) o stop flushed = absurd stop
-    halted (log_faults.Run (faults.Write outputs.Log fault)) o stop flushed =
-        grind (arith, common_steps, nat_tests, on, front_part, part)
-    halted (log_faults.Run (faults.Run fault)) o stop flushed = let p = on (part o) in
+    -- the input whose trace was not taken
+    next_of : (inputs : List Arrival) (fault : RunFault)
+        (p : LogHalts From [] (traces_by origin inputs) fault mid after) → NextInput origin inputs p.first p.next
+    next_of inputs fault p = next_input origin inputs p.first p.next p.others p.all
+
+    failed_part : (fault : Fault) (inputs : List Arrival) →
+        IfHeld inside outside (λ all. IsFrontOf inputs all.arrivals) →
+        FailsBy From [] (traces_by origin inputs) fault mid after → Part
+    failed_part (Write Log fault) inputs front p =
+        let all = broken_over inputs fault p in
         record {
-          same = p.same;
-          gets = record { gets = p.part; counts = p.counts; settled = λ settled. absurd settled };
-        }
-    halted (log_faults.Log fault) f stop flushed =
-        subst (Gets (log_faults.Log fault)) (sym (flushed tt))
-        (failed_at fault f.inputs f.front (failed_over f.inputs fault f.failed))
-
-  -- or it did not fail, and what lives was written
-  module _ (last : RunningLog L S) (totals : Totals)
-      (s : EntersAll (λ (p : Passage). p) (from.origin) EntersLegs FailsLegs Settled inside outside mid after
-      totals.cuts) where
-    front_all : IfHeld inside outside (λ all. IsFrontOf s.inputs all.arrivals)
-    front_all = grind (arith, common_steps, nat_tests, IfHeld-map, append-nil)
-
-    wrote_all : OutputGrows old.output (text_so_far from s.inputs) after.output
-    wrote_all = wrote s.inputs s.entered
-
-    pub at_end : LogIsAt from (traces_by from.origin s.inputs) after
-    at_end = (entered s.inputs s.entered).at
-
-    left_is : left_with from (traces_by from.origin s.inputs)
-        ≡ left_of from.origin.rules from.origin.state from.log s.inputs
-    left_is = λ i. kept_at (time_is from.origin s.inputs i) (laws.is_log s.inputs i)
-
-    ending_at : ending_with from (traces_by from.origin s.inputs) ≡ ending from s.inputs
-    unfolding ending
-    ending_at = ap (λ (kept : LogModel). if from.goes_on then [] else living_rows from.origin.rules
-        (in_order_of_end kept.entries)) left_is
-
-    abbrev pub Closed : Result (Unit {0}) LogRunFault → Type 0
-    Closed closed = Adds from (traces_by from.origin s.inputs) (ending from s.inputs) after.output closed last
-
-    pub closed_at : (closed : Result (Unit {0}) LogRunFault) → Adds from (traces_by from.origin s.inputs)
-        (ending_with from (traces_by from.origin s.inputs)) after.output closed last → Closed closed
-    closed_at closed p =
-        subst (λ (l : TimeText). Adds from (traces_by from.origin s.inputs) l after.output closed last) ending_at p
-
-    -- and what is kept is at hand
-    pub kept_at_end : last.left ≡ left_with from (traces_by from.origin s.inputs) →
-        LogIsKept from.origin from.log inside outside last.left
-    kept_at_end is = IfHeld-map (λ all. all ≡ record { arrivals = s.inputs; end = Ok totals.cuts })
-        (λ all. last.left ≡ left_of from.origin.rules from.origin.state from.log all.arrivals) inside outside
-        (λ all whole. rw whole (is ∙ left_is)) s.all
-
-    pub ended_well : Closed (Ok tt) → LogIsLeft (texts_of from) inside outside (Ok totals) old.output last.output
-    ended_well p =
-        let grown : OutputGrows old.output (whole_text from s.inputs) last.output =
-        subst (λ (l : TimeText). OutputGrows old.output l last.output) (text_is from s.inputs)
-        (grows_more old.output after.output last.output _ _ wrote_all p.on.wrote) in
-        let few : length s.inputs < 2 ^ 62 =
-        subst (λ (n : ℕ). n < 2 ^ 62) (traces_long from.origin.rules 0 from.origin.state.clock s.inputs
-        from.origin.state.list) p.on.at.few in
-        record {
-          same = grown.same;
-          gets = record {
-            gets = IfHeld-map (λ all. all ≡ record { arrivals = s.inputs; end = Ok totals.cuts })
-                (λ all. HasLog (texts_of from) all (S.contents old.output.device.now)
-                (S.contents last.output.device.now))
-                inside outside (λ all is. rw is (refl, few, grown.appended)) s.all;
-            counts = grown.kept;
-            settled = λ done. p.flushed;
-          };
-        }
-
-    pub ended_badly : (fault : LogRunFault) → Closed (Err fault) →
-        LogIsLeft (texts_of from) inside outside (Err fault) old.output last.output
-    ended_badly (Log fault) p =
-        let all : Breaks old.output (whole_text from s.inputs) fault last.output =
-        subst (λ (l : TimeText). Breaks old.output l fault last.output) (text_is from s.inputs)
-        (breaks_more old.output after.output last.output _ _ fault wrote_all p) in
-        record {
+          inputs = inputs;
+          front = front;
+          count = all.count;
+          within = all.within;
+          appended = all.appended;
           same = all.same;
-          gets = record {
-            gets = broken_end from inside outside old.output last.output none s.inputs fault all front_all;
-            counts = all.failed_once;
-            settled = λ settled. absurd settled;
-          };
+          counts = inr (all.broken, all.failed_once);
         }
-    ended_badly (Run (faults.Run reasons.Memory)) p =
-        let grown : OutputGrows old.output (text_so_far from s.inputs) last.output =
-        subst (λ (l : TimeText). OutputGrows old.output l last.output) (append-nil (text_so_far from s.inputs))
-        (grows_more old.output after.output last.output _ _ wrote_all p) in
-        record {
-          same = grown.same;
-          gets = record {
-            gets = whole_part from inside outside old.output last.output none s.inputs grown.appended front_all;
-            counts = inl grown.kept;
-            settled = λ settled. absurd settled;
-          };
-        }
-    ended_badly (Run (faults.Run reasons.TooMany)) p = absurd p
-    ended_badly (Run (faults.Run (reasons.Pool fault))) p = absurd p
-    ended_badly (Run (faults.Capture side fault)) p = absurd p
-    ended_badly (Run (faults.Write which fault)) p = absurd p
+    failed_part (Run fault) inputs front p =
+        let n : NextInput origin inputs p.first p.next = next_of inputs fault p in
+        grown_part n.before (grew n.before (subst (λ (l : TimeText). OutputGrows mid.output l after.output)
+        (ap (λ (ts : List Trace). rows_in From [] ts) n.first_is ∙ ready.laws.rows From.each n.before) p.wrote))
+        (front_first inside outside inputs n.before (n.input ∷ n.later)
+        (sym (append_assoc n.before (n.input ∷ []) n.later) ∙ n.whole) front)
+    failed_part (Write Outside fault) inputs front p = absurd p
+    failed_part (Write Inside fault) inputs front p = absurd p
+    failed_part (Write Report fault) inputs front p = absurd p
+    failed_part (Capture side fault) inputs front p = absurd p
 
--- or it could not be opened
-module _ {L : Type 0} {S : Ghosts L} (from : LoggedOrigin) (inside outside : Option (List ℕ))
-    (old last : RunningLog L S) (none : old.output.written ≡ 0) where
-  pub unopened : (fault : LogRunFault) → Adds from [] from.opening old.output (Err fault) last →
-      LogIsLeft {S = S} (texts_of from) inside outside (Err fault) old.output last.output
-  unopened (Log fault) p =
-      let all : Breaks old.output (text_so_far from []) fault last.output =
-      subst (λ (l : TimeText). Breaks old.output l fault last.output) (none_so_far from) p in
-      record {
-        same = all.same;
-        gets = record {
-          gets = broken from inside outside old.output last.output none [] fault all (none_held inside outside);
-          counts = all.failed_once;
-          settled = λ settled. absurd settled;
-        };
+    part : Front ⊎ ((fault : Fault) × Failed fault) → Part
+    part (inl s) = grown_part s.inputs (wrote s.inputs s.entered) s.front
+    part (inr (fault, f)) = failed_part fault f.inputs f.front (failed_over f.inputs fault f.failed)
+
+    -- THE FAULT
+
+    too_many : (inputs : List Arrival) → 2 ^ 62 ≤ length inputs →
+        IfHeld inside outside (λ all. IsFrontOf inputs all.arrivals) →
+        IfHeld inside outside (λ all. 2 ^ 62 ≤ length all.arrivals)
+    too_many inputs many front = grind (arith, common_steps, nat_tests, held, length-append)
+
+    -- there were too many
+    too_many_at : (inputs : List Arrival) → LogHalts From [] (traces_by origin inputs) TooMany mid after →
+        2 ^ 62 ≤ length inputs
+    too_many_at inputs p = grind (arith, common_steps, nat_tests, traces_long, length-append)
+
+    -- a trace of a run always comes next
+    never_refused : (inputs : List Arrival) (first : List Trace) (next : Trace) → NextInput origin inputs first next →
+        (¬ IsNext (last_trace_time origin.state.clock first) (log_after From.log first) next) → ⊥
+    never_refused inputs first next n never =
+        never (subst (λ (ts : List Trace). IsNext (last_trace_time origin.state.clock ts) (log_after From.log ts) next)
+        (sym n.first_is) (subst (λ (l : LogModel). IsNext (last_trace_time origin.state.clock
+        (traces_by origin n.before)) l next) (sym (ready.laws.is_log n.before))
+        (subst (λ (t : ℕ). IsNext t (log_on origin.rules origin.state From.log n.before) next)
+        (sym (time_is origin n.before)) (ready.laws.come n.before n.input next n.grown))))
+
+    module _ (open_gate : Bool) where
+      abbrev Explained : Fault → Type 0
+      Explained fault = FaultPost true open_gate inside outside fault
+
+      run_fault : (fault : RunFault) → IsFaultUnder open_gate fault → Explained (Run fault)
+      run_fault Memory under = record { explained = tt; gate = λ is. refl }
+      run_fault TooMany under = absurd under
+      run_fault (Pool fault) under = record { explained = tt; gate = λ is. under is }
+
+      log_fault : (fault : RunFault) → Failed (Run fault) → Explained (Run fault)
+      log_fault Memory f = record { explained = tt; gate = λ is. refl }
+      log_fault TooMany f = record {
+        explained = (refl, too_many f.inputs (too_many_at f.inputs (failed_over f.inputs (Run TooMany) f.failed)) f.front);
+        gate = λ is. refl;
       }
-  unopened (Run (faults.Run reasons.Memory)) p = record {
-    same = p.same;
-    gets = record {
-      gets = part_of from inside outside old.output last.output none [] 0 (omega arith) p.appended
-          (none_held inside outside);
-      counts = inl p.kept;
-      settled = λ settled. absurd settled;
-    };
-  }
-  unopened (Run (faults.Run reasons.TooMany)) p = absurd p
-  unopened (Run (faults.Run (reasons.Pool fault))) p = absurd p
-  unopened (Run (faults.Capture side fault)) p = absurd p
-  unopened (Run (faults.Write which fault)) p = absurd p
+      log_fault (Pool fault) f =
+          let h : LogHalts From [] (traces_by origin f.inputs) (Pool fault) mid after =
+          failed_over f.inputs (Run (Pool fault)) f.failed in
+          absurd (never_refused f.inputs h.first h.next (next_of f.inputs (Pool fault) h) h.of_traces.1)
 
--- A FAULT OF THE LOG
+      -- THE RUN FAILED, and the log is flushed after that
 
--- a text of the log could not be made or written
-abbrev pub IsOfText : LogRunFault → Type 0
-IsOfText (Log fault) = Unit {0}
-IsOfText (Run (faults.Run reasons.Memory)) = Unit {0}
-IsOfText other = ⊥
+      abbrev Rest : LogWriter L S → Type 0
+      Rest last = LogRest From inside outside old.output last.output
 
-pub adds_fault : {L : Type 0} {S : Ghosts L} (from : LoggedOrigin) (all : List Trace) (text : TimeText)
-    (old : Output L S) (new : RunningLog L S) (fault : LogRunFault) → Adds from all text old (Err fault) new →
-    IsOfText fault
-adds_fault from all text old new fault p = grind (arith, common_steps, nat_tests)
+      abbrev Halts : Fault → LogWriter L S → Type 0
+      Halts fault last = LogPost origin inside outside (Err fault) old last × Explained fault
 
-pub text_stops : (fault : LogRunFault) → IsOfText fault → IsOfRun (besides_log {T = Totals} (Err fault))
-text_stops fault p = grind (arith, common_steps, nat_tests)
+      run_halted : (fault : RunFault) (last : LogWriter L S) → Rest last →
+          LogPost origin inside outside (Err (Run fault)) old last
+      run_halted fault last p = record {
+        written = rest_ends (Err (Run fault)) last.output (λ settled. settled) (λ all inputs count size. tt) (λ f. f) p;
+        tried = p.tried;
+        kept = tt;
+        few = λ done. absurd done;
+      }
 
-pub text_says : (open_gate : Bool) (origin : OriginModel) (inside outside : Option (List ℕ)) (fault : LogRunFault) →
-    IsOfText fault → LoggedSays open_gate origin inside outside (Err fault)
-text_says open_gate origin inside outside fault p = grind (arith, common_steps, nat_tests, IfHeld-all)
+      pub halted : (fault : Fault) (last : LogWriter L S) → Watched open_gate fault → IsAfterFault fault after last →
+          Halts fault last
+      halted (Capture side fault) last s is = rw is (
+        record {
+          written = grown_if (texts_of From) Log inside outside (Err (Capture side fault)) old.output after.output s.inputs _
+              refl (front_taken side fault s.inputs s.taken) (wrote s.inputs s.entered)
+              (extent_taken side fault s.inputs _ s.taken) (λ kept. kept) (λ settled. s.settled);
+          tried = inl s.settled;
+          kept = tt;
+          few = λ done. absurd done;
+        },
+        record { explained = s.is_fault; gate = λ is. refl },
+      )
+      halted (Write Outside fault) last s flush =
+          let p = rest From inside outside old.output after.output last.output flush (part (inl s)) in (
+            record {
+              written = rest_ends (Err (Write Outside fault)) last.output (λ settled. settled)
+                  (λ all inputs count size. tt) (λ f. f) p;
+              tried = p.tried;
+              kept = tt;
+              few = λ done. absurd done;
+            },
+            record { explained = tt; gate = λ is. refl },
+          )
+      halted (Write Inside fault) last s flush =
+          let p = rest From inside outside old.output after.output last.output flush (part (inl s)) in (
+            record {
+              written = rest_ends (Err (Write Inside fault)) last.output (λ settled. settled)
+                  (λ all inputs count size. tt) (λ f. f) p;
+              tried = p.tried;
+              kept = tt;
+              few = λ done. absurd done;
+            },
+            record { explained = tt; gate = λ is. refl },
+          )
+      halted (Write Report fault) last s flush = absurd s
+      halted (Write Log fault) last f is = rw is (
+        rows_broken f.inputs fault after f.front
+            (broken_over f.inputs fault (failed_over f.inputs (Write Log fault) f.failed)),
+        record { explained = refl; gate = λ is. refl },
+      )
+      halted (Run fault) last (inl (under, either)) flush = (
+        run_halted fault last (rest From inside outside old.output after.output last.output flush (part either)),
+        run_fault fault under,
+      )
+      halted (Run fault) last (inr f) flush = (
+        run_halted fault last (rest From inside outside old.output after.output last.output flush
+            (part (inr (Run fault, f)))),
+        log_fault fault f,
+      )
 
--- OUTPUTS
+    -- THE RUN CAME TO ITS END, and the log is closed
 
-module _ {D : Type 0} (S : Ghosts D) (origin : OriginModel) (inside outside : Option (List ℕ)) (old new : D) where
-  abbrev Device : Which → Result Totals Fault → Type 0
-  Device which result = DeviceGetsFrom S origin which inside outside result old new
+    module _ (cuts : CutFlags) (s : All cuts) (last : LogWriter L S) where
+      abbrev Is : MergedInputs → Type 0
+      Is all = all ≡ record { arrivals = s.inputs; end = Ok cuts }
 
-  -- where the run failed, whatever its fault
-  of_run : (which : Which) (result : Result Totals Fault) → IsOfRun result →
-      Device which (Err (faults.Run reasons.Memory)) → Device which result
-  of_run which (Ok totals) run p = absurd run
-  of_run which (Err (faults.Capture side fault)) run p = absurd run
-  of_run which (Err (faults.Run fault)) run p = record {
-    gets = p.gets;
-    count = λ no. absurd (no tt);
-    settled = λ settled. absurd settled;
-  }
-  of_run outputs.Outside (Err (faults.Write outputs.Log fault)) run p = record {
-    gets = p.gets;
-    count = λ no. absurd (no tt);
-    settled = λ settled. absurd settled;
-  }
-  of_run outputs.Inside (Err (faults.Write outputs.Log fault)) run p = record {
-    gets = p.gets;
-    count = λ no. absurd (no tt);
-    settled = λ settled. absurd settled;
-  }
-  of_run outputs.Report (Err (faults.Write outputs.Log fault)) run p = record {
-    gets = p.gets;
-    count = λ no. absurd (no tt);
-    settled = λ settled. absurd settled;
-  }
-  of_run outputs.Log (Err (faults.Write outputs.Log fault)) run p = record {
-    gets = p.gets;
-    count = λ no. absurd (no tt);
-    settled = λ settled. absurd settled;
-  }
-  of_run which (Err (faults.Write outputs.Outside fault)) run p = absurd run
-  of_run which (Err (faults.Write outputs.Inside fault)) run p = absurd run
-  of_run which (Err (faults.Write outputs.Report fault)) run p = absurd run
+      front_all : IfHeld inside outside (λ all. IsFrontOf s.inputs all.arrivals)
+      front_all = held Is (λ all. IsFrontOf s.inputs all.arrivals) inside outside
+          (λ all is. rw is ([], append-nil s.inputs)) s.all
 
-  -- where the run came to its end, and what lives could not be written
-  pub device_after : (which : Which) (totals : Totals) (fault : LogRunFault) → IsOfText fault →
-      Device which (Ok totals) → Device which (besides_log (Err fault))
-  device_after which totals fault text p =
-      of_run which (besides_log (Err fault)) (text_stops fault text) (record {
-        gets = all_left origin which inside outside _ _ p.gets;
-        count = λ no. absurd (no tt);
-        settled = λ settled. absurd settled;
-      })
+      extent_all : (size : ℕ) → IfHeld inside outside (λ all. IsOk all.end × (s.inputs ≡ all.arrivals) × (size ≡ size))
+      extent_all size = held Is (λ all. IsOk all.end × (s.inputs ≡ all.arrivals) × (size ≡ size)) inside outside
+          (λ all is. rw is (refl, refl, refl)) s.all
 
-  pub device_halted : (which : Which) (halt : LoggingFault LogRunFault) →
-      IsOfRun (besides_log {T = Totals} (Err (logged_fault_of halt))) ⊎ (as_run {T = Totals} (Err halt)
-      ≡ besides_log (Err (logged_fault_of halt))) →
-      Device which (as_run (Err halt)) → Device which (besides_log (Err (logged_fault_of halt)))
-  device_halted which halt is p = grind (arith, common_steps, nat_tests, of_run)
+      pub at_end : LogIsAt From (traces_by origin s.inputs) after
+      at_end = (entered s.inputs s.entered).at
 
--- WHAT A HALT SAYS
+      left_is : left_with From (traces_by origin s.inputs) ≡ left_of origin.rules origin.state From.log s.inputs
+      left_is = λ i. kept_at (time_is origin s.inputs i) (ready.laws.is_log s.inputs i)
 
-module _ {L : Type 0} {S : Ghosts L} (open_gate : Bool) (from : LoggedOrigin) (laws : AreLaws from.origin from.log)
-    (inside outside : Option (List ℕ)) (old mid after : RunningLog L S) (none : old.output.written ≡ 0)
-    (begun : LogGoesOnFrom from [] from.opening old.output mid) where
-  abbrev Halted : LoggingFault LogRunFault → Type 0
-  Halted halt = Watched from laws inside outside old mid after none begun (Err halt)
+      ending_at : ending_with From (traces_by origin s.inputs) ≡ ending From s.inputs
+      unfolding ending
+      ending_at = ap (λ (kept : LogModel). if From.goes_on then [] else living_rows From.origin.rules
+          (in_order_of_end kept.entries)) left_is
 
-  -- it is one of the run or of the log, or as it was told
-  pub halt_is : (halt : LoggingFault LogRunFault) → Halted halt →
-      IsOfRun (besides_log {T = Totals} (Err (logged_fault_of halt))) ⊎ (as_run {T = Totals} (Err halt)
-      ≡ besides_log (Err (logged_fault_of halt)))
-  halt_is (log_faults.Run fault) p = inr refl
-  halt_is (log_faults.Log (Log fault)) p = inr refl
-  halt_is (log_faults.Log (Run (faults.Run fault))) p = inl tt
-  halt_is (log_faults.Log (Run (faults.Capture side fault))) p = absurd (p.failed from [] begun.at)
-  halt_is (log_faults.Log (Run (faults.Write which fault))) p = absurd (p.failed from [] begun.at)
+      pub closed : (left : Result LogModel Fault) → Closes From (traces_by origin s.inputs)
+          (ending_with From (traces_by origin s.inputs)) after.output left last →
+          IfOk left (λ log. log ≡ left_with From (traces_by origin s.inputs)) → LogPost origin inside outside left old last
+      closed (Ok log) p is =
+          let all : OutputGrows old.output (whole_text From s.inputs) last.output =
+          subst (λ (l : TimeText). OutputGrows old.output l last.output) (text_is From s.inputs)
+          (grows_more old.output after.output last.output _ _ (wrote s.inputs s.entered)
+          (subst (λ (l : TimeText). OutputGrows after.output l last.output) ending_at p.on.wrote)) in
+          let few : length s.inputs < 2 ^ 62 = subst (λ (n : ℕ). n < 2 ^ 62)
+          (traces_long origin.rules 0 origin.state.clock s.inputs origin.state.list) p.on.at.few in
+          record {
+            written = grown_if (texts_of From) Log inside outside (Ok tt) old.output last.output s.inputs _ refl front_all
+                all (extent_all _) (λ kept. kept) (λ settled. p.flushed);
+            tried = inl p.flushed;
+            kept = held Is (λ all. log ≡ left_of origin.rules origin.state From.log all.arrivals) inside outside
+                (λ all whole. rw whole (is ∙ left_is)) s.all;
+            few = λ done. held Is (λ all. length all.arrivals < 2 ^ 62) inside outside (λ all whole. rw whole few) s.all;
+          }
+      closed (Err (Write Log fault)) p is =
+          let all : Breaks old.output (whole_text From s.inputs) fault last.output =
+          subst (λ (l : TimeText). Breaks old.output l fault last.output) (text_is From s.inputs)
+          (breaks_more old.output after.output last.output _ _ fault (wrote s.inputs s.entered)
+          (subst (λ (l : TimeText). Breaks after.output l fault last.output) ending_at p)) in
+          record {
+            written = broken (texts_of From) Log inside outside (Err (Write Log fault)) old.output last.output s.inputs _
+                refl front_all fault all (λ held. told all.count fault.written all.counted)
+                (λ once. once) (λ settled. settled);
+            tried = inr all.failed_once;
+            kept = tt;
+            few = λ done. absurd done;
+          }
+      closed (Err (Run Memory)) p is =
+          let rows = wrote s.inputs s.entered in
+          let part = grown_part s.inputs rows front_all in
+          let rest : LogRest From inside outside old.output after.output = record {
+            inputs = part.inputs;
+            front = part.front;
+            count = part.count;
+            within = part.within;
+            appended = part.appended;
+            same = part.same;
+            counts = inl rows.kept;
+            tried = inl s.settled;
+          } in
+          record {
+            written = subst (λ (o : Output L S). Ends (Err (Run Memory)) o) (sym p)
+                (rest_ends (Err (Run Memory)) after.output (λ settled. settled) (λ all inputs count size. tt) (λ f. f) rest);
+            tried = subst (λ (o : Output L S). S.is_flushed o.device.now
+                ⊎ (S.failed o.device.now ≡ S.failed old.output.device.now + 1)) (sym p) (inl s.settled);
+            kept = tt;
+            few = λ done. absurd done;
+          }
+      closed (Err (Run TooMany)) p is = absurd p
+      closed (Err (Run (Pool fault))) p is = absurd p
+      closed (Err (Capture side fault)) p is = absurd p
+      closed (Err (Write Outside fault)) p is = absurd p
+      closed (Err (Write Inside fault)) p is = absurd p
+      closed (Err (Write Report fault)) p is = absurd p
 
-  too_many : (inputs : List Arrival) → 2 ^ 62 ≤ length inputs →
-      IfHeld inside outside (λ all. IsFrontOf inputs all.arrivals) →
-      IfHeld inside outside (λ all. 2 ^ 62 ≤ length all.arrivals)
-  too_many inputs many front = grind (arith, common_steps, nat_tests, IfHeld-map, length-append)
+-- or it could
+pub opens_by : {L : Type 0} {S : Ghosts L} (old new : LogWriter L S) (result : Result (Unit {0}) Fault) →
+    ((from : LoggedOrigin) → LogIsAt from [] old →
+    Adds from [] (string_bytes old.opening) old.output result new) → OnOk result (Opens old new)
+opens_by old new (Ok done) adds = adds
+opens_by old new (Err fault) adds = tt
 
-  -- the fault of the log that a halt tells of
-  halt_at : (inputs : List Arrival) (fault : RunFault) →
-      LogFails mid (told_traces from.origin inputs) (Run (faults.Run fault)) after →
-      LogHalts from [] (traces_by from.origin inputs) fault mid after
-  halt_at inputs fault fails = failed_over from laws inside outside old mid after none begun inputs
-      (Run (faults.Run fault)) fails
-
-  -- there were too many
-  too_many_at : (inputs : List Arrival) → LogHalts from [] (traces_by from.origin inputs) reasons.TooMany mid after →
-      2 ^ 62 ≤ length inputs
-  too_many_at inputs p = grind (arith, common_steps, nat_tests, traces_long, length-append)
-
-  -- a trace of a run always comes next
-  never_refused : (inputs : List Arrival) (first : List Trace) (next : Trace) →
-      NextInput from.origin inputs first next →
-      (¬ IsNext (last_trace_time from.origin.state.clock first) (log_after from.log first) next) → ⊥
-  never_refused inputs first next n never =
-      never (subst (λ (ts : List Trace). IsNext (last_trace_time from.origin.state.clock ts) (log_after from.log ts) next)
-      (sym n.first_is) (subst (λ (l : LogModel). IsNext (last_trace_time from.origin.state.clock
-      (traces_by from.origin n.before)) l next) (sym (laws.is_log n.before))
-      (subst (λ (t : ℕ). IsNext t (log_on from.origin.rules from.origin.state from.log n.before) next)
-      (sym (time_is from.origin n.before)) (laws.come n.before n.input next n.grown))))
-
-  pub halt_says : (halt : LoggingFault LogRunFault) → Halted halt →
-      ResultSays open_gate (from.origin) inside outside (as_run (Err halt)) →
-      LoggedSays open_gate from.origin inside outside (Err (logged_fault_of halt))
-  halt_says (log_faults.Run (faults.Capture side fault)) p says = grind (arith, common_steps, nat_tests)
-  halt_says (log_faults.Run (faults.Write which fault)) p says = grind (arith, common_steps, nat_tests)
-  halt_says (log_faults.Run (faults.Run reasons.TooMany)) p says = absurd says.stop
-  halt_says (log_faults.Run (faults.Run reasons.Memory)) p says = grind (arith, common_steps, nat_tests)
-  halt_says (log_faults.Run (faults.Run (reasons.Pool fault))) p says = grind (arith, common_steps, nat_tests)
-  halt_says (log_faults.Log (Log fault)) p says = record { told = tt; fault = tt; stop = tt }
-  halt_says (log_faults.Log (Run (faults.Run reasons.TooMany))) p says = record {
-    told = tt;
-    fault = too_many p.inputs (too_many_at p.inputs (halt_at p.inputs reasons.TooMany p.failed)) p.front;
-    stop = tt;
-  }
-  halt_says (log_faults.Log (Run (faults.Run reasons.Memory))) p says = grind
-      (arith, common_steps, nat_tests, IfHeld-all)
-  halt_says (log_faults.Log (Run (faults.Run (reasons.Pool fault)))) p says =
-      let h : LogHalts from [] (traces_by from.origin p.inputs) (reasons.Pool fault) mid after =
-      halt_at p.inputs (reasons.Pool fault) p.failed in
-      absurd (never_refused p.inputs h.first h.next (next_input (from.origin) p.inputs h.first h.next h.others h.all)
-      h.of_traces.1)
-  halt_says (log_faults.Log (Run (faults.Capture side fault))) p says = absurd (p.failed from [] begun.at)
-  halt_says (log_faults.Log (Run (faults.Write which fault))) p says = absurd (p.failed from [] begun.at)
-
-  pub halt_reads : (halt : LoggingFault LogRunFault) → Halted halt →
-      {X Y : Type 0} (of : X → ℕ) (also : Y → ℕ) (start last : X)
-      (other end : Y) → ((¬ IsOfRun (as_run {T = Totals} (Err halt))) →
-      HasRead of also start last other end (as_run {T = Totals} (Err halt))) → (fault : LogRunFault) →
-      fault ≡ logged_fault_of halt → (¬ IsOfRun (besides_log {T = Totals} (Err fault))) →
-      HasRead of also start last other end (besides_log {T = Totals} (Err fault))
-  halt_reads halt p of also start last other end reads fault is none = grind (arith, common_steps, nat_tests, halt_is)
+pub unopened_by : {L : Type 0} {S : Ghosts L} (origin : OriginModel) (inside outside : Option (List ℕ))
+    (old : LogWriter L S) (ready : IsReady origin old) (last : LogWriter L S) (result : Result (Unit {0}) Fault) →
+    Adds (running_log_of origin old) [] (string_bytes old.opening) old.output result last →
+    IfErr result (λ fault. LogPost origin inside outside (Err fault) old last)
+unopened_by origin inside outside old ready last (Ok done) adds = tt
+unopened_by origin inside outside old ready last (Err fault) adds =
+    unopened origin inside outside old ready last fault adds

@@ -1,4 +1,4 @@
--- From what passed between inputs that are all at hand and outputs to what these have.
+-- From what passed between inputs that are all in memory and outputs to what the outputs have.
 use native.Mathlib.Omega.{arith}
 use Rattle.std.proofs.lemmas.{Grind.common_steps, Bool.Decides.nat_tests}
 use Rattle.std.{proofs.Common.{◌≡◌, ℕ, Bool, List, [], ◌++◌, All, None, Result, Ok, Err, IfOk, OnOk, subst, sym}, specs.Io.KnownBytes.Appends}
@@ -14,7 +14,7 @@ use Rattle.napt_run.specs.{OutputSinks.SinkBegins, OutputSinkLaws.grows_more, Ou
 use Rattle.napt_run.specs.{Streams.capture_text, WholeCaptures.{IsTallyOf, WritesAll}, declared.{output_sinks.Leaving.Leaving, output.Output.Output, whole_captures.RunTally.RunTally}}
 use Rattle.napt_run.proofs.{Counted.all_counted, Fronts.{capture_is, times_of}}
 
--- the run over all inputs
+-- The run over all inputs.
 pub passes_all : {F W V : Type 0} {S : Ghosts W} {T : Ghosts V} (origin : OriginModel) (from left : List Arrival)
     (old new : Leaving W V S T) (passed : RunSummary) → AreCountsOf [] old.counts → All IsTimely from →
     RunPassesWell {F = F} origin (λ x xs y. x ≡ xs ++ y) (λ x end y. x ≡ []) from old left new passed →
@@ -35,7 +35,7 @@ passes_all origin from left old new passed none timely p =
       };
     })
 
--- behind the headers
+-- The run after the headers.
 pub headed_all : {W V : Type 0} {S : Ghosts W} {T : Ghosts V} (origin : OriginModel) (inputs : List Arrival)
     (old mid new : Leaving W V S T) → SinkBegins old mid → (r : Result RunTally RunFault) →
     IfOk r (WritesAll [] origin inputs mid new) → IfOk r (WritesAll file_header origin inputs old new)
@@ -46,7 +46,7 @@ headed_all origin inputs old mid new begins (Ok tally) p = record {
   is_tally = p.is_tally;
 }
 
--- the device of an output, which is left as the output leaves it
+-- The device of an output, which is left as the output leaves it.
 capture_appended : {D : Type 0} {S : Ghosts D} (origin : OriginModel) (side : Side) (inputs : List Arrival)
     (old new : Output D S) → OutputGrows old (text_behind file_header origin side inputs) new → (start last : D) →
     old.device.now ≡ start → (new.device.ghost_name ≡ old.device.ghost_name → last ≡ new.device.now) →
@@ -72,9 +72,9 @@ module _ {W V : Type 0} {S : Ghosts W} {T : Ghosts V} (origin : OriginModel) (in
       IfOk r (IsTallyOf origin inputs)
   told_tally r p = grind (arith, common_steps, nat_tests)
 
--- WHAT IS MADE OF IT
+-- THE OUTPUTS THAT ARE MADE
 
--- a capture that was kept in memory, once it is taken out of its device
+-- A capture that was kept in memory, as it is taken out of its device.
 pub kept_text : (origin : OriginModel) (side : Side) (inputs arrivals : List Arrival) (none last kept : List ℕ) →
     none ≡ [] →
     inputs ≡ arrivals → kept ≡ last → last ≡ none ++ capture_text origin side inputs →

@@ -48,7 +48,7 @@ pub few_texts : (origin : OriginModel) (captures : CaptureFiles) → (AreTooMany
     ≡ Ok (texts_made origin captures)
 few_texts origin captures few = grind (arith, common_steps, nat_tests, lt-leb, lt_of_not-le)
 
--- of captures that were read
+-- The texts of captures that were read.
 pub texts_read : (origin : OriginModel) (inside outside : Option (List ℕ)) (captures : CaptureFiles)
     → IsReadFrom inside captures.inside → IsReadFrom outside captures.outside
     → IfKnown inside outside (λ bytes others. texts_from origin bytes others ≡ texts_by origin (Ok captures))
@@ -56,7 +56,7 @@ texts_read origin None outside captures first second = tt
 texts_read origin (Some bytes) None captures first second = tt
 texts_read origin (Some bytes) (Some others) captures first second = grind (arith, common_steps, nat_tests, ap₂)
 
--- of which outputs were made
+-- The texts of which outputs were made.
 abbrev pub AreMade : OriginModel → Option (List ℕ) → Option (List ℕ) → CaptureFiles → Type 0
 AreMade origin inside outside captures =
     IfKnown inside outside (λ bytes others. texts_from origin bytes others ≡ Ok (texts_made origin captures))
@@ -72,7 +72,7 @@ texts_known x origin inside outside captures first second few =
 
 -- THE RESULT
 
--- what a result says of both captures, and a fault of each
+-- What a result says of both captures, and what a fault says of each.
 pub record Answered (origin : OriginModel) (inside outside : Option (List ℕ))
     (result : Result (Unit {0}) Fault) : Type 0 where
   pub answer : IfKnown inside outside (λ bytes others. Answers (texts_from origin bytes others) result)
@@ -170,7 +170,7 @@ answered_write which origin inside outside captures fault first second is made =
 
 -- THE OUTPUTS
 
--- the text of an output that was made
+-- The text of an output that was made.
 abbrev pub text_of : Which → CaptureOutputs → List ℕ
 text_of Outside outputs = outputs.to_outside
 text_of Inside outputs = outputs.to_inside
@@ -181,7 +181,7 @@ text_is : (which : Which) (origin : OriginModel) (captures : CaptureFiles) (outp
     AreOutputs origin captures outputs → text_of which outputs ≡ text_to which (texts_made origin captures)
 text_is which origin captures outputs made = grind (arith, common_steps, nat_tests)
 
--- what was received of it
+-- What an output received of its text.
 pub received : (which : Which) (share : OutputShare) (origin : OriginModel) (inside outside : Option (List ℕ))
     (captures : CaptureFiles) (outputs : CaptureOutputs)
     (told : List ℕ) (old new : Option (List ℕ)) → AreMade origin inside outside captures →
@@ -190,7 +190,7 @@ pub received : (which : Which) (share : OutputShare) (origin : OriginModel) (ins
 received which share origin inside outside captures outputs told old new known made is got =
     grind (arith, common_steps, nat_tests, IfKnown-more, text_is)
 
--- what a fault of writing an output says of the outputs before it
+-- What a fault of writing an output says of the outputs before it.
 pub before_inside : (fault : Fault) → IsWriteFaultOf Inside fault → share_of Outside (Err fault) ≡ whole
 before_inside fault is = grind (arith, common_steps, nat_tests)
 

@@ -12,10 +12,10 @@ use Rattle.napt_records.proofs.Merges.{merge_ends, merges_whole}
 use Rattle.napt_rules.specs.Prelude.{Arrival}
 use Rattle.napt_run.specs.{Captures.{RunTexts, arrivals_of, both_by, texts_from, texts_by, texts_made}, Files.{files_until, unless_bad, unless_refused}}
 use Rattle.napt_records.specs.declared.Which.TheVariants.{Outside, Inside}
-use Rattle.napt_run.proofs.Posts.{all_of}
+use Rattle.napt_run.proofs.Ends.{all_of}
 use Rattle.napt_run.specs.{StreamLaws.{OutputsAreTheSame, ReportsAreTheSame}, Streams.capture_text, declared.captures.CaptureFiles.CaptureFiles}
 
--- what a file holds that reads as these contents
+-- The bytes of a file that reads as these contents.
 abbrev held_as : CaptureModel → CaptureReading
 held_as contents = record { records = contents.records; end = Ok contents.cut }
 
@@ -31,7 +31,7 @@ held_is bytes contents is = elim (cases_Bool (nat_lt MOST_ASKED (bytes_asked byt
   | inr few ↦ contents_are (capture_of_bytes bytes).records (capture_of_bytes bytes).end contents (rw few at is)
 ]
 
--- the captures of which the texts are
+-- The captures to which the texts belong.
 record OfCaptures (origin : OriginModel) (inside outside : Result CaptureModel CaptureFault) (all : RunTexts) : Type 0
   where
     captures : CaptureFiles
@@ -54,7 +54,7 @@ of_captures origin (Ok a) (Ok b) all is = record {
 of_captures origin (Ok a) (Err fault) all is = absurd cc
 of_captures origin (Err fault) outside all is = absurd cc
 
--- the headers are good
+-- The headers are right.
 good_by : (side : Side) (r : Result CaptureFormat CaptureFault) (inputs : MergedInputs) (cuts : CutFlags) →
     (unless_bad side r inputs).end ≡ Ok cuts → unless_bad side r inputs ≡ inputs
 good_by side r inputs cuts is = grind (arith, common_steps, nat_tests)
@@ -70,7 +70,7 @@ behind_headers inside outside cuts is =
     let first = good sides.Inside inside (unless_refused sides.Outside outside all) cuts is in
     first ∙ good sides.Outside outside all cuts (sym (ap (λ (i : MergedInputs). i.end) first) ∙ is)
 
--- what the files give as they arrive is what they hold
+-- The inputs of the files as they arrive are those of their records.
 record Agree (origin : OriginModel) (inside outside : List ℕ) (all : RunTexts) (cuts : CutFlags) : Type 0 where
   captures : CaptureFiles
   all_is : texts_made origin captures ≡ all

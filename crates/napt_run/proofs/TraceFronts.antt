@@ -1,4 +1,4 @@
--- A front of what the legs of a run did is what those of a front of the inputs did.
+-- A prefix of the traces of a run is the traces of a prefix of its inputs.
 use Rattle.std.proofs.Common.{◌≡◌, ℕ, ◌+◌, max, List, [], ◌∷◌, ◌++◌, length, map, take, drop, refl, sym, ◌∙◌, ap, arith, append_assoc, length-append}
 use Rattle.std.proofs.lemmas.List.{length-map, length-take-le, map-append, take-append-drop}
 use Rattle.napt_run.specs.Origins.{OriginModel}
@@ -11,7 +11,7 @@ module _ {X : Type 0} (of : Trace → X) (origin : OriginModel) where
   long inputs = length-map (traces_by origin inputs) of ∙ traces_long origin.rules 0 origin.state.clock inputs
       origin.state.list
 
-  -- the inputs whose legs did this
+  -- The inputs to which these traces belong.
   pub record TraceFront (inputs : List Arrival) (went : List X) : Type 0 where
     pub first : List Arrival
     pub later : List Arrival
@@ -57,7 +57,7 @@ same_last [] (w ∷ ys) x y long e = absurd (omega (arith, long))
 same_last (z ∷ xs) [] x y long e = absurd (omega (arith, long))
 same_last (z ∷ xs) (w ∷ ys) x y long e = same_last xs ys x y (omega (arith, long)) (cc (e))
 
--- the inputs before the one whose legs did this next
+-- The inputs before the one to which the next trace belongs.
 pub record NextInput (origin : OriginModel) (inputs : List Arrival) (first : List Trace) (next : Trace) : Type 0 where
   pub before : List Arrival
   pub input : Arrival

@@ -6,20 +6,18 @@ use Rattle.napt_run.specs.Origins.{GivesState, OriginModel, ran_by}
 use Rattle.napt_dispatch.specs.{Dispatch.IsFaultUnder, RunsThrough.HasCome, declared.{faults.PassFault.PassFault, workers.RunSummary.RunSummary}}
 use Rattle.napt_dispatch.specs.declared.faults.PassFault.TheVariants as pass_faults
 use Rattle.napt_laws.specs.Dispatching.{IsFrontOf}
-use Rattle.napt_records.specs.{StreamMergers.{MergeEndsWith, HandsOutInputs, cut_of}, declared.Fault.{Fault, TheVariants.{Capture, Run, Write}}}
+use Rattle.napt_records.specs.{StreamMergers.{MergeEndsWith, HandsOutInputs, cut_of}, declared.{Fault.{Fault, TheVariants.{Capture, Run, Write}}, Which.TheVariants.{Outside, Inside, Report, Log}}}
 use Rattle.napt_records.specs.declared.stream_merger.{StreamMerger.StreamMerger, SideFault.SideFault}
 use Rattle.napt_rules.specs.Prelude.{Arrival}
 use Rattle.napt_sequential.specs.{Inputs.InputsCame, declared.passage.Passage.Passage}
-use Rattle.napt_run.specs.{OutputSinks.{SinkFails, IsSettled, SinkTakes, TimedOutcomes}, LogRuns.{Legs, legs_told}, Runs.run_left_of, declared.output_sinks.Leaving.Leaving}
-use Rattle.napt_run.specs.declared.{output_sinks.OutputFault.OutputFault, logged_output_sinks.LeavingFault.{LeavingFault, TheVariants.{Output, Log}}, logging.LoggingFault.LoggingFault}
+use Rattle.napt_run.specs.{OutputSinks.{IsOfOutput, SinkFails, IsSettled, SinkTakes, TimedOutcomes}, LogRuns.{IsLogFault, Legs, legs_told}, Runs.run_left_of, declared.output_sinks.Leaving.Leaving}
 use Rattle.napt_run.specs.declared.capture_run.Totals.{Totals}
-use Rattle.napt_run.specs.declared.logging.LoggingFault.TheVariants as log_faults
 
 -- THE OUTPUTS
 
--- the first of these were taken, and the fault came while the others were
+-- The first of these outcomes were taken, and the fault came while the others were.
 pub record FailsAfter {W V : Type 0} {S : sink.Ghosts W} {T : sink.Ghosts V} (before : Leaving W V S T)
-    (went : List TimedOutcomes) (fault : OutputFault) (after : Leaving W V S T) : Type 0 where
+    (went : List TimedOutcomes) (fault : Fault) (after : Leaving W V S T) : Type 0 where
   pub first : List TimedOutcomes
   pub others : List TimedOutcomes
   pub middle : Leaving W V S T
@@ -30,7 +28,7 @@ pub record FailsAfter {W V : Type 0} {S : sink.Ghosts W} {T : sink.Ghosts V} (be
 module _ {A F W V : Type 0} {S : sink.Ghosts W} {T : sink.Ghosts V} (origin : OriginModel)
     (hands : A → List Arrival → A → Type 0) (ends : A → Option F → A → Type 0) (from : A) (before : Leaving W V S T)
     (left : A) (after : Leaving W V S T) where
-  -- the arrivals ended or failed, and what leaves of the inputs before was taken
+  -- The arrivals ended or failed, and the outcomes of the inputs before that were taken.
   pub record RunPassesTo (end : Option F) : Type 0 where
     pub inputs : List Arrival
     pub came : InputsCame hands ends from inputs end left
@@ -44,32 +42,32 @@ module _ {A F W V : Type 0} {S : sink.Ghosts W} {T : sink.Ghosts V} (origin : Or
     pub leaves : GivesState origin whole.inputs passed
 
   -- an output failed, and what left before is the first of what leaves
-  pub record RunPassesEarly (fault : OutputFault) : Type 0 where
+  pub record RunPassesEarly (fault : Fault) : Type 0 where
     pub inputs : List Arrival
     pub went : List TimedOutcomes
     pub come : HasCome hands ends from inputs left
     pub front : IsFrontOf went (run_left_of origin inputs)
     pub failed : FailsAfter before went fault after
 
-  -- the run itself failed, or its log. An output may have failed too
+  -- The run itself failed, or its log; an output may have failed too.
   pub record RunPassesHalted : Type 0 where
     pub inputs : List Arrival
     pub went : List TimedOutcomes
     pub come : HasCome hands ends from inputs left
     pub front : IsFrontOf went (run_left_of origin inputs)
-    pub took : SinkTakes before went after ⊎ ((fault : OutputFault) × FailsAfter before went fault after)
+    pub took : SinkTakes before went after ⊎ ((fault : Fault) × FailsAfter before went fault after)
 
-  abbrev pub PassesBy : {E : Type 0} → Result RunSummary (PassFault F (LeavingFault E)) → Type 0
+  abbrev pub PassesBy : Result RunSummary (PassFault F Fault) → Type 0
   PassesBy (Ok passed) = RunPassesWell passed
   PassesBy (Err (pass_faults.Arrival fault)) = RunPassesTo (Some fault)
-  PassesBy (Err (pass_faults.Departure (Output fault))) = RunPassesEarly fault
-  PassesBy (Err (pass_faults.Departure (Log fault))) = RunPassesHalted
+  PassesBy (Err (pass_faults.Departure fault)) =
+      (IsOfOutput fault × RunPassesEarly fault) ⊎ (IsLogFault fault × RunPassesHalted)
   PassesBy (Err (pass_faults.Run fault)) = RunPassesHalted
 
 module _ {R Q W V : Type 0} {G : source.Ghosts R} {H : source.Ghosts Q} {S : sink.Ghosts W} {T : sink.Ghosts V}
-    (open_gate : Bool) (origin : OriginModel) (from : StreamMerger R Q G H) (before : Leaving W V S T)
+    (origin : OriginModel) (from : StreamMerger R Q G H) (before : Leaving W V S T)
     (left : StreamMerger R Q G H) (after : Leaving W V S T) where
-  -- all went well, with these totals for the report
+  -- The run succeeded, with these totals for the report.
   pub record PassesAll (totals : Totals) : Type 0 where
     pub well : RunPassesWell origin HandsOutInputs MergeEndsWith from before left after totals.passed
     pub counts : totals.counts ≡ after.counts
@@ -81,26 +79,28 @@ module _ {R Q W V : Type 0} {G : source.Ghosts R} {H : source.Ghosts Q} {S : sin
   PassesOr (Err (Capture side fault)) =
       RunPassesTo origin HandsOutInputs MergeEndsWith from before left after
       (Some (record { side = side; fault = fault }))
-  PassesOr (Err (Write which fault)) =
-      RunPassesEarly origin HandsOutInputs MergeEndsWith from before left after
-      (record { which = which; fault = fault })
-  PassesOr (Err (Run fault)) =
-      IsFaultUnder open_gate fault × RunPassesHalted origin HandsOutInputs MergeEndsWith from before left after
+  PassesOr (Err (Write Outside fault)) =
+      RunPassesEarly origin HandsOutInputs MergeEndsWith from before left after (Write Outside fault)
+  PassesOr (Err (Write Inside fault)) =
+      RunPassesEarly origin HandsOutInputs MergeEndsWith from before left after (Write Inside fault)
+  PassesOr (Err (Write Report fault)) = ⊥
+  PassesOr (Err (Write Log fault)) = RunPassesHalted origin HandsOutInputs MergeEndsWith from before left after
+  PassesOr (Err (Run fault)) = RunPassesHalted origin HandsOutInputs MergeEndsWith from before left after
 
 -- THE LOG
 
-module _ {P A F K E : Type 0} (tells : Passage → P) (origin : OriginModel) (hands : A → List Arrival → A → Type 0)
+module _ {P A F K : Type 0} (tells : Passage → P) (origin : OriginModel) (hands : A → List Arrival → A → Type 0)
     (ends : A → Option F → A → Type 0) (enters : K → List (Legs P) → K → Type 0)
-    (fails : K → List (Legs P) → E → K → Type 0) (is_settled : K → Type 0) (from : A) (old : K) (left : A)
+    (fails : K → List (Legs P) → Fault → K → Type 0) (is_settled : K → Type 0) (from : A) (old : K) (left : A)
     (new : K) where
-  -- the arrivals ended or failed, the log was entered the inputs before, and is settled
+  -- The arrivals ended or failed, the inputs before that were recorded in the log, and it is flushed.
   pub record EntersTo (end : Option F) : Type 0 where
     pub inputs : List Arrival
     pub came : InputsCame hands ends from inputs end left
     pub entered : enters old (legs_told tells origin inputs) new
     pub settled : is_settled new
 
-  -- it was entered the first of the inputs that came
+  -- The first of the inputs that came were recorded.
   pub record EntersFirst : Type 0 where
     pub first : List Arrival
     pub later : List Arrival
@@ -108,26 +108,35 @@ module _ {P A F K E : Type 0} (tells : Passage → P) (origin : OriginModel) (ha
     pub entered : enters old (legs_told tells origin first) new
 
   -- or failed over them
-  pub record FailsFirst (fault : E) : Type 0 where
+  pub record FailsFirst (fault : Fault) : Type 0 where
     pub first : List Arrival
     pub later : List Arrival
     pub come : HasCome hands ends from (first ++ later) left
+    pub of_log : IsLogFault fault
     pub failed : fails old (legs_told tells origin first) fault new
 
-  abbrev pub EntersBy : Result RunSummary (PassFault F (LeavingFault E)) → Type 0
+  abbrev pub EntersBy : Result RunSummary (PassFault F Fault) → Type 0
   EntersBy (Ok passed) = EntersTo None
   EntersBy (Err (pass_faults.Arrival fault)) = EntersTo (Some fault)
-  EntersBy (Err (pass_faults.Departure (Output fault))) = EntersFirst
-  EntersBy (Err (pass_faults.Departure (Log fault))) = FailsFirst fault
-  EntersBy (Err (pass_faults.Run fault)) = EntersFirst ⊎ ((fault : E) × FailsFirst fault)
+  EntersBy (Err (pass_faults.Departure fault)) = (IsOfOutput fault × EntersFirst) ⊎ FailsFirst fault
+  EntersBy (Err (pass_faults.Run fault)) = EntersFirst ⊎ ((fault : Fault) × FailsFirst fault)
 
--- as a run over captures ends, so does the run from their arrivals
-abbrev pub passed_as : {E : Type 0} → Result Totals (LoggingFault E) →
-    Result RunSummary (PassFault SideFault (LeavingFault E))
-passed_as (Ok totals) = Ok totals.passed
-passed_as (Err (log_faults.Run (Capture side fault))) = Err
-    (pass_faults.Arrival (record { side = side; fault = fault }))
-passed_as (Err (log_faults.Run (Write which fault))) =
-    Err (pass_faults.Departure (Output (record { which = which; fault = fault })))
-passed_as (Err (log_faults.Run (Run fault))) = Err (pass_faults.Run fault)
-passed_as (Err (log_faults.Log fault)) = Err (pass_faults.Departure (Log fault))
+module _ {P A K : Type 0} (open_gate : Bool) (tells : Passage → P) (origin : OriginModel)
+    (hands : A → List Arrival → A → Type 0) (ends : A → Option SideFault → A → Type 0)
+    (enters : K → List (Legs P) → K → Type 0) (fails : K → List (Legs P) → Fault → K → Type 0)
+    (is_settled : K → Type 0) (from : A) (old : K) (left : A) (new : K) where
+  -- the same of a run over captures, whose fault may be one of its log
+  abbrev pub EntersOr : Result Totals Fault → Type 0
+  EntersOr (Ok totals) = EntersTo tells origin hands ends enters fails is_settled from old left new None
+  EntersOr (Err (Capture side fault)) =
+      EntersTo tells origin hands ends enters fails is_settled from old left new
+      (Some (record { side = side; fault = fault }))
+  EntersOr (Err (Write Outside fault)) = EntersFirst tells origin hands ends enters fails is_settled from old left new
+  EntersOr (Err (Write Inside fault)) = EntersFirst tells origin hands ends enters fails is_settled from old left new
+  EntersOr (Err (Write Report fault)) = ⊥
+  EntersOr (Err (Write Log fault)) =
+      FailsFirst tells origin hands ends enters fails is_settled from old left new (Write Log fault)
+  EntersOr (Err (Run fault)) =
+      (IsFaultUnder open_gate fault × (EntersFirst tells origin hands ends enters fails is_settled from old left new
+      ⊎ ((other : Fault) × FailsFirst tells origin hands ends enters fails is_settled from old left new other)))
+      ⊎ FailsFirst tells origin hands ends enters fails is_settled from old left new (Run fault)

@@ -26,7 +26,7 @@ read_both inside outside = both_by (read_whole inside) (read_whole outside)
 
 -- FROM BYTES TO BYTES
 
--- what a run writes: the captures to both sides, and the report
+-- What a run writes: the captures to both sides, and the report.
 pub record RunTexts : Type 0 where
   pub outside : List ℕ
   pub inside : List ℕ
@@ -44,7 +44,7 @@ texts_made origin captures =
       report = report_text captures.inside.cut captures.outside.cut (ran_by origin arrivals);
     }
 
--- more than a run can count
+-- There are more records than a run can count.
 abbrev pub AreTooMany : CaptureFiles → Type 0
 AreTooMany captures = 2 ^ 32 ≤ length captures.inside.records + length captures.outside.records
 
@@ -57,7 +57,7 @@ texts_by origin (Ok captures) =
 abbrev pub texts_from : OriginModel → List ℕ → List ℕ → Result RunTexts Fault
 texts_from origin inside outside = texts_by origin (read_both inside outside)
 
--- from the bindings that a configuration opens with
+-- The texts of a run from the opening list of a configuration.
 abbrev pub texts : Rules → List ℕ → List ℕ → Result RunTexts Fault
 texts rules inside outside = texts_from (initial_origin rules) inside outside
 
@@ -69,13 +69,14 @@ text_to Inside all = all.inside
 text_to Report all = all.report
 text_to Log all = []
 
--- how much of its text an output gets
+-- How much of its text an output gets.
 pub data OutputShare : Type 0 where
   whole : OutputShare
   front : ℕ → OutputShare
   nothing : OutputShare
 
--- to the outside first, then to the inside, then the report; nothing after a fault of a capture or of the run
+-- The outputs to the outside, to the inside and the report are written in this order, and nothing after a fault of a
+-- capture or of the run.
 abbrev pub share_of : Which → Result (Unit {0}) Fault → OutputShare
 share_of which (Ok done) = whole
 share_of which (Err (Capture side fault)) = nothing
@@ -90,17 +91,17 @@ share_of Report (Err (Write Report fault)) = front fault.written
 share_of Report (Err (Write other fault)) = nothing
 share_of Log (Err (Write other fault)) = nothing
 
--- a writer with these bytes before and after got this share of a text
+-- A writer that had these bytes before and after got this share of a text.
 abbrev pub OutputReceives : OutputShare → List ℕ → Option (List ℕ) → Option (List ℕ) → Type 0
 OutputReceives whole text old new = Appends old new text
 OutputReceives (front written) text old new = (written ≤ length text) × Appends old new (take written text)
 OutputReceives nothing text old new = new ≡ old
 
--- if the bytes of both captures are known
+-- If the bytes of both captures are known.
 abbrev pub IfKnown : Option (List ℕ) → Option (List ℕ) → (List ℕ → List ℕ → Type 0) → Type 0
 IfKnown inside outside Holds = IfSome inside (λ bytes. IfSome outside (λ others. Holds bytes others))
 
--- it got this share of its text
+-- An output got this share of its text.
 abbrev pub GetsFrom : OriginModel → Which → OutputShare → Option (List ℕ) → Option (List ℕ) → Option (List ℕ) →
     Option (List ℕ) →
     Type 0
@@ -108,7 +109,7 @@ GetsFrom origin which nothing inside outside old new = new ≡ old
 GetsFrom origin which share inside outside old new = IfKnown inside outside (λ bytes others.
     IsOkAnd (texts_from origin bytes others) (λ all. OutputReceives share (text_to which all) old new))
 
--- what is returned gives the state that the run leaves
+-- What is returned gives the state that the run leaves.
 abbrev pub OutputIsLeft : OriginModel → Option (List ℕ) → Option (List ℕ) → RunSummary → Type 0
 OutputIsLeft origin inside outside passed = IfKnown inside outside (λ bytes others.
     IsOkAnd (read_both bytes others) (λ captures. GivesState origin (arrivals_of captures) passed))
@@ -119,7 +120,7 @@ abbrev pub IsPastInside : Result RunTexts Fault → Type 0
 IsPastInside (Err (Capture sides.Inside fault)) = ⊥
 IsPastInside other = ⊤
 
--- the result is that of the texts, unless a device, memory or a worker failed
+-- The result is that of the texts, unless a device, memory or a worker failed.
 abbrev pub Answers : Result RunTexts Fault → Result (Unit {0}) Fault → Type 0
 Answers all (Ok done) = IsOk all
 Answers all (Err (Capture sides.Inside fault)) = IsReadFault fault (all ≡ Err (Capture sides.Inside fault))
@@ -130,12 +131,12 @@ Answers all (Err (Run Memory)) = IsOk all
 Answers all (Err (Run (Pool fault))) = IsOk all
 Answers all (Err (Write which fault)) = IsOk all
 
--- and what a fault says of each capture alone, if only its bytes are known: the inside one is read first, and the run
--- starts once both are read
+-- What a fault says of each capture alone, if only its bytes are known: the inside one is read first, and the run
+-- starts once both are read.
 abbrev pub IsReadable : Option (List ℕ) → Type 0
 IsReadable known = IfSome known (λ bytes. IsOk (read_whole bytes))
 
--- it reads as its fault, unless the device failed, or memory, which is taken for records alone
+-- Reading the bytes gives this fault, unless the device failed or memory was refused, which is taken for records alone.
 abbrev pub IsFaultIn : Option (List ℕ) → CaptureFault → Type 0
 IsFaultIn known fault = IsReadFault fault (IfSome known (λ bytes. read_whole bytes ≡ Err fault)) ×
     IsForRecords known fault
@@ -147,7 +148,7 @@ Explains inside outside (Run fault) = IsReadable inside × IsReadable outside
 Explains inside outside (Write Log fault) = ⊥
 Explains inside outside (Write which fault) = IsReadable inside × IsReadable outside
 
--- how many reads of a side's capture failed, and how many writes of an output
+-- The number of failed reads of a side's capture, and of failed writes of an output.
 abbrev pub failed_readings : {T : Type 0} → Side → Result T Fault → ℕ
 failed_readings side (Ok done) = 0
 failed_readings sides.Inside (Err (Capture sides.Inside fault)) = let answer : Result CaptureModel CaptureFault =
@@ -166,29 +167,29 @@ failed_writings which other = 0
 
 -- BETWEEN READING AND WRITING
 
--- these contents were read from a capture, if its bytes are known
+-- These contents were read from a capture, if its bytes are known.
 abbrev pub IsReadFrom : Option (List ℕ) → CaptureModel → Type 0
 IsReadFrom known contents = IfSome known (λ bytes. read_whole bytes ≡ Ok contents)
 
--- the capture of a side was not read
+-- The capture of a side was not read.
 abbrev pub CaptureIsUnread : Side → Option (List ℕ) → Fault → Type 0
 CaptureIsUnread sides.Inside known (Capture sides.Inside fault) = IsFaultIn known fault
 CaptureIsUnread sides.Outside known (Capture sides.Outside fault) = IsFaultIn known fault
 CaptureIsUnread side known other = ⊥
 
--- the outputs made for these captures
+-- The outputs made for these captures.
 pub record AreOutputs (origin : OriginModel) (captures : CaptureFiles) (outputs : CaptureOutputs) : Type 0 where
   pub to_outside : outputs.to_outside ≡ (texts_made origin captures).outside
   pub to_inside : outputs.to_inside ≡ (texts_made origin captures).inside
   pub report : string_bytes outputs.report ≡ (texts_made origin captures).report
   pub leaves : GivesState origin (arrivals_of captures) outputs.passed
 
--- the output that goes to a side
+-- The output that goes to a side.
 abbrev pub output_to : Side → Which
 output_to sides.Inside = Inside
 output_to sides.Outside = Outside
 
--- writing this output failed
+-- Writing this output failed.
 abbrev pub IsWriteFaultOf : Which → Fault → Type 0
 IsWriteFaultOf Outside (Write Outside fault) = Unit {0}
 IsWriteFaultOf Inside (Write Inside fault) = Unit {0}

@@ -22,12 +22,13 @@ module _ {R Q W V U L : Type 0} (A : source.Ghosts R) (B : source.Ghosts Q) wher
   abbrev pub EndPost : OriginModel → Devices R Q W V U L → RunEnd → Type 0
   EndPost origin old end = LeavesInTheEnd origin (A.remaining old.inside) (B.remaining old.outside) end.passed
 
-  -- The fault is that of the captures, or comes of memory, a thread, a worker or an output.
+  -- The fault is that of the captures, or has its cause in memory, a thread, a worker or an output.
   abbrev pub ExplainedBy : Bool → Bool → Devices R Q W V U L → Fault → Type 0
   ExplainedBy is_kept open_gate old fault =
       FaultPost is_kept open_gate (A.remaining old.inside) (B.remaining old.outside) fault
 
-  -- Which reads failed: unless the run or its log did, those that the result says. A failed write may hide one.
+  -- The reads that failed are those that the result says, unless the run or its log failed. A failed write may hide
+  -- one.
   abbrev pub ReadsPost : Devices R Q W V U L → Result (Unit {0}) Fault → Devices R Q W V U L → Type 0
   ReadsPost old result new = (¬ IsOfRun result) →
       HasRead A.failed B.failed old.inside new.inside old.outside new.outside result

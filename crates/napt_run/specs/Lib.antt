@@ -25,9 +25,9 @@ pub mod StreamLaws
 pub mod LogOrigins
 pub mod RunningLogs
 pub mod RunningLogLaws
-pub mod LoggedStreams
 pub mod Posts
 pub mod Logs
 pub mod LogLaws
 pub mod DevicesPosts
 pub mod WholePosts
+pub mod JoinedTexts

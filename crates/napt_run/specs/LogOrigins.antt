@@ -6,19 +6,19 @@ use Rattle.napt_log_text.specs.{Logs.{LogOrigin, first_part, first_text, living_
 use Rattle.napt_rules.specs.Prelude.{Arrival, State, initial_state, with_redirects}
 use Rattle.napt_run.specs.{Origins.{OriginModel, origin_of}, declared.{start.Start.Start, log_start.{LogStart.LogStart, TakenLog.TakenLog}}}
 
--- the text of a log once these inputs came, and at the end of the run over them
+-- The text of a log after these inputs, and at the end of the run over them.
 pub record LogTexts : Type 0 where
   pub so_far : List Arrival → TimeText
   pub whole : List Arrival → TimeText
 
--- of a run before any input
+-- The texts of a run from the state before any input.
 abbrev pub texts_anew : Rules → LogTexts
 texts_anew rules = record {
   so_far = log_so_far rules (initial_state rules) (log_anew rules) None;
   whole = log_text rules (initial_state rules) (log_anew rules) None false;
 }
 
--- What the log of a run goes on from: what its state keeps of it, as the configuration takes that up.
+-- What the log of a run goes on from: what its state keeps of the log, as the configuration takes it up.
 abbrev pub origin_saved : Rules → State → SavedLogStateModel → Bool → LogOrigin
 origin_saved rules state saved is_new = record {
   before = log_before rules state saved;
@@ -31,7 +31,7 @@ abbrev pub log_origin : Start → LogStart → LogOrigin
 log_origin start log_start =
     origin_saved start.config.now start.state.now log_start.saved.now log_start.is_new
 
--- Its texts.
+-- The texts of a log from there.
 abbrev pub texts_from : Start → LogStart → LogTexts
 texts_from start log_start =
     let origin : OriginModel = origin_of start in
@@ -42,7 +42,8 @@ texts_from start log_start =
       whole = log_text origin.rules origin.state log each log_start.goes_on;
     }
 
--- Where a state keeps nothing of a log, the log of a run from it is that of a run before any input, in one piece.
+-- If a state keeps nothing of a log, the log of a run from it, in one piece, is that of a run from the state before any
+-- input.
 abbrev pub BeginsLogsAnew : State → Type 0
 BeginsLogsAnew state = (rules : Rules) (saved : SavedLogStateModel) → saved ≡ no_saved_log →
     (let origin : LogOrigin = origin_saved rules state saved true in let t : LogTexts = record {
@@ -52,7 +53,7 @@ BeginsLogsAnew state = (rules : Rules) (saved : SavedLogStateModel) → saved �
 
 -- STEPS
 
--- The same as the code has it.
+-- The same, as the code has it.
 abbrev pub origin_from : LogFromState → Bool → LogOrigin
 origin_from started is_new = record {
   before = started.before;
@@ -61,7 +62,7 @@ origin_from started is_new = record {
   is_new = is_new;
 }
 
--- A log as it was taken up, and how its text begins.
+-- A log as it was taken up, and the beginning of its text.
 pub record IsTakenAs (start : Start) (log_start : LogStart) (taken : TakenLog) : Type 0 where
   pub of : IsLogOf start.config.now (origin_of start).state (log_origin start log_start).log
   pub known : taken.log ≡ record {
@@ -73,7 +74,7 @@ pub record IsTakenAs (start : Start) (log_start : LogStart) (taken : TakenLog) :
   }
   pub opening : string_bytes taken.opening ≡ first_text start.config.now (log_origin start log_start)
 
--- a run whose log goes on: how its text begins, its log, how many seconds a piece has, and whether another run goes on
+-- A run whose log goes on: the beginning of its text, the log, the seconds in a piece, and whether another run goes on.
 pub record LoggedOrigin : Type 0 where
   pub origin : OriginModel
   pub opening : TimeText
@@ -85,7 +86,7 @@ unfoldable pub text_so_far : LoggedOrigin → List Arrival → TimeText
 text_so_far from inputs =
     from.opening ++ rows_from from.origin.rules from.origin.state from.each from.log inputs
 
--- no row of what lives where another run goes on
+-- The rows of the live bindings, unless another run goes on.
 unfoldable pub ending : LoggedOrigin → List Arrival → TimeText
 ending from inputs = if from.goes_on then []
     else living_rows from.origin.rules

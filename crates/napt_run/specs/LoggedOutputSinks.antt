@@ -1,55 +1,56 @@
 -- What leaves during a run, and what that does to the log and then to the outputs.
-use Rattle.std.{specs.Prelude.{◌≡◌, ℕ, List, [], ◌++◌, map, refl}, proofs.{Common.{sym, ◌∙◌, subst}, lemmas.List.map-append}}
+use Rattle.std.{specs.Prelude.{◌≡◌, ◌⊎◌, ℕ, List, [], ◌++◌, map, refl}, proofs.{Common.{sym, ◌∙◌, subst}, lemmas.List.map-append}}
 use Rattle.napt_capture.specs.declared.device.Sink.{Ghosts}
 use Rattle.napt_dispatch.specs.declared.outcome_sink.InputResult.{InputResult}
-use Rattle.napt_run.specs.{OutputSinks.{SinkFails, IsSettled, SinkTakes, TimedOutcomes}, OutputSinkLaws.{takes_none, takes_more}, LogRuns.Legs}
-use Rattle.napt_run.specs.declared.{output_sinks.OutputFault.OutputFault, logged_output_sinks.LeavingFault.{LeavingFault, TheVariants.{Output, Log}}}
+use Rattle.napt_run.specs.{OutputSinks.{IsOfOutput, SinkFails, IsSettled, SinkTakes, TimedOutcomes}, OutputSinkLaws.{takes_none, takes_more}, LogRuns.{IsLogFault, Legs}}
+use Rattle.napt_records.specs.declared.Fault.{Fault}
 use Rattle.napt_run.specs.declared.logged_output_sinks.LeavingWithLog.{LeavingWithLog}
 
--- the outcomes of what left, with the arrival times of their inputs
+-- The outcomes of what left, with the arrival times of their inputs.
 abbrev pub outcomes_in : {P : Type 0} → List (ℕ × InputResult P) → List TimedOutcomes
 outcomes_in all = map (λ left. (left.0, left.1.outcome)) all
 
--- and what was told of its legs
+-- The traces of the legs of what left.
 abbrev pub legs_in : {P : Type 0} → List (ℕ × InputResult P) → List (Legs P)
 legs_in all = map (λ left. (left.1.now, left.1.first, left.1.second)) all
 
 module _ {W V K : Type 0} {S : Ghosts W} {T : Ghosts V} where
-  -- its log is at the same place
+  -- Its log is at the same place.
   abbrev pub IsSameSinkPlace : LeavingWithLog W V K S T → LeavingWithLog W V K S T → Type 0
   IsSameSinkPlace old new = new.log.ghost_name ≡ old.log.ghost_name
 
-  -- all that left is flushed, the log too
+  -- All that left is flushed, the log too.
   abbrev pub AreSettled : (K → Type 0) → LeavingWithLog W V K S T → Type 0
   AreSettled is_settled it = IsSettled it.leaving × is_settled it.log.now
 
 module _ {P W V K : Type 0} {S : Ghosts W} {T : Ghosts V} where
-  -- the log was entered all that left, and the outputs have its records
+  -- All that left was recorded in the log, and the outputs have its records.
   pub record TakesBoth (enters : K → List (Legs P) → K → Type 0) (old : LeavingWithLog W V K S T)
       (all : List (ℕ × InputResult P)) (new : LeavingWithLog W V K S T) : Type 0 where
     pub took : SinkTakes old.leaving (outcomes_in all) new.leaving
     pub entered : enters old.log.now (legs_in all) new.log.now
     pub same : IsSameSinkPlace old new
 
-  -- an output failed, and the log was entered all
+  -- An output failed, and everything was recorded in the log.
   pub record FailsOutput (enters : K → List (Legs P) → K → Type 0) (old : LeavingWithLog W V K S T)
-      (all : List (ℕ × InputResult P)) (fault : OutputFault) (new : LeavingWithLog W V K S T) : Type 0 where
+      (all : List (ℕ × InputResult P)) (fault : Fault) (new : LeavingWithLog W V K S T) : Type 0 where
+    pub of_output : IsOfOutput fault
     pub failed : SinkFails old.leaving (outcomes_in all) fault new.leaving
     pub entered : enters old.log.now (legs_in all) new.log.now
     pub same : IsSameSinkPlace old new
 
   -- the log failed, and no output has more than before
-  pub record FailsLog {E : Type 0} (fails : K → List (Legs P) → E → K → Type 0) (old : LeavingWithLog W V K S T)
-      (all : List (ℕ × InputResult P)) (fault : E) (new : LeavingWithLog W V K S T) : Type 0 where
+  pub record FailsLog (fails : K → List (Legs P) → Fault → K → Type 0) (old : LeavingWithLog W V K S T)
+      (all : List (ℕ × InputResult P)) (fault : Fault) (new : LeavingWithLog W V K S T) : Type 0 where
+    pub of_log : IsLogFault fault
     pub kept : new.leaving ≡ old.leaving
     pub failed : fails old.log.now (legs_in all) fault new.log.now
     pub same : IsSameSinkPlace old new
 
-  abbrev pub FailsEither : {E : Type 0} → (K → List (Legs P) → K → Type 0) →
-      (K → List (Legs P) → E → K → Type 0) → LeavingWithLog W V K S T → List (ℕ × InputResult P) → LeavingFault E →
-      LeavingWithLog W V K S T → Type 0
-  FailsEither enters fails old all (Output fault) new = FailsOutput enters old all fault new
-  FailsEither enters fails old all (Log fault) new = FailsLog fails old all fault new
+  abbrev pub FailsEither : (K → List (Legs P) → K → Type 0) → (K → List (Legs P) → Fault → K → Type 0) →
+      LeavingWithLog W V K S T → List (ℕ × InputResult P) → Fault → LeavingWithLog W V K S T → Type 0
+  FailsEither enters fails old all fault new =
+      FailsOutput enters old all fault new ⊎ FailsLog fails old all fault new
 
   pub both_none : (enters : K → List (Legs P) → K → Type 0) → ((x : K) → enters x [] x) →
       (x : LeavingWithLog W V K S T) → TakesBoth enters x [] x

@@ -9,21 +9,21 @@ pub record OriginModel : Type 0 where
   pub rules : Rules
   pub state : State
 
--- a configuration before any input
+-- A configuration before any input.
 abbrev pub initial_origin : Rules → OriginModel
 initial_origin rules = record { rules = rules; state = initial_state rules }
 
--- a state as it goes on under a configuration
+-- A state as it goes on under a configuration.
 abbrev pub resumed_origin : Rules → State → OriginModel
 resumed_origin rules state = record { rules = rules; state = with_redirects rules state }
 
 abbrev pub origin_of : Start → OriginModel
 origin_of start = resumed_origin start.config.now start.state.now
 
--- what a run over these inputs gives
+-- What a run over these inputs gives.
 unfoldable pub ran_by : OriginModel → List Arrival → RunResult
 ran_by origin inputs = run_result_from origin.rules origin.state inputs
 
--- what is returned gives the state that the run leaves
+-- What is returned gives the state that the run leaves.
 abbrev pub GivesState : OriginModel → List Arrival → RunSummary → Type 0
 GivesState origin inputs passed = LeavesState origin.rules (next_state origin.rules origin.state inputs) passed

@@ -1,30 +1,30 @@
 -- What leaves during a run, and what that does to the outputs.
-use Rattle.std.specs.Prelude.{◌≡◌, ℕ, ◌^◌, ◌<◌, List, [], ◌++◌, length, map, filter_map, flat_map, All, false, Result, Ok, Err}
+use Rattle.std.specs.Prelude.{◌≡◌, ⊤, ℕ, ◌^◌, ◌<◌, List, [], ◌++◌, length, map, filter_map, flat_map, All, false, Result, Ok, Err}
 use Rattle.napt_wire.specs.declared.Side.{Side}
 use Rattle.napt_wire.specs.declared.Side.TheVariants as sides
 use Rattle.napt_capture.specs.{Text.{file_header, record_text}, declared.{device.Sink.Ghosts, fault.WriteFault.WriteFault}}
 use Rattle.napt_rules.specs.declared.Outcome.{Outcome}
 use Rattle.napt_records.specs.{Output.{packet_to, record_at, IsTime}, Counts.AreCountsOf, declared.{Fault.{Fault, TheVariants.Write}, Which.Which}}
-use Rattle.napt_records.specs.declared.Which.TheVariants.{Outside, Inside, Report, Log}
-use Rattle.napt_run.specs.{Outputs.{OutputGrows, Breaks}, declared.output_sinks.{Leaving.Leaving, OutputFault.OutputFault}}
+use Rattle.napt_records.specs.declared.Which.TheVariants.{Outside, Inside}
+use Rattle.napt_run.specs.{Outputs.{OutputGrows, Breaks}, declared.output_sinks.Leaving.Leaving}
 
--- an outcome, with the arrival time of its input
+-- An outcome, with the arrival time of its input.
 abbrev pub TimedOutcomes : Type 0
 TimedOutcomes = ℕ × Outcome
 
--- the text of those that go to a side
+-- The text of the records that go to a side.
 abbrev pub records_text : Side → List TimedOutcomes → List ℕ
 records_text side all = flat_map record_text (filter_map (λ timed. record_at timed.0 (packet_to side timed.1)) all)
 
 abbrev pub AreTimes : List TimedOutcomes → Type 0
 AreTimes all = All (λ timed. IsTime timed.0) all
 
--- no call of either output failed
+-- No call of either output failed.
 abbrev pub AreTimesSound : {W V : Type 0} {S : Ghosts W} {T : Ghosts V} → Leaving W V S T → Type 0
 AreTimesSound leaving = (leaving.to_outside.is_broken ≡ false) × (leaving.to_inside.is_broken ≡ false)
 
 module _ {W V : Type 0} {S : Ghosts W} {T : Ghosts V} where
-  -- these left: each output has their records, and they are counted
+  -- These outcomes left: each output has its records of them, and they are counted.
   pub record SinkTakes (old : Leaving W V S T) (all : List TimedOutcomes) (new : Leaving W V S T) : Type 0 where
     pub to_outside : AreTimes all → OutputGrows old.to_outside (records_text sides.Outside all) new.to_outside
     pub to_inside : AreTimes all → OutputGrows old.to_inside (records_text sides.Inside all) new.to_inside
@@ -32,26 +32,25 @@ module _ {W V : Type 0} {S : Ghosts W} {T : Ghosts V} where
         AreCountsOf outcomes old.counts → AreCountsOf (outcomes ++ map (λ timed. timed.1) all) new.counts
 
   -- an output failed while these left, and the other one has nothing more, or all of them
-  abbrev pub FailsBy : Leaving W V S T → List TimedOutcomes → Which → WriteFault → Leaving W V S T → Type 0
-  FailsBy old all Outside fault new =
+  abbrev pub FailsBy : Leaving W V S T → List TimedOutcomes → Fault → Leaving W V S T → Type 0
+  FailsBy old all (Write Outside fault) new =
       Breaks old.to_outside (records_text sides.Outside all) fault new.to_outside
       × OutputGrows old.to_inside [] new.to_inside
-  FailsBy old all Inside fault new =
+  FailsBy old all (Write Inside fault) new =
       OutputGrows old.to_outside (records_text sides.Outside all) new.to_outside
       × Breaks old.to_inside (records_text sides.Inside all) fault new.to_inside
-  FailsBy old all Report fault new = ⊥
-  FailsBy old all Log fault new = ⊥
+  FailsBy old all other new = ⊥
 
-  abbrev pub SinkFails : Leaving W V S T → List TimedOutcomes → OutputFault → Leaving W V S T → Type 0
-  SinkFails old all fault new = AreTimesSound old → AreTimes all → FailsBy old all fault.which fault.fault new
+  abbrev pub SinkFails : Leaving W V S T → List TimedOutcomes → Fault → Leaving W V S T → Type 0
+  SinkFails old all fault new = AreTimesSound old → AreTimes all → FailsBy old all fault new
 
-  -- the headers were written
+  -- The headers were written.
   pub record SinkBegins (old new : Leaving W V S T) : Type 0 where
     pub to_outside : OutputGrows old.to_outside file_header new.to_outside
     pub to_inside : OutputGrows old.to_inside file_header new.to_inside
     pub counts : new.counts ≡ old.counts
 
-  -- writing a header failed; the one to the outside goes first
+  -- Writing a header failed; the one to the outside is written first.
   abbrev pub FailsToBegin : Leaving W V S T → Fault → Leaving W V S T → Type 0
   FailsToBegin old (Write Outside fault) new =
       Breaks old.to_outside file_header fault new.to_outside × (new.to_inside ≡ old.to_inside)
@@ -59,12 +58,25 @@ module _ {W V : Type 0} {S : Ghosts W} {T : Ghosts V} where
       OutputGrows old.to_outside file_header new.to_outside × Breaks old.to_inside file_header fault new.to_inside
   FailsToBegin old other new = ⊥
 
--- all that left is flushed
+-- All that left is flushed.
 abbrev pub IsSettled : {W V : Type 0} {S : Ghosts W} {T : Ghosts V} → Leaving W V S T → Type 0
 IsSettled {W} {V} {S} {T} leaving =
     S.is_flushed leaving.to_outside.device.now × T.is_flushed leaving.to_inside.device.now
 
+-- an output fails so
+abbrev pub IsOfOutput : Fault → Type 0
+IsOfOutput (Write Outside fault) = ⊤
+IsOfOutput (Write Inside fault) = ⊤
+IsOfOutput other = ⊥
+
 -- an answer of an output, by its name
-abbrev pub named : Which → Result (Unit {0}) WriteFault → Result (Unit {0}) OutputFault
+abbrev pub named : Which → Result (Unit {0}) WriteFault → Result (Unit {0}) Fault
 named which (Ok done) = Ok done
-named which (Err fault) = Err (record { which = which; fault = fault })
+named which (Err fault) = Err (Write which fault)
+
+-- the captures before anything is written
+pub record IsNew {W V : Type 0} {S : Ghosts W} {T : Ghosts V} (leaving : Leaving W V S T) : Type 0 where
+  pub sound : AreTimesSound leaving
+  pub none_outside : leaving.to_outside.written ≡ 0
+  pub none_inside : leaving.to_inside.written ≡ 0
+  pub counts : AreCountsOf [] leaving.counts

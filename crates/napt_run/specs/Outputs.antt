@@ -3,7 +3,7 @@ use Rattle.std.specs.{Prelude.{◌≡◌, ℕ, ◌+◌, ◌-◌, ◌^◌, ◌≤
 use Rattle.napt_capture.specs.declared.{device.Sink.Ghosts, fault.WriteFault.WriteFault}
 use Rattle.napt_run.specs.declared.output.Output.{Output}
 
--- this text was written, and no call failed
+-- This text was written, and no call failed.
 pub record OutputGrows {W : Type 0} {S : Ghosts W} (old : Output W S) (text : List ℕ) (new : Output W S) : Type 0 where
   pub same : new.device.ghost_name ≡ old.device.ghost_name
   pub sound : old.is_broken ≡ false → new.is_broken ≡ false
@@ -11,7 +11,7 @@ pub record OutputGrows {W : Type 0} {S : Ghosts W} (old : Output W S) (text : Li
   pub appended : Appends (S.contents old.device.now) (S.contents new.device.now) text
   pub kept : S.failed new.device.now ≡ S.failed old.device.now
 
--- a front of it was written, and a call failed
+-- A prefix of the text was written, and a call failed.
 pub record Breaks {W : Type 0} {S : Ghosts W} (old : Output W S) (text : List ℕ) (fault : WriteFault)
     (new : Output W S) : Type 0 where
   pub same : new.device.ghost_name ≡ old.device.ghost_name

@@ -1,15 +1,15 @@
 -- What a run over captures that are read as they arrive leaves on its devices, by its result: how many bytes of its text
 -- each output has, and which fault the run returns. Nothing is said of the bytes of a device that are not known.
-use Rattle.std.specs.Prelude.{◌≡◌, ◌⊎◌, ⊤, ℕ, ◌+◌, ◌-◌, ◌^◌, ◌≤◌, min, List, length, take, Bool, true, false, Option, Result, Ok, Err, IsOk}
+use Rattle.std.specs.Prelude.{◌≡◌, ◌⊎◌, ⊤, ℕ, ◌+◌, ◌-◌, ◌^◌, ◌≤◌, min, List, length, take, Bool, true, false, Option, Result, Ok, Err, IfOk, IsOk}
 use Rattle.std.specs.Io.KnownBytes.{Appends}
-use Rattle.napt_capture.specs.{Reading.IsReadFault, Text.file_header, declared.{device.Sink.Ghosts}}
+use Rattle.napt_capture.specs.{Reading.IsReadFault, Text.file_header, declared.{device.Sink.Ghosts, fault.WriteFault.WriteFault}}
 use Rattle.napt_account.specs.Log.{LogModel}
 use Rattle.napt_laws.specs.Dispatching.{IsFrontOf}
 use Rattle.napt_records.specs.{Faults.is_shut_gate_fault, RecordMerging.MergedInputs, declared.{Fault.{Fault, TheVariants.{Capture, Run, Write}}, Which.{Which, TheVariants.{Outside, Inside, Report, Log}}}}
 use Rattle.napt_rules.specs.Prelude.{Arrival}
 use Rattle.napt_sequential.specs.declared.fault.RunFault.TheVariants as reasons
-use Rattle.napt_run.specs.{Captures.failed_writings, LogOrigins.LogTexts, Origins.OriginModel, Runs.IfHeld, declared.run_end.RunEnd.RunEnd}
-use Rattle.napt_run.specs.Streams.{IsStreamFaultOf, IsOfRun, IsSettledBy, capture_text, side_of}
+use Rattle.napt_run.specs.{LogOrigins.LogTexts, Origins.OriginModel, Runs.{IfHeld, IsToldOf}, declared.{capture_run.Totals.Totals, output.Output.Output, output_sinks.Leaving.Leaving, run_end.RunEnd.RunEnd}}
+use Rattle.napt_run.specs.Streams.{IsStreamFaultOf, IsOfRun, IsSettledBy, capture_text, side_of, stream_ended}
 
 -- THE TEXT OF AN OUTPUT
 
@@ -18,12 +18,39 @@ abbrev pub capture_to : Which → OriginModel → LogTexts
 capture_to which origin =
     record { so_far = capture_text origin (side_of which); whole = capture_text origin (side_of which) }
 
--- After a fault of a capture, the text without the part that is written at the end.
+-- Whether the part that is written at the end may have begun: not if a capture, another output, the gate or a worker
+-- failed, or there were too many inputs.
+abbrev pub may_have_ended : Result (Unit {0}) Fault → Bool
+may_have_ended (Ok done) = true
+may_have_ended (Err (Write Report fault)) = true
+may_have_ended (Err (Write Log fault)) = true
+may_have_ended (Err (Run reasons.Memory)) = true
+may_have_ended (Err other) = false
+
+abbrev pub text_if : Bool → LogTexts → List Arrival → List ℕ
+text_if true texts = texts.whole
+text_if false texts = texts.so_far
+
 abbrev pub output_text_by : LogTexts → Result (Unit {0}) Fault → List Arrival → List ℕ
-output_text_by texts (Err (Capture side fault)) = texts.so_far
-output_text_by texts other = texts.whole
+output_text_by texts result = text_if (may_have_ended result) texts
 
 -- HOW MANY BYTES OF IT AN OUTPUT HAS, by the result of the run: count, of the text of these inputs, which has this size
+
+-- At least the header of a capture; some bytes of the log.
+abbrev pub IsBegun : Which → ℕ → Type 0
+IsBegun Log count = ⊤
+IsBegun which count = length file_header ≤ count
+
+-- Writing the second output failed.
+abbrev pub WriteExtent : Which → Which → WriteFault → ℕ → ℕ → Type 0
+-- As many as its own fault says, whose number saturates.
+WriteExtent Outside Outside fault count size = fault.written ≡ min count (2 ^ 64 - 1)
+WriteExtent Inside Inside fault count size = fault.written ≡ min count (2 ^ 64 - 1)
+WriteExtent Log Log fault count size = fault.written ≡ min count (2 ^ 64 - 1)
+-- Those of whole records, unless writing the header of the other capture failed.
+WriteExtent Outside Inside fault count size = count ≡ size
+WriteExtent Inside Outside fault count size = (count ≡ size) ⊎ ((count ≡ 0) × (fault.written ≤ length file_header))
+WriteExtent which other fault count size = IsBegun which count
 
 abbrev pub ExtentPost : Which → Result (Unit {0}) Fault → MergedInputs → List Arrival → ℕ → ℕ → Type 0
 -- All of them, of all inputs, and the captures have no fault.
@@ -33,21 +60,10 @@ ExtentPost which (Err (Write Report fault)) all inputs count size =
 -- All of them, of the inputs before the fault, or of some first inputs if a read failed or memory was refused.
 ExtentPost which (Err (Capture side fault)) all inputs count size =
     IsReadFault fault (all ≡ record { arrivals = inputs; end = Err (record { side = side; fault = fault }) }) × (count ≡ size)
--- As many as its own fault says, whose number saturates.
-ExtentPost Outside (Err (Write Outside fault)) all inputs count size = fault.written ≡ min count (2 ^ 64 - 1)
-ExtentPost Inside (Err (Write Inside fault)) all inputs count size = fault.written ≡ min count (2 ^ 64 - 1)
-ExtentPost Log (Err (Write Log fault)) all inputs count size = fault.written ≡ min count (2 ^ 64 - 1)
--- Those of whole records, unless writing the header of the other capture failed.
-ExtentPost Outside (Err (Write Inside fault)) all inputs count size = count ≡ size
-ExtentPost Inside (Err (Write Outside fault)) all inputs count size =
-    (count ≡ size) ⊎ ((count ≡ 0) × (fault.written ≤ length file_header))
--- At least the header, if the run or its log failed.
-ExtentPost Outside (Err (Write Log fault)) all inputs count size = length file_header ≤ count
-ExtentPost Inside (Err (Write Log fault)) all inputs count size = length file_header ≤ count
-ExtentPost Outside (Err (Run fault)) all inputs count size = length file_header ≤ count
-ExtentPost Inside (Err (Run fault)) all inputs count size = length file_header ≤ count
--- Some bytes of the log, if anything else failed.
-ExtentPost which other all inputs count size = ⊤
+ExtentPost which (Err (Write Outside fault)) all inputs count size = WriteExtent which Outside fault count size
+ExtentPost which (Err (Write Inside fault)) all inputs count size = WriteExtent which Inside fault count size
+ExtentPost which (Err (Write Log fault)) all inputs count size = WriteExtent which Log fault count size
+ExtentPost which (Err (Run fault)) all inputs count size = IsBegun which count
 
 -- An output has the first count bytes of the text of some first inputs.
 pub record OutputPost (texts : LogTexts) (which : Which) (result : Result (Unit {0}) Fault) (all : MergedInputs)
@@ -64,15 +80,22 @@ pub record OutputPost (texts : LogTexts) (which : Which) (result : Result (Unit 
 abbrev pub AtMostOneMore : ℕ → ℕ → Type 0
 AtMostOneMore old new = (new ≡ old) ⊎ (new ≡ old + 1)
 
+-- Writing the second output failed: one call of its own, and perhaps one of the log, or of a capture if the log failed.
+abbrev pub FailedWrites : Which → Which → ℕ → ℕ → Type 0
+FailedWrites Log Log old new = new ≡ old + 1
+FailedWrites Log Report old new = new ≡ old
+FailedWrites Log other old new = AtMostOneMore old new
+FailedWrites which Log old new = AtMostOneMore old new
+FailedWrites Outside Outside old new = new ≡ old + 1
+FailedWrites Inside Inside old new = new ≡ old + 1
+FailedWrites which other old new = new ≡ old
+
 -- As many as the result says. An earlier fault may hide one.
 abbrev pub FailedPost : Which → Result (Unit {0}) Fault → ℕ → ℕ → Type 0
-FailedPost Log (Err (Run fault)) old new = AtMostOneMore old new
-FailedPost Log (Err (Write Outside fault)) old new = AtMostOneMore old new
-FailedPost Log (Err (Write Inside fault)) old new = AtMostOneMore old new
-FailedPost Log (Err (Write Log fault)) old new = new ≡ old + 1
-FailedPost which (Err (Run fault)) old new = ⊤
-FailedPost which (Err (Write Log fault)) old new = ⊤
-FailedPost which result old new = new ≡ old + failed_writings which result
+FailedPost which (Ok done) old new = new ≡ old
+FailedPost which (Err (Capture side fault)) old new = new ≡ old
+FailedPost which (Err (Write other fault)) old new = FailedWrites which other old new
+FailedPost which (Err (Run fault)) old new = AtMostOneMore old new
 
 -- THE DEVICES
 
@@ -115,13 +138,45 @@ abbrev pub log_by : {T : Type 0} → Result (T × LogModel) Fault → Result Log
 log_by (Ok (told, log)) = Ok log
 log_by (Err fault) = Err fault
 
+-- WHERE A RUN FAILED
+
 -- The fault is not one of writing the report.
 abbrev pub IsBeforeReport : Fault → Type 0
 IsBeforeReport (Write Report fault) = ⊥
 IsBeforeReport other = ⊤
+
+-- A text of the log could not be made or written.
+abbrev pub IsTextFault : Bool → Fault → Type 0
+IsTextFault is_kept (Write Log fault) = is_kept ≡ true
+IsTextFault is_kept (Run reasons.Memory) = is_kept ≡ true
+IsTextFault is_kept other = ⊥
+
+-- The captures were read to their ends, and the end of the log or the report failed.
+abbrev pub IsEndFault : Fault → Type 0
+IsEndFault (Write Report fault) = ⊤
+IsEndFault (Write Log fault) = ⊤
+IsEndFault (Run reasons.Memory) = ⊤
+IsEndFault other = ⊥
 
 -- Both captures were read to their ends.
 abbrev pub IsDone : Result (Unit {0}) Fault → Type 0
 IsDone (Ok done) = Unit {0}
 IsDone (Err (Write Report fault)) = Unit {0}
 IsDone other = ⊥
+
+-- STEPS
+
+-- The same of an output that holds its device.
+pub record OutputEnds {D : Type 0} {S : Ghosts D} (texts : LogTexts) (which : Which) (inside outside : Option (List ℕ))
+    (result : Result (Unit {0}) Fault) (old new : Output D S) : Type 0 where
+  pub same : new.device.ghost_name ≡ old.device.ghost_name
+  pub post : SinkPost S texts which inside outside result old.device.now new.device.now
+
+-- What a run leaves over captures: both outputs, and what the report says.
+pub record RunsTo {W V : Type 0} {S : Ghosts W} {T : Ghosts V} (origin : OriginModel) (inside outside : Option (List ℕ))
+    (old new : Leaving W V S T) (result : Result Totals Fault) : Type 0 where
+  pub to_outside : OutputEnds (capture_to Outside origin) Outside inside outside (stream_ended result) old.to_outside
+      new.to_outside
+  pub to_inside : OutputEnds (capture_to Inside origin) Inside inside outside (stream_ended result) old.to_inside
+      new.to_inside
+  pub told : IfOk result (IsToldOf origin inside outside)

@@ -1,14 +1,13 @@
--- What is entered in a log in two parts is entered as one.
+-- What is recorded in a log in two parts can be taken as one part.
 use Rattle.std.{specs.Prelude.{◌≡◌, ℕ, List, [], ◌∷◌, ◌++◌, Option, Some, None}, proofs.{Common.{refl, sym, ◌∙◌, ap, subst, append-nil, append_assoc}, lemmas.List.map-append}}
 use Rattle.napt_capture.specs.declared.device.Sink.{Ghosts}
 use Rattle.napt_config.specs.Rules.{Rules}
 use Rattle.napt_account.{specs.{Effects.log_after, Log.{LogModel, after_input}, LogBuilders.IsBuilderFault, LogParts.{kept_at, part_between}}, proofs.GoingOn.fold_joined}
 use Rattle.napt_log_text.specs.{Logs.{part_rows, piece_opening, rows_by}, Times.TimeText}
-use Rattle.napt_records.specs.declared.fault.Fault.TheVariants as faults
+use Rattle.napt_records.specs.declared.{Fault.{Fault, TheVariants.{Capture, Run, Write}}, Which.TheVariants.{Outside, Inside, Report, Log}}
 use Rattle.napt_sequential.specs.declared.passage.{Passage.Passage, Trace.Trace}
 use Rattle.napt_run.specs.{OutputSinkLaws.{breaks_more, grows_more, grows_none}, LogRuns.Legs, Outputs.{Breaks, OutputGrows}}
-use Rattle.napt_run.specs.{LogOrigins.LoggedOrigin, RunningLogs.{Enters, LogFails, FailsBy, LogIsAt, known_logs, last_time, rows_in, running_log_traces, last_trace_time}, declared.logged_fault.LogRunFault.LogRunFault}
-use Rattle.napt_run.specs.declared.{logged_fault.LogRunFault.TheVariants.{Run, Log}, running_log.RunningLog.RunningLog}
+use Rattle.napt_run.specs.{LogOrigins.LoggedOrigin, RunningLogs.{Enters, LogFails, FailsBy, LogIsAt, known_logs, last_time, rows_in, running_log_traces, last_trace_time}, declared.log_writer.LogWriter.LogWriter}
 
 traces_join : (xs ys : List (Legs Passage)) → running_log_traces (xs ++ ys) ≡ running_log_traces xs
     ++ running_log_traces ys
@@ -46,13 +45,13 @@ rows_in-append from before xs ys =
     (sym (time_joined clock before xs) i) (sym (fold_joined after_input before xs from.log) i) ys)
 
 module _ {L : Type 0} {S : Ghosts L} where
-  pub enters_none : (x : RunningLog L S) → Enters x [] x
+  pub enters_none : (x : LogWriter L S) → Enters x [] x
   enters_none x = λ from before at. record {
     at = subst (λ (l : List Trace). LogIsAt from l x) (sym (append-nil before)) at;
     wrote = grows_none x.output;
   }
 
-  pub enters_more : (x y z : RunningLog L S) (xs ys : List (Legs Passage)) → Enters x (running_log_traces xs) y →
+  pub enters_more : (x y z : LogWriter L S) (xs ys : List (Legs Passage)) → Enters x (running_log_traces xs) y →
       Enters y (running_log_traces ys) z → Enters x (running_log_traces (xs ++ ys)) z
   enters_more x y z xs ys one two = subst (λ (ts : List Trace). Enters x ts z) (sym (traces_join xs ys))
       (λ from before at.
@@ -66,13 +65,13 @@ module _ {L : Type 0} {S : Ghosts L} where
             (grows_more x.output y.output z.output _ _ first.wrote second.wrote);
       })
 
-  fails_by : (from : LoggedOrigin) (before xs ys : List Trace) (x y z : RunningLog L S) (fault : LogRunFault) →
+  fails_by : (from : LoggedOrigin) (before xs ys : List Trace) (x y z : LogWriter L S) (fault : Fault) →
       OutputGrows x.output (rows_in from before xs) y.output → FailsBy from (before ++ xs) ys fault y z →
       FailsBy from before (xs ++ ys) fault x z
-  fails_by from before xs ys x y z (Log fault) one two =
+  fails_by from before xs ys x y z (Write Log fault) one two =
       subst (λ (l : TimeText). Breaks x.output l fault z.output) (sym (rows_in-append from before xs ys))
       (breaks_more x.output y.output z.output _ _ fault one two)
-  fails_by from before xs ys x y z (Run (faults.Run fault)) one two = record {
+  fails_by from before xs ys x y z (Run fault) one two = record {
     first = xs ++ two.first;
     next = two.next;
     others = two.others;
@@ -82,10 +81,12 @@ module _ {L : Type 0} {S : Ghosts L} where
     of_traces = subst (λ (l : List Trace). IsBuilderFault (known_logs from l) two.next fault)
         (append_assoc before xs two.first) two.of_traces;
   }
-  fails_by from before xs ys x y z (Run (faults.Capture side fault)) one two = absurd two
-  fails_by from before xs ys x y z (Run (faults.Write which fault)) one two = absurd two
+  fails_by from before xs ys x y z (Capture side fault) one two = absurd two
+  fails_by from before xs ys x y z (Write Outside fault) one two = absurd two
+  fails_by from before xs ys x y z (Write Inside fault) one two = absurd two
+  fails_by from before xs ys x y z (Write Report fault) one two = absurd two
 
-  pub fails_more : (x y z : RunningLog L S) (xs ys : List (Legs Passage)) (fault : LogRunFault) →
+  pub fails_more : (x y z : LogWriter L S) (xs ys : List (Legs Passage)) (fault : Fault) →
       Enters x (running_log_traces xs) y → LogFails y (running_log_traces ys) fault z →
       LogFails x (running_log_traces (xs ++ ys)) fault z
   fails_more x y z xs ys fault one two = subst (λ (ts : List Trace). LogFails x ts fault z) (sym (traces_join xs ys))

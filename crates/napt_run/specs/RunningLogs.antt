@@ -1,18 +1,17 @@
 -- What the log of a run does while its outcomes leave.
 use Rattle.std.specs.Int.NonZero.{non_zero_u32_get}
+use Rattle.std.specs.Io.KnownBytes.{Appends}
 use Rattle.std.specs.Prelude.{◌≡◌, ◌⊎◌, ℕ, ◌+◌, ◌<◌, ◌^◌, Bool, List, [], ◌∷◌, ◌++◌, length, map, false, if◌then◌else◌, Option, Some, None, option_map, string_bytes, Result, Ok, Err}
 use Rattle.napt_capture.specs.declared.device.Sink.{Ghosts}
-use Rattle.napt_account.specs.{Effects.{EffectsComeFrom, log_after}, Log.{LogModel, after_input, log_on}, LogBuilders.{IsBuilderFault, LogBuilderModel}, LogParts.{kept_at, living_at, part_between}, ResumedLogRuns.IsLogOf}
+use Rattle.napt_account.specs.{Effects.{EffectsComeFrom, log_after}, Log.{LogModel, after_input, log_on}, LogBuilders.{IsBuilderFault, LogBuilderModel}, LogParts.{kept_at, living_at, part_between}}
 use Rattle.napt_log_text.specs.{Logs.{living_rows, part_rows, piece_opening, rows_by, rows_from}, Times.TimeText}
-use Rattle.napt_records.specs.declared.fault.Fault.TheVariants as faults
+use Rattle.napt_records.specs.declared.{Fault.{Fault, TheVariants.{Capture, Run, Write}}, Which.TheVariants.{Log}}
 use Rattle.napt_sequential.specs.declared.fault.RunFault.TheVariants as reasons
 use Rattle.napt_sequential.specs.declared.{fault.RunFault.RunFault, passage.{Passage.Passage, Trace.Trace}}
 use Rattle.napt_rules.specs.Prelude.{Arrival}
-use Rattle.napt_run.specs.{LogOrigins.LoggedOrigin, LogRuns.{Legs, traces_by}, Origins.OriginModel, Outputs.{Breaks, OutputGrows}, declared.{logged_fault.LogRunFault.{LogRunFault, TheVariants.{Run, Log}}, logging.LoggingFault.LoggingFault, output.Output.Output}}
-use Rattle.napt_run.specs.declared.running_log.RunningLog.{RunningLog}
-use Rattle.napt_run.specs.declared.logging.LoggingFault.TheVariants as log_faults
+use Rattle.napt_run.specs.{LogOrigins.LoggedOrigin, LogRuns.{Legs, traces_by}, Origins.OriginModel, Outputs.{Breaks, OutputGrows}, declared.{output.Output.Output, log_writer.LogWriter.LogWriter}}
 
--- What holds of a log by what the legs of inputs did.
+-- What follows for a log from the effects of the legs of inputs.
 pub record AreLaws (origin : OriginModel) (log : LogModel) : Type 0 where
   pub rows : (each : Option ℕ) (inputs : List Arrival) →
       rows_by origin.rules each None origin.state.clock log (traces_by origin inputs)
@@ -21,31 +20,25 @@ pub record AreLaws (origin : OriginModel) (log : LogModel) : Type 0 where
       log_after log (traces_by origin inputs) ≡ log_on origin.rules origin.state log inputs
   pub come : EffectsComeFrom origin.rules origin.state log
 
--- The time of the last of these; before them it was this.
+-- The time of the last of these traces, or the given time if there are none.
 abbrev pub last_trace_time : ℕ → List Trace → ℕ
 last_trace_time now [] = now
 last_trace_time now (trace ∷ traces) = last_trace_time trace.now traces
 
--- The same, where there may have been none before them.
+-- The same, if there may have been no time before them.
 abbrev pub last_time : Option ℕ → List Trace → Option ℕ
 last_time last [] = last
 last_time last (trace ∷ traces) = last_time (Some trace.now) traces
-
--- where a run fails so, its log is flushed already, or cannot be
-abbrev pub IsFlushedAt : LoggingFault LogRunFault → Type 0
-IsFlushedAt (log_faults.Run (faults.Capture side fault)) = Unit {0}
-IsFlushedAt (log_faults.Log fault) = Unit {0}
-IsFlushedAt other = ⊥
 
 -- no call of a log failed after this; or one, if none had failed before
 abbrev pub FailsMore : Bool → ℕ → ℕ → Type 0
 FailsMore is_broken old new = (new ≡ old) ⊎ ((is_broken ≡ false) × (new ≡ old + 1))
 
--- the traces of inputs whose legs tell their passages
+-- The traces of inputs, from the passages of their legs.
 abbrev pub running_log_traces : List (Legs Passage) → List Trace
 running_log_traces all = map (λ legs. record { now = legs.0; first = legs.1; second = legs.2 }) all
 
--- the log after these traces, and the rows of those that come then
+-- The log after these traces, and the rows of the traces that come then.
 abbrev pub known_logs : LoggedOrigin → List Trace → LogBuilderModel
 known_logs from traces = record {
   rules = from.origin.rules;
@@ -59,7 +52,7 @@ abbrev pub rows_in : LoggedOrigin → List Trace → List Trace → TimeText
 rows_in from before traces = rows_by from.origin.rules from.each (last_time None before)
     (last_trace_time from.origin.state.clock before) (log_after from.log before) traces
 
--- the rows of what lives at the end, and what is kept then
+-- The rows of the live bindings at the end, and what is kept then.
 abbrev pub ending_with : LoggedOrigin → List Trace → TimeText
 ending_with from traces = if from.goes_on then []
     else living_rows from.origin.rules
@@ -68,12 +61,12 @@ ending_with from traces = if from.goes_on then []
 abbrev pub left_with : LoggedOrigin → List Trace → LogModel
 left_with from traces = kept_at (last_trace_time from.origin.state.clock traces) (log_after from.log traces)
 
--- how a piece begins with an input behind these, if one does
+-- The beginning of a piece, if one begins with an input after these.
 abbrev pub opening_before : LoggedOrigin → List Trace → ℕ → TimeText
 opening_before from before now =
     piece_opening from.origin.rules from.each (last_time None before) now (left_with from before)
 
--- the rows of an input behind these
+-- The rows of an input after these.
 abbrev pub input_rows : LoggedOrigin → List Trace → Trace → TimeText
 input_rows from before trace =
     let log : LogModel = log_after from.log before in
@@ -82,7 +75,7 @@ input_rows from before trace =
 
 module _ {L : Type 0} {S : Ghosts L} where
   -- it took these traces, no more than it can count, and goes on
-  pub record LogIsAt (from : LoggedOrigin) (traces : List Trace) (it : RunningLog L S) : Type 0 where
+  pub record LogIsAt (from : LoggedOrigin) (traces : List Trace) (it : LogWriter L S) : Type 0 where
     pub log : it.log ≡ known_logs from traces
     pub few : length traces < 2 ^ 62
     pub sound : it.output.is_broken ≡ false
@@ -90,7 +83,7 @@ module _ {L : Type 0} {S : Ghosts L} where
     pub goes_on : it.goes_on ≡ from.goes_on
 
   -- a log as it is taken up, over a state
-  abbrev pub running_log_of : OriginModel → RunningLog L S → LoggedOrigin
+  abbrev pub running_log_of : OriginModel → LogWriter L S → LoggedOrigin
   running_log_of origin it = record {
     origin = origin;
     opening = string_bytes it.opening;
@@ -100,24 +93,24 @@ module _ {L : Type 0} {S : Ghosts L} where
   }
 
   -- nothing was entered, and nothing written
-  pub record IsReady (origin : OriginModel) (it : RunningLog L S) : Type 0 where
+  pub record IsReady (origin : OriginModel) (it : LogWriter L S) : Type 0 where
     pub at : LogIsAt (running_log_of origin it) [] it
-    pub of : IsLogOf origin.rules origin.state it.log.log
+    pub laws : AreLaws origin it.log.log
     pub written : it.output.written ≡ 0
 
-  -- it goes on after these traces, and this text was written
+  -- The log has taken these traces too, and this text was written.
   pub record LogGoesOnFrom (from : LoggedOrigin) (traces : List Trace) (text : TimeText) (old : Output L S)
-      (new : RunningLog L S) : Type 0 where
+      (new : LogWriter L S) : Type 0 where
     pub at : LogIsAt from traces new
     pub wrote : OutputGrows old text new.output
 
   -- the rows of these traces were written
-  abbrev pub Enters : RunningLog L S → List Trace → RunningLog L S → Type 0
+  abbrev pub Enters : LogWriter L S → List Trace → LogWriter L S → Type 0
   Enters old traces new = (from : LoggedOrigin) (before : List Trace) → LogIsAt from before old →
       LogGoesOnFrom from (before ++ traces) (rows_in from before traces) old.output new
 
   -- the log failed behind the first of these traces
-  pub record LogHalts (from : LoggedOrigin) (before traces : List Trace) (fault : RunFault) (old new : RunningLog L S) :
+  pub record LogHalts (from : LoggedOrigin) (before traces : List Trace) (fault : RunFault) (old new : LogWriter L S) :
       Type 0 where
     pub first : List Trace
     pub next : Trace
@@ -126,31 +119,56 @@ module _ {L : Type 0} {S : Ghosts L} where
     pub wrote : OutputGrows old.output (rows_in from before first) new.output
     pub of_traces : IsBuilderFault (known_logs from (before ++ first)) next fault
 
-  abbrev pub FailsBy : LoggedOrigin → List Trace → List Trace → LogRunFault → RunningLog L S → RunningLog L S → Type 0
-  FailsBy from before traces (Log fault) old new = Breaks old.output (rows_in from before traces) fault new.output
-  FailsBy from before traces (Run (faults.Run fault)) old new = LogHalts from before traces fault old new
-  FailsBy from before traces (Run other) old new = ⊥
+  abbrev pub FailsBy : LoggedOrigin → List Trace → List Trace → Fault → LogWriter L S → LogWriter L S → Type 0
+  FailsBy from before traces (Write Log fault) old new = Breaks old.output (rows_in from before traces) fault new.output
+  FailsBy from before traces (Run fault) old new = LogHalts from before traces fault old new
+  FailsBy from before traces other old new = ⊥
 
   -- entering these traces failed
-  abbrev pub LogFails : RunningLog L S → List Trace → LogRunFault → RunningLog L S → Type 0
+  abbrev pub LogFails : LogWriter L S → List Trace → Fault → LogWriter L S → Type 0
   LogFails old traces fault new = (from : LoggedOrigin) (before : List Trace) → LogIsAt from before old →
       FailsBy from before traces fault old new
 
-  -- a text was written and flushed, or could not be
+  -- A text was written and flushed.
   pub record LogFlushes (from : LoggedOrigin) (traces : List Trace) (text : TimeText) (old : Output L S)
-      (new : RunningLog L S) : Type 0 where
+      (new : LogWriter L S) : Type 0 where
     pub on : LogGoesOnFrom from traces text old new
     pub flushed : S.is_flushed new.output.device.now
 
-  abbrev pub Adds : LoggedOrigin → List Trace → TimeText → Output L S → Result (Unit {0}) LogRunFault →
-      RunningLog L S → Type 0
+  abbrev pub Adds : LoggedOrigin → List Trace → TimeText → Output L S → Result (Unit {0}) Fault → LogWriter L S → Type 0
   Adds from traces text old (Ok done) new = LogFlushes from traces text old new
-  Adds from traces text old (Err (Log fault)) new = Breaks old text fault new.output
-  Adds from traces text old (Err (Run (faults.Run reasons.Memory))) new = OutputGrows old [] new.output
+  Adds from traces text old (Err (Write Log fault)) new = Breaks old text fault new.output
   Adds from traces text old (Err other) new = ⊥
 
+  -- the same of a text that is made first; where that fails, nothing was written
+  abbrev pub Closes : {T : Type 0} → LoggedOrigin → List Trace → TimeText → Output L S → Result T Fault → LogWriter L S →
+      Type 0
+  Closes from traces text old (Ok left) new = LogFlushes from traces text old new
+  Closes from traces text old (Err (Write Log fault)) new = Breaks old text fault new.output
+  Closes from traces text old (Err (Run reasons.Memory)) new = new.output ≡ old
+  Closes from traces text old (Err other) new = ⊥
+
+  -- how its text begins was written and flushed
+  abbrev pub Opens : LogWriter L S → LogWriter L S → Type 0
+  Opens old new = (from : LoggedOrigin) → LogIsAt from [] old →
+      LogFlushes from [] (string_bytes old.opening) old.output new
+
+  -- after a fault it is flushed, unless a call of it failed before or does so now
+  pub record FlushPost (old new : Output L S) : Type 0 where
+    pub same : new.device.ghost_name ≡ old.device.ghost_name
+    pub kept : Appends (S.contents old.device.now) (S.contents new.device.now) []
+    pub counts : FailsMore old.is_broken (S.failed old.device.now) (S.failed new.device.now)
+    pub tried : old.is_broken ≡ false →
+        S.is_flushed new.device.now ⊎ (S.failed new.device.now ≡ S.failed old.device.now + 1)
+
+  -- that is done after a fault of the run, of a worker or of another output; after one of a capture it is flushed already
+  abbrev pub IsAfterFault : Fault → LogWriter L S → LogWriter L S → Type 0
+  IsAfterFault (Capture side fault) old new = new ≡ old
+  IsAfterFault (Write Log fault) old new = new ≡ old
+  IsAfterFault other old new = FlushPost old.output new.output
+
   -- the log took the next trace, and these are its rows
-  pub record EntersWith (from : LoggedOrigin) (before : List Trace) (trace : Trace) (old new : RunningLog L S)
+  pub record EntersWith (from : LoggedOrigin) (before : List Trace) (trace : Trace) (old new : LogWriter L S)
       (text : TimeText) : Type 0 where
     pub log : new.log ≡ known_logs from (before ++ trace ∷ [])
     pub few : length before + 1 < 2 ^ 62
@@ -160,7 +178,7 @@ module _ {L : Type 0} {S : Ghosts L} where
     pub rows : text ≡ input_rows from before trace
 
   -- or failed
-  abbrev pub EntersNot : LoggedOrigin → List Trace → Trace → RunningLog L S → LogRunFault → RunningLog L S → Type 0
-  EntersNot from before trace old (Run (faults.Run fault)) new =
+  abbrev pub EntersNot : LoggedOrigin → List Trace → Trace → LogWriter L S → Fault → LogWriter L S → Type 0
+  EntersNot from before trace old (Run fault) new =
       (new.output ≡ old.output) × IsBuilderFault (known_logs from before) trace fault
   EntersNot from before trace old other new = ⊥

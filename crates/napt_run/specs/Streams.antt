@@ -1,13 +1,13 @@
 -- What a run leaves over captures that are read as they arrive. Nothing is claimed of the bytes of a reader or a writer
 -- that are not known.
-use Rattle.std.specs.Prelude.{◌≡◌, ◌⊎◌, ℕ, ◌+◌, ◌≤◌, ◌-◌, ◌^◌, min, List, [], length, take, drop, Bool, Option, Result, Ok, Err, IsOk, OnOk}
+use Rattle.std.specs.Prelude.{◌≡◌, ℕ, ◌+◌, ◌≤◌, List, [], length, take, drop, Option, Result, Ok, Err, OnOk}
 use Rattle.std.specs.Io.KnownBytes.{Appends}
 use Rattle.napt_wire.specs.declared.Side.{Side}
 use Rattle.napt_wire.specs.declared.Side.TheVariants as sides
-use Rattle.napt_capture.specs.{Capture.format_in, Reading.{LeavesBytes, IsReadResult, IsReadFault}, Text.{file_header, text}, declared.device.Source.Ghosts}
+use Rattle.napt_capture.specs.{Capture.format_in, Reading.{LeavesBytes, IsReadResult, IsReadFault}, Text.{text}, declared.device.Source.Ghosts}
 use Rattle.napt_capture.specs.declared.{record_reader.RecordReader.RecordReader, fault.CaptureFault.{CaptureFault, TheVariants.{TooLarge, Read, Memory}}}
 use Rattle.napt_capture.specs.declared.device.Sink as sink
-use Rattle.napt_dispatch.specs.{Dispatch.IsFaultUnder, declared.workers.RunSummary.RunSummary}
+use Rattle.napt_dispatch.specs.{declared.workers.RunSummary.RunSummary}
 use Rattle.napt_records.specs.{Output.records_to, Report.report_text, RecordMerging.MergedInputs, declared.{stream_merger.CutFlags.CutFlags, Fault.Fault}}
 use Rattle.napt_records.specs.declared.{Fault.TheVariants.{Capture, Run, Write}, Which.{Which, TheVariants.{Outside, Inside, Report, Log}}}
 use Rattle.napt_laws.specs.Dispatching.{IsFrontOf}
@@ -17,7 +17,7 @@ use Rattle.napt_sequential.specs.declared.fault.RunFault.TheVariants as faults
 
 -- WHAT IS WRITTEN
 
--- the text of a capture that a run over these inputs writes
+-- The text of a capture that a run over these inputs writes.
 abbrev pub capture_text : OriginModel → Side → List Arrival → List ℕ
 capture_text origin side inputs = text (records_to side inputs (ran_by origin inputs).outcomes)
 
@@ -27,70 +27,15 @@ side_of Inside = sides.Inside
 side_of Report = sides.Inside
 side_of Log = sides.Inside
 
--- all of the text
-abbrev pub HasAll : OriginModel → Which → MergedInputs → Option (List ℕ) → Option (List ℕ) → Type 0
-HasAll origin which all old new = IsOk all.end × Appends old new (capture_text origin (side_of which) all.arrivals)
-
--- all of the text of a front of the inputs
-abbrev pub HasText : OriginModel → Which → MergedInputs → Option (List ℕ) → Option (List ℕ) → Type 0
-HasText origin which all old new =
-    (inputs : List Arrival) × IsFrontOf inputs all.arrivals
-    × Appends old new (capture_text origin (side_of which) inputs)
-
--- as much of it as the fault says, whose number saturates
-abbrev pub HasFront : OriginModel → Which → ℕ → MergedInputs → Option (List ℕ) → Option (List ℕ) → Type 0
-HasFront origin which written all old new =
-    (inputs : List Arrival) × IsFrontOf inputs all.arrivals × ((count : ℕ) × (written ≡ min count (2 ^ 64 - 1))
-    × (count ≤ length (capture_text origin (side_of which) inputs))
-    × Appends old new (take count (capture_text origin (side_of which) inputs)))
-
 -- the inputs before a fault of a side; a front of them, if its device or memory failed
 abbrev pub AreTaken : Side → CaptureFault → MergedInputs → List Arrival → Type 0
 AreTaken side fault all inputs =
     IsFrontOf inputs all.arrivals
     × IsReadFault fault (all ≡ record { arrivals = inputs; end = Err (record { side = side; fault = fault }) })
 
--- if the header to the outside could not be written, the one to the inside was not begun
-abbrev pub IsUnbegun : ℕ → Option (List ℕ) → Option (List ℕ) → Type 0
-IsUnbegun written old new = (written ≤ length file_header) × (new ≡ old)
-
--- at least the header, and as much of it as a failed write left
-abbrev pub HasPart : OriginModel → Which → MergedInputs → Option (List ℕ) → Option (List ℕ) → Type 0
-HasPart origin which all old new =
-    (inputs : List Arrival) × IsFrontOf inputs all.arrivals × ((count : ℕ) × (length file_header ≤ count)
-    × (count ≤ length (capture_text origin (side_of which) inputs))
-    × Appends old new (take count (capture_text origin (side_of which) inputs)))
-
--- writing an output failed after so many bytes
-abbrev pub HasWritten : OriginModel → Which → Which → ℕ → MergedInputs → Option (List ℕ) → Option (List ℕ) → Type 0
-HasWritten origin which Report written all old new = HasAll origin which all old new
-HasWritten origin Outside Outside written all old new = HasFront origin Outside written all old new
-HasWritten origin Inside Inside written all old new = HasFront origin Inside written all old new
-HasWritten origin Outside Inside written all old new = HasText origin Outside all old new
-HasWritten origin other Outside written all old new = HasText origin other all old new ⊎ IsUnbegun written old new
-HasWritten origin Report Inside written all old new = HasText origin Report all old new
-HasWritten origin Log Inside written all old new = HasText origin Log all old new
-HasWritten origin which Log written all old new = HasText origin which all old new ⊎ HasPart origin which all old new
-
--- by the result of the run
-abbrev pub GetsOf : OriginModel → Which → Result (Unit {0}) Fault → MergedInputs → Option (List ℕ) → Option (List ℕ) →
-    Type 0
-GetsOf origin which (Ok done) all old new = HasAll origin which all old new
-GetsOf origin which (Err (Capture side fault)) all old new =
-    (inputs : List Arrival) × AreTaken side fault all inputs
-    × Appends old new (capture_text origin (side_of which) inputs)
-GetsOf origin which (Err (Write other fault)) all old new = HasWritten origin which other fault.written all old new
-GetsOf origin which (Err (Run fault)) all old new = HasText origin which all old new ⊎ HasPart origin which all old new
-
-abbrev pub Streams : OriginModel → Which → Result (Unit {0}) Fault → Option (List ℕ) → Option (List ℕ) →
-    Option (List ℕ) →
-    Option (List ℕ) → Type 0
-Streams origin which result inside outside old new =
-    IfKnown inside outside (λ bytes others. GetsOf origin which result (files_until bytes others) old new)
-
 -- THE REPORT
 
--- what an output gets of a report
+-- What an output gets of a report.
 abbrev pub GetsReport : List ℕ → Result (Unit {0}) Fault → Option (List ℕ) → Option (List ℕ) → Type 0
 GetsReport report (Ok done) old new = Appends old new report
 GetsReport report (Err (Write Report fault)) old new =
@@ -115,21 +60,12 @@ Reports origin result inside outside old new =
 
 -- THE FAULT
 
--- a fault in a capture is one of its bytes, and no capture is too large
+-- A fault in a capture is one of its bytes, and no capture is too large.
 abbrev pub IsStreamFaultOf : Side → CaptureFault → MergedInputs → Type 0
 IsStreamFaultOf side Read all = Unit {0}
 IsStreamFaultOf side Memory all = Unit {0}
 IsStreamFaultOf side TooLarge all = ⊥
 IsStreamFaultOf side fault all = all.end ≡ Err (record { side = side; fault = fault })
-
-abbrev pub ExplainsOf : MergedInputs → Fault → Type 0
-ExplainsOf all (Capture side fault) = IsStreamFaultOf side fault all
-ExplainsOf all (Run faults.TooMany) = ⊥
-ExplainsOf all (Run other) = Unit {0}
-ExplainsOf all (Write which fault) = Unit {0}
-
-abbrev pub Explains : Option (List ℕ) → Option (List ℕ) → Fault → Type 0
-Explains inside outside fault = IfKnown inside outside (λ bytes others. ExplainsOf (files_until bytes others) fault)
 
 -- a fault of the run itself, or of its log
 abbrev pub IsOfRun : {T : Type 0} → Result T Fault → Type 0
@@ -137,34 +73,34 @@ IsOfRun (Err (Run fault)) = Unit {0}
 IsOfRun (Err (Write Log fault)) = Unit {0}
 IsOfRun other = ⊥
 
--- all that left is flushed
+-- All that left is flushed.
 abbrev pub IsSettledBy : Result (Unit {0}) Fault → Type 0
 IsSettledBy (Ok done) = Unit {0}
 IsSettledBy (Err (Capture side fault)) = Unit {0}
 IsSettledBy (Err (Write Report fault)) = Unit {0}
 IsSettledBy other = ⊥
 
--- a result, without its value
+-- A result without its value.
 abbrev pub stream_ended : {T : Type 0} → Result T Fault → Result (Unit {0}) Fault
 stream_ended (Ok given) = Ok tt
 stream_ended (Err fault) = Err fault
 
 -- FAILED READS
 
--- reading succeeded, or ended with a fault
+-- Reading succeeded, or ended with a fault.
 abbrev pub IsOfReading : Result (Unit {0}) Fault → Type 0
 IsOfReading (Ok done) = Unit {0}
 IsOfReading (Err (Capture side fault)) = Unit {0}
 IsOfReading other = ⊥
 
--- how reading ended, which a fault of writing a capture does not say
+-- How reading ended; a fault of writing a capture does not say it.
 abbrev pub IsReading : {T : Type 0} → Result T Fault → Result (Unit {0}) Fault → Type 0
 IsReading (Ok done) read = read ≡ Ok tt
 IsReading (Err (Write Outside fault)) read = IsOfReading read
 IsReading (Err (Write Inside fault)) read = IsOfReading read
 IsReading (Err fault) read = read ≡ Err fault
 
--- the failed reads are those of how reading ended
+-- The failed reads are those of how reading ended.
 abbrev pub HasRead : {T R Q : Type 0} → (R → ℕ) → (Q → ℕ) → R → R → Q → Q → Result T Fault → Type 0
 HasRead inside_failed outside_failed old new other_old other_new result =
     (read : Result (Unit {0}) Fault) × IsReading result read
@@ -173,28 +109,21 @@ HasRead inside_failed outside_failed old new other_old other_new result =
 
 -- THE DEVICES
 
--- what a run leaves on the device of a capture; its fault may hide failed calls
-pub record DeviceGetsFrom {D T : Type 0} (S : sink.Ghosts D) (origin : OriginModel) (which : Which)
-    (inside outside : Option (List ℕ)) (result : Result T Fault) (old new : D) : Type 0 where
-  pub gets : Streams origin which (stream_ended result) inside outside (S.contents old) (S.contents new)
-  pub count : (¬ IsOfRun result) → S.failed new ≡ S.failed old + failed_writings which (stream_ended result)
-  pub settled : IsSettledBy (stream_ended result) → S.is_flushed new
-
--- and on that of the report
+-- what a run leaves on the device of the report
 pub record ReportGetsFrom {D : Type 0} (S : sink.Ghosts D) (origin : OriginModel) (inside outside : Option (List ℕ))
     (result : Result (Unit {0}) Fault) (old new : D) : Type 0 where
   pub gets : Reports origin result inside outside (S.contents old) (S.contents new)
   pub count : S.failed new ≡ S.failed old + failed_writings Report result
   pub settled : OnOk result (S.is_flushed new)
 
--- what is returned gives the state that the run leaves
+-- What is returned gives the state that the run leaves.
 abbrev pub LeavesInTheEnd : OriginModel → Option (List ℕ) → Option (List ℕ) → RunSummary → Type 0
 LeavesInTheEnd origin inside outside passed =
     IfKnown inside outside (λ bytes others. GivesState origin (files_until bytes others).arrivals passed)
 
 -- STEPS
 
--- the header of a capture of these bytes was read, and nothing else
+-- The header of a capture of these bytes was read, and nothing else.
 pub record IsBehindHeader {R : Type 0} (G : Ghosts R) (records : RecordReader) (bytes : Option (List ℕ)) (source : R)
     : Type
     0 where
@@ -203,22 +132,13 @@ pub record IsBehindHeader {R : Type 0} (G : Ghosts R) (records : RecordReader) (
   pub ahead : records.ahead ≡ []
   pub number : records.number ≡ 1
 
--- a fault of a side's capture, by its header
+-- A fault of a side's capture, by its header.
 abbrev pub IsHeaderFault : Side → Option (List ℕ) → Option (List ℕ) → Fault → Type 0
 IsHeaderFault side old new (Capture other fault) =
     (other ≡ side) × (let answer : Result RecordReader CaptureFault = Err fault
     in IsReadResult answer (LeavesBytes old new
     (λ bytes left. (format_in (take 24 bytes) ≡ Err fault) × (left ≡ drop 24 bytes))))
 IsHeaderFault side old new other = ⊥
-
--- a fault before the report, under a gate that promises yes or one that does not
-abbrev pub IsStopFault : Bool → Fault → Type 0
-IsStopFault open_gate (Capture side fault) = Unit {0}
-IsStopFault open_gate (Write Outside fault) = Unit {0}
-IsStopFault open_gate (Write Inside fault) = Unit {0}
-IsStopFault open_gate (Write Report fault) = ⊥
-IsStopFault open_gate (Write Log fault) = ⊥
-IsStopFault open_gate (Run fault) = IsFaultUnder open_gate fault
 
 -- a report could not be made or written
 abbrev pub IsReportFault : Fault → Type 0

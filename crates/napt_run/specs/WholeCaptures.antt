@@ -1,4 +1,4 @@
--- What a run over inputs that are all at hand leaves.
+-- What a run over inputs that are all in memory leaves.
 use Rattle.std.specs.Prelude.{◌≡◌, ℕ, List}
 use Rattle.napt_wire.specs.declared.Side.TheVariants as sides
 use Rattle.napt_capture.specs.declared.device.Sink.{Ghosts}
@@ -7,13 +7,13 @@ use Rattle.napt_records.specs.Counts.{AreCountsOf}
 use Rattle.napt_rules.specs.Prelude.{Arrival}
 use Rattle.napt_run.specs.{Outputs.OutputGrows, Runs.text_behind, declared.{output_sinks.Leaving.Leaving, whole_captures.RunTally.RunTally}}
 
--- what a report says of these inputs, and the state that they leave
+-- What a report says of these inputs, and the state that they leave.
 pub record IsTallyOf (origin : OriginModel) (inputs : List Arrival) (tally : RunTally) : Type 0 where
   pub counts : AreCountsOf (ran_by origin inputs).outcomes tally.counts
   pub bindings : tally.passed.bindings.items ≡ (ran_by origin inputs).bindings
   pub leaves : GivesState origin inputs tally.passed
 
--- both outputs have what leaves of them, behind this text, and the tally is theirs
+-- Both outputs have the records of these inputs, after the text that was there, and the tally is that of the inputs.
 pub record WritesAll {W V : Type 0} {S : Ghosts W} {T : Ghosts V} (front : List ℕ) (origin : OriginModel)
     (inputs : List Arrival) (old new : Leaving W V S T) (tally : RunTally) : Type 0 where
   pub to_outside : OutputGrows old.to_outside (text_behind front origin sides.Outside inputs) new.to_outside

@@ -39,7 +39,7 @@ module _ {R Q W V U L : Type 0} (A : source.Ghosts R) (B : source.Ghosts Q) wher
     pub explained : Explains (A.remaining old.inside) (B.remaining old.outside) fault
     pub gate : open_gate ≡ true → is_shut_gate_fault fault ≡ false
 
-  -- The reads that failed are those that the result says.
+  -- The reads that failed are those that the result names.
   pub record WholeReadsPost (old : Devices R Q W V U L) (result : Result (Unit {0}) Fault)
       (new : Devices R Q W V U L) : Type 0 where
     pub inside : A.failed new.inside ≡ A.failed old.inside + failed_readings sides.Inside result

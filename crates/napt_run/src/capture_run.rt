@@ -2,11 +2,11 @@
 ghost use Rattle.std.specs.Prelude.{IfErr};
 ghost use Rattle.napt_dispatch.specs.RunsThrough.{IsStoppedUnder};
 ghost use Rattle.napt_records.specs.StreamMergers.{MergeEndsWith, HandsOutInputs};
-ghost use Rattle.napt_run.specs.{LoggedOutputSinks.IsSameSinkPlace, LogRuns.as_run, Origins.origin_of, CaptureRuns.{EntersBy, PassesBy, PassesOr, passed_as}};
+ghost use Rattle.napt_run.specs.{LoggedOutputSinks.IsSameSinkPlace, Origins.origin_of, CaptureRuns.{EntersBy, EntersOr, PassesBy, PassesOr}};
 
-use crate::logged_output_sinks::{LeavingFault, LeavingWithLog};
-use crate::logging::{Logging, LoggingFault};
+use crate::logged_output_sinks::LeavingWithLog;
 use crate::start::{OriginSetting, Start};
+use crate::stream_log::StreamLog;
 use napt_capture::{Sink, Source};
 use napt_dispatch::{PassFault, RunSummary, run_through};
 use napt_pool::Gate;
@@ -28,11 +28,11 @@ impl<
     G: Gate + Send + Sync + Drop + 'static,
 > OriginSetting<'_, '_, T, G> {
     /// Runs until the inputs end or something fails.
-    pub(crate) fn run_all<A: InputSource, W: Sink, V: Sink, K: Logging>(
+    pub(crate) fn run_all<A: InputSource, W: Sink, V: Sink, K: StreamLog>(
         self,
         inputs: &mut A,
         both: &mut LeavingWithLog<'_, '_, '_, W, V, K>,
-    ) -> Result<RunSummary, PassFault<A::Fault, LeavingFault<K::Fault>>>
+    ) -> Result<RunSummary, PassFault<A::Fault, Fault>>
         ensures outputs { PassesBy (origin_of self.entry.start) A.hands A.ends inputs.old
             both.old.leaving inputs.new both.new.leaving result }
         ensures log { EntersBy K.Told.tells (origin_of self.entry.start) A.hands A.ends K.enters
@@ -51,17 +51,16 @@ impl<
     }
 
     /// Runs until the captures end or something fails.
-    pub(crate) fn pass<R: Source, Q: Source, W: Sink, V: Sink, K: Logging>(
+    pub(crate) fn pass<R: Source, Q: Source, W: Sink, V: Sink, K: StreamLog>(
         self,
         inputs: &mut StreamMerger<'_, '_, R, Q>,
         both: &mut LeavingWithLog<'_, '_, '_, W, V, K>,
-    ) -> Result<Totals, LoggingFault<K::Fault>>
-        ensures outputs { PassesOr G.is_open (origin_of self.entry.start) inputs.old
-            both.old.leaving inputs.new both.new.leaving (as_run result) }
-        ensures log { EntersBy K.Told.tells (origin_of self.entry.start) HandsOutInputs
-            MergeEndsWith K.enters
-            K.fails K.is_settled inputs.old both.old.log.now inputs.new both.new.log.now
-            (passed_as result) }
+    ) -> Result<Totals, Fault>
+        ensures outputs { PassesOr (origin_of self.entry.start) inputs.old both.old.leaving inputs.new
+            both.new.leaving result }
+        ensures log { EntersOr G.is_open K.Told.tells (origin_of self.entry.start) HandsOutInputs
+            MergeEndsWith K.enters K.fails K.is_settled inputs.old both.old.log.now inputs.new
+            both.new.log.now result }
         ensures same { IsSameSinkPlace both.old both.new }
     {
         match self.run_all(inputs, both) {
@@ -70,14 +69,9 @@ impl<
                 passed,
                 cuts: inputs.cuts(),
             }),
-            Err(PassFault::Run(fault)) => Err(LoggingFault::Run(Fault::Run(fault))),
-            Err(PassFault::Arrival(stop)) => {
-                Err(LoggingFault::Run(Fault::Capture(stop.side, stop.fault)))
-            }
-            Err(PassFault::Departure(LeavingFault::Output(fault))) => {
-                Err(LoggingFault::Run(Fault::Write(fault.which, fault.fault)))
-            }
-            Err(PassFault::Departure(LeavingFault::Log(fault))) => Err(LoggingFault::Log(fault)),
+            Err(PassFault::Run(fault)) => Err(Fault::Run(fault)),
+            Err(PassFault::Arrival(stop)) => Err(Fault::Capture(stop.side, stop.fault)),
+            Err(PassFault::Departure(fault)) => Err(fault),
         }
     }
 }

@@ -9,9 +9,9 @@ ghost use Rattle.napt_records.specs.Faults.{is_shut_gate_fault};
 
 use crate::devices::Devices;
 use crate::kept_texts::KeptTexts;
-use crate::logging::NoLog;
 use crate::run_end::RunEnd;
 use crate::start::{OriginSetting, Start};
+use crate::stream_log::NoLog;
 use crate::whole_captures::RunTally;
 use napt_account::OpenLog;
 use napt_capture::{Capture, Sink, Source, Watched, read_capture, write_text};
@@ -55,14 +55,14 @@ fn read_side<R: Source>(alloc: Global, side: Side, source: &mut R) -> Result<Cap
 }
 
 impl CaptureFiles {
-    /// How many records there are in both.
+    /// Returns the number of records in both captures.
     fn count(&self) -> usize
         ensures { result ≡ length self.now.inside.records + length self.now.outside.records }
     {
         self.inside.records.len() + self.outside.records.len()
     }
 
-    /// Whether there are more records than a run can count.
+    /// Returns whether there are more records than a run can count.
     fn are_too_many(&self) -> bool
         ensures { (result ≡ true) ↔ AreTooMany self.now }
     {
@@ -99,7 +99,7 @@ fn make_outputs<T: Threads + Wait + Copy + Send + 'static, G: Gate + Send + Sync
     })
 }
 
-/// The output that goes to a side.
+/// Returns the name of the output that goes to a side.
 fn output_to(side: Side) -> Which
     ensures { result ≡ output_to side }
 {

@@ -8,7 +8,7 @@ use std::io::{self, Write};
 use std::marker::Model;
 use std::mem;
 
-/// The bytes of a full piece.
+/// The number of bytes in a full piece.
 const PIECE: usize = 65_536;
 
 /// Bytes in memory, in the order in which they were written. They are in pieces, so that none is moved when more come.
@@ -18,7 +18,7 @@ pub(crate) struct KeptTexts {
     full: Vec<Vec<u8>>,
     /// The piece that is not full yet.
     last: Vec<u8>,
-    /// How many bytes there are in all pieces.
+    /// The number of bytes in all pieces.
     total: u64,
 }
 
@@ -33,7 +33,7 @@ impl Model for KeptTexts {
         × (kept.total ≡ length (flat_map (λ piece. piece.items) kept.full.items ++ kept.last.items)) };
 }
 
-/// Makes room in the last piece: where it is full, another one begins.
+/// Makes room in the last piece: if it is full, a new one begins.
 fn make_room(alloc: Global, full: &mut Vec<Vec<u8>>, last: &mut Vec<u8>) -> Result<(), AllocError>
     ensures same { flat_map (λ piece. piece.items) full.new.items ++ last.new.items
         ≡ flat_map (λ piece. piece.items) full.old.items ++ last.old.items }
@@ -48,7 +48,7 @@ fn make_room(alloc: Global, full: &mut Vec<Vec<u8>>, last: &mut Vec<u8>) -> Resu
     Ok(())
 }
 
-/// Writes a piece behind so many bytes, flushes it, and returns how many are written then.
+/// Writes a piece after `before` bytes, flushes it, and returns the number of bytes written so far.
 fn write_piece<W: Sink>(device: &mut W, before: u64, piece: &[u8]) -> Result<u64, WriteFault>
     requires room { before + length piece.now < 2 ^ 64 }
     ensures puts { PutPost before (W.contents device.old) (W.contents device.new) piece.now result }
@@ -64,7 +64,7 @@ fn write_piece<W: Sink>(device: &mut W, before: u64, piece: &[u8]) -> Result<u64
 }
 
 impl KeptTexts {
-    /// No bytes. Fails only if memory is refused.
+    /// Returns no bytes. Fails only if memory is refused.
     pub(crate) fn new(alloc: Global) -> Result<KeptTexts, AllocError>
         ensures { IfOk result (λ kept. kept ≡ []) }
     {
@@ -78,7 +78,7 @@ impl KeptTexts {
 
     /// Writes all bytes, and flushes them. It takes no memory.
     ///
-    /// Fails if a write fails or accepts nothing, or a flush fails: exactly the first `written` bytes are then written.
+    /// Fails if a write fails or accepts nothing, or a flush fails. Exactly the first `written` bytes are then written.
     pub(crate) fn write_to<W: Sink>(&self, device: &mut W) -> Result<(), WriteFault>
         ensures ok { OnOk result
             (Appends (W.contents device.old) (W.contents device.new) self.now) }

@@ -1,4 +1,4 @@
-//! Laws of runs over captures: what they write depends only on the captures' bytes, not on how these are read.
+//! Laws of runs over captures: what they write depends only on the bytes of the captures, not on how these are read.
 ghost use Rattle.napt_run.specs.StreamLaws.{OutputsAreTheSame, ReportsAreTheSame};
 
 /// Under one configuration and over captures with the same bytes, `run_streams` and `run_captures`, if both succeed, write

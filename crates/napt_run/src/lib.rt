@@ -1,44 +1,42 @@
 //! A run from captures to captures, from a [`Start`] over its [`Devices`]. [`run_captures`] reads
 //! both captures whole, runs in memory and then writes. [`run_streams`] reads, translates and writes
-//! as the packets arrive, in bounded memory, and [`run_streams_with_log`] also writes the log of the
-//! run. If both succeed, they write the same bytes ([`streams_write_the_same`]). Each returns a
-//! [`RunEnd`], from which the next run goes on.
+//! as the packets arrive, in bounded memory, and also the log of the run if its devices have a
+//! [`LogWriter`]. If both succeed, they write the same bytes ([`streams_write_the_same`]). Each returns
+//! a [`RunEnd`], from which the next run goes on.
 //!
-//! [`merge`] makes the inputs of a run from the records of both captures. [`run_plain`] takes them through the translators of
-//! all external addresses on one thread; [`run_workers`] does so by [`dispatch`], with one worker thread for each address,
-//! and both return the same run.
+//! [`merge`] makes the inputs of a run from the records of both captures. [`run_plain`] translates them with the
+//! translators of all external addresses on one thread; [`run_workers`] does so by [`dispatch`], with one worker thread
+//! for each address, and both return the same run.
 #![tactic(auto)]
 
 mod capture_run;
 mod captures;
 mod devices;
 mod initial;
+mod joined_texts;
 mod kept_texts;
 mod laws;
 mod log_start;
-mod logged_fault;
+mod log_writer;
 mod logged_output_sinks;
-mod logged_streams;
-mod logging;
 mod output;
 mod output_sinks;
 mod report_output;
 mod run_end;
-mod run_log;
-mod running_log;
 mod sources;
 mod start;
+mod stream_log;
 mod stream_run;
 mod streams;
 mod whole_captures;
-mod writer;
 
 pub use captures::run_captures;
 pub use devices::Devices;
 pub use initial::initial_state;
+pub use joined_texts::texts_join;
 pub use laws::streams_write_the_same;
 pub use log_start::LogStart;
-pub use logging::NoLog;
+pub use log_writer::LogWriter;
 pub use napt_dispatch::{RunSummary, Worker, dispatch, run_workers};
 pub use napt_records::{
     EndpointText, Fault, Which, cause_name, merge, merge_is_in_order, protocol_name, report_text,
@@ -50,5 +48,5 @@ pub use napt_sequential::{
 };
 pub use run_end::RunEnd;
 pub use start::Start;
-pub use streams::{run_streams, run_streams_with_log};
-pub use writer::LogWriter;
+pub use stream_log::{NoLog, StreamLog};
+pub use streams::run_streams;

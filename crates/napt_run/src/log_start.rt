@@ -2,14 +2,16 @@
 
 ghost use Rattle.std.specs.Prelude.{◌≡◌, IfOk, string_bytes, true};
 ghost use Rattle.napt_rules.specs.Prelude.{TakesState};
-ghost use Rattle.napt_account.specs.LogStarts.{is_saved_log_state};
+ghost use Rattle.napt_account.specs.{Log.LogModel, LogStarts.is_saved_log_state, ResumedLogRuns.IsLogOf};
 ghost use Rattle.napt_log_text.specs.Logs.{first_text};
-ghost use Rattle.napt_run.specs.LogOrigins.{IsTakenAs, origin_from};
+ghost use Rattle.napt_run.specs.{LogOrigins.{IsTakenAs, origin_from}, Origins.origin_of, RunningLogs.AreLaws};
 
 use crate::start::Start;
-use napt_account::{LogBuilder, LogFromState, SavedLogState, started_logs_go_on};
+use napt_account::{
+    LogBuilder, LogFromState, SavedLogState, effects_are_the_log, started_logs_go_on,
+};
 use napt_config::Config;
-use napt_log_text::{add_first, add_opening};
+use napt_log_text::{add_first, add_opening, effects_have_the_rows};
 use std::alloc::{AllocError, Global};
 use std::num::NonZeroU32;
 
@@ -18,13 +20,14 @@ use std::num::NonZeroU32;
 pub struct LogStart<'a> {
     /// The accounts that the state has; none if the state was left without a log.
     pub saved: &'a SavedLogState,
-    /// Whether its device has no text yet: then it begins with the header and a row for each account. In either case the rows of
-    /// entries that the configuration ends follow, and those of new ones.
+    /// Whether the device of the log has no text yet. The text then begins with the header and a row for each account.
+    /// In either case the rows of entries that the configuration ends follow, and those of new entries.
     pub is_new: bool,
-    /// How many seconds of the run's clock each of its pieces has, if it has pieces. Where the clock passes a multiple of them
-    /// one begins, as a new log does: its header and a row for each binding that is open there are in one write.
+    /// The number of seconds of the run's clock in each piece of the log, if it has pieces. When the clock passes a
+    /// multiple of them, a new piece begins like a new log: with the header and a row for each open binding, in one
+    /// write.
     pub each: Option<NonZeroU32>,
-    /// Whether another run goes on with it: then there are no rows of what lives at the end.
+    /// Whether another run goes on with the log. It then ends without the rows of live bindings.
     pub goes_on: bool,
 }
 
@@ -35,8 +38,8 @@ pub(crate) struct TakenLog<'a> {
     pub(crate) opening: String,
 }
 
-/// Returns how the text of a log begins: a new one with the header and a row for each entry that was saved, and then with
-/// what the log tells before the first packet.
+/// Returns the beginning of a log's text: if the log is new, the header and a row for each saved entry; and in any case
+/// the rows of entries that end or begin before the first packet.
 fn first_text(
     alloc: Global,
     config: &Config,
@@ -54,7 +57,7 @@ fn first_text(
     Ok(text)
 }
 
-/// Takes up the log of a run where its state is taken up. Fails only if memory is refused.
+/// Takes up the log of a run, which begins at a state. Fails only if memory is refused.
 pub(crate) fn take_up<'a>(
     alloc: Global,
     start: Start<'a>,
@@ -65,7 +68,7 @@ pub(crate) fn take_up<'a>(
     ensures { IfOk result (IsTakenAs start.entry log_start.entry) }
 {
     started_logs_go_on();
-    // called for its clause alone: a configuration keeps its rules
+    // called only for its clause: the rules of a configuration are valid
     let _pool = start.config.pool();
     let started = LogBuilder::resume(alloc, start.config, start.state, log_start.saved)?;
     let opening = first_text(alloc, start.config, &started, log_start.is_new)?;
@@ -73,4 +76,16 @@ pub(crate) fn take_up<'a>(
         log: started.log,
         opening,
     })
+}
+
+/// By the traces of its inputs a log of a state has their rows.
+pub(crate) fn log_laws(start: Start<'_>)
+    requires { TakesState start.config.now start.state.now }
+    ensures { (log : LogModel) → IsLogOf start.entry.config.now (origin_of start.entry).state log →
+        AreLaws (origin_of start.entry) log }
+{
+    effects_are_the_log();
+    effects_have_the_rows();
+    // called for its clause alone: a configuration keeps its rules
+    let _pool = start.config.pool();
 }

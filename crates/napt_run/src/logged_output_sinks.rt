@@ -2,28 +2,22 @@
 
 ghost use Rattle.std.specs.Prelude.{◌≡◌, [], ◌∷◌, MatchResult};
 
-use crate::logging::Logging;
-use crate::output_sinks::{Leaving, OutputFault, vector_of};
+use crate::output_sinks::{Leaving, vector_of};
+use crate::stream_log::StreamLog;
 use napt_capture::Sink;
 use napt_dispatch::{InputResult, OutcomeSink};
+use napt_records::Fault;
 
-/// The captures that a run writes as it goes, and its log. What is told of an input is entered in the log before its packet
-/// is written, and the log is flushed before the captures are.
+/// The captures that a run writes as it goes, and its log. The legs of an input are recorded in the log before its
+/// packet is written, and the log is flushed before the captures are.
 #[derive(Drop)]
 pub(crate) struct LeavingWithLog<'k, 'a, 'b, W: Sink, V: Sink, K> {
     pub(crate) leaving: Leaving<'a, 'b, W, V>,
     pub(crate) log: &'k mut K,
 }
 
-/// Why no more can be written.
-#[derive(Drop)]
-pub(crate) enum LeavingFault<F> {
-    Output(OutputFault),
-    Log(F),
-}
-
 impl<'k, 'a, 'b, W: Sink, V: Sink, K> LeavingWithLog<'k, 'a, 'b, W, V, K> {
-    /// These captures and this log.
+    /// Returns the captures and the log of a run, before anything is written.
     pub(crate) fn over(
         leaving: Leaving<'a, 'b, W, V>,
         log: &'k mut K,
@@ -36,10 +30,10 @@ impl<'k, 'a, 'b, W: Sink, V: Sink, K> LeavingWithLog<'k, 'a, 'b, W, V, K> {
     }
 }
 
-impl<W: Sink, V: Sink, K: Logging> OutcomeSink for LeavingWithLog<'_, '_, '_, W, V, K> {
+impl<W: Sink, V: Sink, K: StreamLog> OutcomeSink for LeavingWithLog<'_, '_, '_, W, V, K> {
     ghost use Rattle.napt_run.specs.LoggedOutputSinks.{AreSettled, FailsEither, TakesBoth, both_none, both_more};
 
-    type Fault = LeavingFault<K::Fault>;
+    type Fault = Fault;
 
     type Told = K::Told;
 
@@ -50,11 +44,7 @@ impl<W: Sink, V: Sink, K: Logging> OutcomeSink for LeavingWithLog<'_, '_, '_, W,
     ghost is_settled = { λ x. AreSettled K.is_settled x };
 
     #[inline(always)]
-    fn write(
-        &mut self,
-        time: u64,
-        departed: InputResult<K::Told>,
-    ) -> Result<Option<Vec<u8>>, LeavingFault<K::Fault>>
+    fn write(&mut self, time: u64, departed: InputResult<K::Told>) -> Result<Option<Vec<u8>>, Fault>
         ensures { MatchResult result
             (λ _. TakesBoth K.enters self.old ((time, departed) ∷ []) self.new)
             (λ fault. FailsEither K.enters K.fails self.old ((time, departed) ∷ []) fault self.new) }
@@ -65,27 +55,18 @@ impl<W: Sink, V: Sink, K: Logging> OutcomeSink for LeavingWithLog<'_, '_, '_, W,
             first,
             second,
         } = departed;
-        match self.log.enter(now, first, second) {
-            Ok(()) => match self.leaving.write(time, &outcome) {
-                Ok(()) => Ok(vector_of(outcome)),
-                Err(fault) => Err(LeavingFault::Output(fault)),
-            },
-            Err(fault) => Err(LeavingFault::Log(fault)),
-        }
+        self.log.enter(now, first, second)?;
+        self.leaving.write(time, &outcome)?;
+        Ok(vector_of(outcome))
     }
 
-    fn settle(&mut self) -> Result<(), LeavingFault<K::Fault>>
+    fn settle(&mut self) -> Result<(), Fault>
         ensures { MatchResult result
             (λ _. TakesBoth K.enters self.old [] self.new × AreSettled K.is_settled self.new)
             (λ fault. FailsEither K.enters K.fails self.old [] fault self.new) }
     {
-        match self.log.settle() {
-            Ok(()) => match self.leaving.settle() {
-                Ok(()) => Ok(()),
-                Err(fault) => Err(LeavingFault::Output(fault)),
-            },
-            Err(fault) => Err(LeavingFault::Log(fault)),
-        }
+        self.log.settle()?;
+        self.leaving.settle()
     }
 
     ghost takes_none = { λ x. both_none K.enters K.enters_none x };

@@ -11,11 +11,11 @@ const LATEST: u64 = 4_294_967_295_999_999_999;
 #[derive(Drop)]
 pub(crate) struct Output<'a, W: Sink> {
     pub(crate) device: &'a mut W,
-    /// How many bytes were written. It saturates.
+    /// The number of bytes written, which saturates.
     pub(crate) written: u64,
-    /// Whether a write or a flush failed. From then on nothing is written.
+    /// Whether a write or a flush failed. Then nothing more is written.
     pub(crate) is_broken: bool,
-    // So that what contracts see of the type has the ghosts of its device.
+    // With this, what contracts see of the type has the ghosts of its device.
     ghost of_device: { W.failed device.now ≡ W.failed device.now },
 }
 
@@ -23,7 +23,7 @@ impl<'a, W: Sink> Output<'a, W> {
     ghost use Rattle.napt_records.specs.Output.{IsTime};
     ghost use Rattle.napt_run.specs.Outputs.{OutputGrows, Breaks};
 
-    /// An output over a device, with nothing written yet.
+    /// Returns an output over a device, with nothing written yet.
     pub(crate) fn over(device: &'a mut W) -> Output<'a, W>
         ensures same_reference { result.device.ghost_name ≡ device.entry.ghost_name }
         ensures device { result.device.now ≡ device.old }
@@ -160,7 +160,7 @@ fn write_all<W: Sink>(device: &mut W, bytes: &[u8]) -> Result<(), WriteFault>
     Ok(())
 }
 
-/// A fault in a part of the text, counted from its start: this many bytes precede the part.
+/// Returns a fault in a part of the text, counted from the start of the text, of which `before` bytes precede the part.
 fn behind(before: u64, fault: WriteFault) -> WriteFault
     ensures { result.written ≡ min (before + fault.written) (2 ^ 64 - 1) }
 {

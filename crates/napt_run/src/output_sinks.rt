@@ -16,24 +16,17 @@ pub(crate) struct Leaving<'a, 'b, W: Sink, V: Sink> {
     pub(crate) counts: OutcomeCounts,
 }
 
-/// Writing an output failed.
-#[derive(Clone, Copy, Drop)]
-pub(crate) struct OutputFault {
-    pub(crate) which: Which,
-    pub(crate) fault: WriteFault,
-}
-
 /// An output's answer, with the output's name beside the fault.
-fn named(which: Which, answer: Result<(), WriteFault>) -> Result<(), OutputFault>
+fn named(which: Which, answer: Result<(), WriteFault>) -> Result<(), Fault>
     ensures { result ≡ named which answer }
 {
     match answer {
         Ok(()) => Ok(()),
-        Err(fault) => Err(OutputFault { which, fault }),
+        Err(fault) => Err(Fault::Write(which, fault)),
     }
 }
 
-/// The bytes of a packet, fewer than 65,536.
+/// Returns the bytes of a packet, which are fewer than 65,536.
 fn bytes_of(packet: &Packet) -> &[u8]
     ensures value { result.now ≡ packet.now }
     ensures short { length result.now < 2 ^ 16 }
@@ -42,7 +35,7 @@ fn bytes_of(packet: &Packet) -> &[u8]
     bytes
 }
 
-/// The vector of an outcome's packet, to be reused once the packet is written.
+/// Returns the vector of an outcome's packet, to be reused once the packet is written.
 pub(crate) fn vector_of(outcome: Outcome) -> Option<Vec<u8>> {
     match outcome {
         Outcome::ToOutside(packet) | Outcome::ToInside(packet) => Some(packet.into_bytes()),
@@ -53,9 +46,9 @@ pub(crate) fn vector_of(outcome: Outcome) -> Option<Vec<u8>> {
 impl<'a, 'b, W: Sink, V: Sink> Leaving<'a, 'b, W, V> {
     ghost use Rattle.std.specs.Prelude.{◌∷◌, [], IfErr, MatchResult, OnOk};
     ghost use Rattle.napt_records.specs.Counts.{AreCountsOf};
-    ghost use Rattle.napt_run.specs.OutputSinks.{AreTimesSound, SinkBegins, SinkFails, FailsToBegin, IsSettled, SinkTakes};
+    ghost use Rattle.napt_run.specs.OutputSinks.{AreTimesSound, IsOfOutput, SinkBegins, SinkFails, FailsToBegin, IsSettled, SinkTakes};
 
-    /// Over these outputs, before anything is written.
+    /// Returns both captures over these outputs, before anything is written.
     pub(crate) fn into(to_outside: Output<'a, W>, to_inside: Output<'b, V>) -> Leaving<'a, 'b, W, V>
         ensures to_outside { result.to_outside ≡ to_outside.entry }
         ensures to_inside { result.to_inside ≡ to_inside.entry }
@@ -86,8 +79,9 @@ impl<'a, 'b, W: Sink, V: Sink> Leaving<'a, 'b, W, V> {
 
     /// Counts the outcome of an input, and writes the record of its packet, if any, with the arrival time in ns.
     #[inline(always)]
-    pub(crate) fn write(&mut self, time: u64, outcome: &Outcome) -> Result<(), OutputFault>
-        ensures { MatchResult result
+    pub(crate) fn write(&mut self, time: u64, outcome: &Outcome) -> Result<(), Fault>
+        ensures of_output { IfErr result IsOfOutput }
+        ensures takes { MatchResult result
             (λ _. SinkTakes self.old ((time, outcome.now) ∷ []) self.new)
             (λ fault. SinkFails self.old ((time, outcome.now) ∷ []) fault self.new) }
     {
@@ -110,16 +104,14 @@ impl<'a, 'b, W: Sink, V: Sink> Leaving<'a, 'b, W, V> {
     }
 
     /// Flushes both captures.
-    pub(crate) fn settle(&mut self) -> Result<(), OutputFault>
-        ensures { MatchResult result (λ _. SinkTakes self.old [] self.new × IsSettled self.new)
+    pub(crate) fn settle(&mut self) -> Result<(), Fault>
+        ensures of_output { IfErr result IsOfOutput }
+        ensures takes { MatchResult result (λ _. SinkTakes self.old [] self.new × IsSettled self.new)
             (λ fault. SinkFails self.old [] fault self.new) }
     {
         match self.to_outside.flush() {
             Ok(()) => named(Which::Inside, self.to_inside.flush()),
-            Err(fault) => Err(OutputFault {
-                which: Which::Outside,
-                fault,
-            }),
+            Err(fault) => Err(Fault::Write(Which::Outside, fault)),
         }
     }
 }

@@ -8,6 +8,6 @@ use napt_dispatch::RunSummary;
 pub struct RunEnd {
     /// The counts of the run, with the bindings at its end, from which its state is made.
     pub passed: RunSummary,
-    /// What is left of the log beside the state. It has no entries if the run keeps no log.
+    /// What is kept of the log in addition to the state. It has no entries if the run keeps no log.
     pub log: OpenLog,
 }

@@ -1,13 +1,12 @@
 //! The captures that a run reads.
-ghost use Rattle.std.specs.Prelude.{◌≡◌, ◌+◌, ◌-◌, ◌^◌, ◌<◌, [], List, Option, ℕ, IfErr, IfOk};
-ghost use Rattle.napt_records.specs.Counts.{AreCountsOf};
-ghost use Rattle.napt_run.specs.{Captures.failed_readings, OutputSinks.{AreTimesSound, IsSettled}, Origins.origin_of, Runs.RunsTo, LoggedOutputSinks.IsSameSinkPlace, LogRuns.{LogsTo, as_run}};
+ghost use Rattle.std.specs.Prelude.{◌≡◌, ◌+◌, List, Option, ℕ, IfErr, IfOk};
+ghost use Rattle.napt_run.specs.{Captures.failed_readings, OutputSinks.{IsNew, IsSettled, SinkBegins}, Origins.origin_of, Posts.RunsTo, LoggedOutputSinks.IsSameSinkPlace, LogRuns.LogsTo, declared.output_sinks.Leaving.Leaving as KnownLeaving};
 ghost use Rattle.napt_run.specs.Streams.{HasRead, IsBehindHeader, IsHeaderFault, IsOfRun};
 
 use crate::capture_run::Totals;
 use crate::logged_output_sinks::LeavingWithLog;
-use crate::logging::{Logging, LoggingFault};
 use crate::start::OriginSetting;
+use crate::stream_log::StreamLog;
 use napt_capture::{RecordReader, Sink, Source};
 use napt_pool::Gate;
 use napt_records::{Fault, RecordStream, StreamMerger};
@@ -16,7 +15,7 @@ use std::alloc::Global;
 use std::sync::Wait;
 use std::thread::Threads;
 
-/// Both captures, past their headers.
+/// Both captures, after their headers.
 #[derive(Drop)]
 struct BothRecords {
     inside: RecordReader,
@@ -28,23 +27,21 @@ impl<
     G: Gate + Send + Sync + Drop + 'static,
 > OriginSetting<'_, '_, T, G> {
     /// Reads the headers of the captures, and runs over them.
-    pub(crate) fn run_over<R: Source, Q: Source, W: Sink, V: Sink, K: Logging>(
+    pub(crate) fn run_over<R: Source, Q: Source, W: Sink, V: Sink, K: StreamLog>(
         self,
         inside: &mut R,
         outside: &mut Q,
         both: &mut LeavingWithLog<'_, '_, '_, W, V, K>,
-    ) -> Result<Totals, LoggingFault<K::Fault>>
-        requires sound { AreTimesSound both.old.leaving }
-        requires counts { AreCountsOf [] both.old.leaving.counts }
-        requires settled { IsSettled both.old.leaving }
+    ) -> Result<Totals, Fault>
         requires log { K.is_settled both.old.log.now }
-        ensures runs { RunsTo G.is_open (origin_of self.entry.start) (R.remaining inside.old)
-            (Q.remaining outside.old) [] both.old.leaving both.new.leaving (as_run result) }
-        ensures readings { (¬ IsOfRun (as_run result)) → HasRead R.failed Q.failed
-            inside.old inside.new outside.old outside.new (as_run result) }
+        ensures runs { (begun : KnownLeaving W V W.Sink V.Sink) → IsNew begun → SinkBegins begun both.old.leaving →
+            IsSettled both.old.leaving → RunsTo (origin_of self.entry.start) (R.remaining inside.old)
+            (Q.remaining outside.old) begun both.new.leaving result }
+        ensures readings { (¬ IsOfRun result) → HasRead R.failed Q.failed
+            inside.old inside.new outside.old outside.new result }
         ensures logs { LogsTo K.Told.tells (origin_of self.entry.start) K.enters K.fails
             K.is_settled (R.remaining inside.old) (Q.remaining outside.old) both.old.log.now
-            both.new.log.now result }
+            both.new.log.now G.is_open result }
         ensures same { IsSameSinkPlace both.old both.new }
     {
         let ours = read_header(self.alloc, Side::Inside, inside)?;
@@ -57,27 +54,25 @@ impl<
     }
 
     /// Runs over the captures, past their headers.
-    fn run_behind_headers<R: Source, Q: Source, W: Sink, V: Sink, K: Logging>(
+    fn run_behind_headers<R: Source, Q: Source, W: Sink, V: Sink, K: StreamLog>(
         self,
         inside: &mut R,
         outside: &mut Q,
         records: BothRecords,
         both: &mut LeavingWithLog<'_, '_, '_, W, V, K>,
-    ) -> Result<Totals, LoggingFault<K::Fault>>
-        requires sound { AreTimesSound both.old.leaving }
-        requires counts { AreCountsOf [] both.old.leaving.counts }
-        ensures runs { (bytes others : Option (List ℕ)) →
+    ) -> Result<Totals, Fault>
+        ensures runs { (bytes others : Option (List ℕ)) (begun : KnownLeaving W V W.Sink V.Sink) →
             IsBehindHeader R.Source records.inside bytes inside.old →
-            IsBehindHeader Q.Source records.outside others outside.old →
-            RunsTo G.is_open (origin_of self.entry.start) bytes others [] both.old.leaving
-            both.new.leaving (as_run result) }
-        ensures readings { (¬ IsOfRun (as_run result)) → HasRead R.failed Q.failed
-            inside.old inside.new outside.old outside.new (as_run result) }
+            IsBehindHeader Q.Source records.outside others outside.old → IsNew begun →
+            SinkBegins begun both.old.leaving →
+            RunsTo (origin_of self.entry.start) bytes others begun both.new.leaving result }
+        ensures readings { (¬ IsOfRun result) → HasRead R.failed Q.failed
+            inside.old inside.new outside.old outside.new result }
         ensures logs { (bytes others : Option (List ℕ)) →
             IsBehindHeader R.Source records.inside bytes inside.old →
             IsBehindHeader Q.Source records.outside others outside.old →
             LogsTo K.Told.tells (origin_of self.entry.start) K.enters K.fails K.is_settled bytes
-            others both.old.log.now both.new.log.now result }
+            others both.old.log.now both.new.log.now G.is_open result }
         ensures same { IsSameSinkPlace both.old both.new }
     {
         let ours = RecordStream::new(inside, records.inside);

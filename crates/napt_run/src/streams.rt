@@ -1,15 +1,13 @@
 //! A run over captures as they arrive.
-ghost use Rattle.std.specs.Prelude.{◌≡◌, IfErr, IfOk, false, true};
-ghost use Rattle.napt_account.specs.LogStarts.{is_saved_log_state};
+ghost use Rattle.std.specs.Prelude.{IfErr, IfOk};
 ghost use Rattle.napt_rules.specs.Prelude.{TakesState};
-ghost use Rattle.napt_run.specs.{DevicesPosts.{EndPost, ExplainedBy, OutputsPost, ReadsPost}, Logs.{LogPost, NoLogPost}, Origins.origin_of, Posts.log_of_end, Streams.stream_ended};
+ghost use Rattle.napt_run.specs.{DevicesPosts.{EndPost, ExplainedBy, OutputsPost, ReadsPost}, Origins.origin_of, Posts.log_of_end, Streams.stream_ended};
 
 use crate::devices::Devices;
-use crate::logging::NoLog;
 use crate::report_output::write_report;
 use crate::run_end::RunEnd;
 use crate::start::{OriginSetting, Start};
-use crate::writer::LogWriter;
+use crate::stream_log::StreamLog;
 use napt_capture::{Sink, Source};
 use napt_pool::Gate;
 use napt_records::Fault;
@@ -18,8 +16,9 @@ use std::sync::{Arc, Wait};
 use std::thread::Threads;
 
 /// Translates both captures from a start, as the packets arrive: each is read, translated and written
-/// before a device is asked for more. Writes the packets that leave to each side, and a report at the
-/// end. Returns what the run leaves.
+/// before a device is asked for more. Writes the packets that leave to each side, the log of the run if
+/// its devices have a [`LogWriter`](crate::LogWriter), and a report at the end. Returns what the run
+/// leaves.
 ///
 /// Memory is bounded by the bindings (an expired one stays until a new one is made at its address), the
 /// 131,072 packets that may be in flight, and 16,384 buffers that are kept. If the run succeeds, each
@@ -44,6 +43,11 @@ use std::thread::Threads;
 /// `Fault::Run` with `Memory` if memory is refused, and with `Pool` if a worker could not be started or
 /// stopped early (never `GateShut` under a gate that is always open). Each capture then has at least its
 /// header.
+///
+/// With a log also `Fault::Write` of `Which::Log` if writing it failed, and `Fault::Run` with `TooMany` at
+/// input 4,611,686,018,427,387,904. After a fault of a capture the log has the rows of the packets before
+/// it. Whatever failed, it is flushed, unless one of its own calls failed. Both captures are empty if the
+/// log could not be begun.
 pub fn run_streams<
     T: Threads + Wait + Copy + Send + 'static,
     R: Source,
@@ -51,75 +55,23 @@ pub fn run_streams<
     W: Sink,
     V: Sink,
     U: Sink,
+    L: StreamLog,
     G: Gate + Send + Sync + Drop + 'static,
 >(
     rt: &T,
     alloc: Global,
     start: Start<'_>,
-    devices: &mut Devices<R, Q, W, V, U, NoLog>,
+    devices: &mut Devices<R, Q, W, V, U, L>,
     gate: Arc<G>,
 ) -> Result<RunEnd, Fault>
     requires state { TakesState start.config.now start.state.now }
-    ensures outputs { OutputsPost R.Source Q.Source W.Sink V.Sink U.Sink false
+    requires log { L.is_ready (origin_of start) devices.old.log }
+    ensures outputs { OutputsPost R.Source Q.Source W.Sink V.Sink U.Sink L.is_kept
         (origin_of start.entry) devices.old (stream_ended result) devices.new }
-    ensures log { NoLogPost (log_of_end result) }
-    ensures end { IfOk result (EndPost R.Source Q.Source (origin_of start.entry) devices.old) }
-    ensures fault { IfErr result (ExplainedBy R.Source Q.Source false G.is_open devices.old) }
-    ensures reads { ReadsPost R.Source Q.Source devices.old (stream_ended result) devices.new }
-{
-    let setting = OriginSetting {
-        rt,
-        alloc,
-        start,
-        gate,
-    };
-    let ran = setting.stream_plain(
-        &mut devices.inside,
-        &mut devices.outside,
-        &mut devices.to_outside,
-        &mut devices.to_inside,
-        &mut devices.log,
-    )?;
-    let (totals, log) = ran;
-    write_report(alloc, &mut devices.report, &totals)?;
-    Ok(RunEnd {
-        passed: totals.passed,
-        log,
-    })
-}
-
-/// Translates both captures as [`run_streams`] does, and also writes the log of the run
-/// ([`LogWriter`]).
-///
-/// # Errors
-///
-/// Fails as `run_streams` does, with `Fault::Write` of `Which::Log` if writing the log failed, and with
-/// `TooMany` at input 4,611,686,018,427,387,904. After a fault of a capture the log has the rows of the
-/// packets before it, and is flushed. Both captures are empty if the log could not be begun.
-pub fn run_streams_with_log<
-    T: Threads + Wait + Copy + Send + 'static,
-    R: Source,
-    Q: Source,
-    W: Sink,
-    V: Sink,
-    U: Sink,
-    L: Sink,
-    G: Gate + Send + Sync + Drop + 'static,
->(
-    rt: &T,
-    alloc: Global,
-    start: Start<'_>,
-    devices: &mut Devices<R, Q, W, V, U, LogWriter<'_, L>>,
-    gate: Arc<G>,
-) -> Result<RunEnd, Fault>
-    requires state { TakesState start.config.now start.state.now }
-    requires log { is_saved_log_state start.state.now devices.old.log.start.saved.now ≡ true }
-    ensures outputs { OutputsPost R.Source Q.Source W.Sink V.Sink U.Sink true
-        (origin_of start.entry) devices.old (stream_ended result) devices.new }
-    ensures log { LogPost L.Sink start.entry (R.remaining devices.old.inside)
+    ensures log { L.post (origin_of start.entry) (R.remaining devices.old.inside)
         (Q.remaining devices.old.outside) (log_of_end result) devices.old.log devices.new.log }
     ensures end { IfOk result (EndPost R.Source Q.Source (origin_of start.entry) devices.old) }
-    ensures fault { IfErr result (ExplainedBy R.Source Q.Source true G.is_open devices.old) }
+    ensures fault { IfErr result (ExplainedBy R.Source Q.Source L.is_kept G.is_open devices.old) }
     ensures reads { ReadsPost R.Source Q.Source devices.old (stream_ended result) devices.new }
 {
     let setting = OriginSetting {
@@ -128,7 +80,7 @@ pub fn run_streams_with_log<
         start,
         gate,
     };
-    let ran = setting.stream_to(
+    let ran = setting.stream(
         &mut devices.inside,
         &mut devices.outside,
         &mut devices.to_outside,

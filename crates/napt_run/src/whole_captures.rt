@@ -1,4 +1,4 @@
-//! The run over inputs that are all at hand.
+//! The run over inputs that are all in memory.
 ghost use Rattle.std.specs.{Prelude.{◌≡◌, ◌-◌, ◌^◌, ◌<◌, [], All, IfErr, IfOk, OnOk}, Io.KnownBytes.Appends};
 ghost use Rattle.napt_capture.specs.Text.{file_header};
 ghost use Rattle.napt_dispatch.specs.Dispatch.{IsFaultUnder};
@@ -6,10 +6,10 @@ ghost use Rattle.napt_records.specs.{Counts.AreCountsOf, Output.IsTimely};
 ghost use Rattle.napt_run.specs.{Origins.origin_of, Streams.capture_text, WholeCaptures.{IsTallyOf, WritesAll}};
 
 use crate::logged_output_sinks::LeavingWithLog;
-use crate::logging::NoLog;
 use crate::output::Output;
 use crate::output_sinks::Leaving;
 use crate::start::OriginSetting;
+use crate::stream_log::NoLog;
 use napt_capture::Sink;
 use napt_dispatch::{PassFault, RunSummary};
 use napt_pool::Gate;
@@ -19,7 +19,7 @@ use napt_wire::Side;
 use std::sync::Wait;
 use std::thread::Threads;
 
-/// What the report of a run is made from, but which captures were cut, and the state that it leaves.
+/// What the report of a run is made from, except which captures were cut, and the state that it leaves.
 #[derive(Drop)]
 pub(crate) struct RunTally {
     pub(crate) counts: OutcomeCounts,
@@ -30,7 +30,7 @@ impl<
     T: Threads + Wait + Copy + Send + 'static,
     G: Gate + Send + Sync + Drop + 'static,
 > OriginSetting<'_, '_, T, G> {
-    /// Runs over the inputs, and writes both captures. Where an output fails, the fault is `Memory`.
+    /// Runs over the inputs, and writes both captures. If an output fails, the fault is `Memory`.
     pub(crate) fn run_into<W: Sink, V: Sink>(
         self,
         inputs: RecordMerger,

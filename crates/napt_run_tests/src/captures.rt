@@ -13,7 +13,7 @@ use napt_capture::{FaultPlan, Faulty, InjectedFault, Watched};
 use napt_config::Config;
 use napt_run::{
     Devices, Fault, LogStart, LogWriter, NoLog, RunEnd, Start, initial_state, run_captures,
-    run_streams, run_streams_with_log,
+    run_streams,
 };
 use std::alloc::{AllocError, Global};
 use std::ops::Range;
@@ -125,7 +125,7 @@ pub(crate) fn captured(
         };
     }
     macro_rules! written_by {
-        ($run:ident, $log:expr, $left:pat => $text:expr) => {{
+        ($run:ident, $log:expr) => {{
             let mut devices = Devices {
                 inside: on!(Inside, given.inside),
                 outside: on!(Outside, given.outside),
@@ -135,13 +135,13 @@ pub(crate) fn captured(
                 log: $log,
             };
             let run = $run(rt, alloc, start, &mut devices, gate);
-            let Devices { to_outside, to_inside, report, log: $left, .. } = devices;
+            let Devices { to_outside, to_inside, report, .. } = devices;
             RunOutput {
                 answer: ended(run),
                 to_outside: to_outside.into_inner().into_inner(),
                 to_inside: to_inside.into_inner().into_inner(),
                 report: report.into_inner().into_inner(),
-                log: $text,
+                log: Vec::new(alloc),
             }
         }};
     }
@@ -156,14 +156,16 @@ pub(crate) fn captured(
         goes_on: false,
     };
     Ok(match given.call {
-        Call::Captures => written_by!(run_captures, NoLog, NoLog => Vec::new(alloc)),
-        Call::Streams => written_by!(run_streams, NoLog, NoLog => Vec::new(alloc)),
+        Call::Captures => written_by!(run_captures, NoLog),
+        Call::Streams => written_by!(run_streams, NoLog),
         Call::StreamsWithLog => {
-            let log = LogWriter {
-                start: log_start,
-                device: on!(Log, Vec::new(alloc)),
-            };
-            written_by!(run_streams_with_log, log, LogWriter { device, .. } => device.into_inner().into_inner())
+            let mut text = on!(Log, Vec::new(alloc));
+            let log = LogWriter::new(alloc, start, log_start, &mut text)?;
+            let output = written_by!(run_streams, log);
+            RunOutput {
+                log: text.into_inner().into_inner(),
+                ..output
+            }
         }
     })
 }
@@ -190,7 +192,7 @@ pub(crate) fn push_packet(
     text.extend_from_slice(bytes)
 }
 
-/// Returns those of the thousand inputs that arrive in this range, in microseconds, as a capture of the inside.
+/// Returns the capture of the inside with those of the thousand inputs that arrive in this range, in microseconds.
 pub(crate) fn sent_in(alloc: Global, times: &Range<u32>) -> Result<Vec<u8>, AllocError> {
     let mut text = Vec::from_slice(alloc, &HEADER)?;
     for input in &thousand_inputs(alloc)? {
@@ -202,8 +204,8 @@ pub(crate) fn sent_in(alloc: Global, times: &Range<u32>) -> Result<Vec<u8>, Allo
     Ok(text)
 }
 
-/// Returns those of a hundred replies that arrive in this range, in microseconds. The resolver sends them to the
-/// external endpoints of the thousand inputs in turn, one in each 10 ms, at the times of inside packets.
+/// Returns the capture of the outside with those of a hundred replies that arrive in this range, in microseconds. The
+/// resolver sends them to the external endpoints of the thousand inputs in turn, one every 10 ms, with inside packets.
 pub(crate) fn replies_in(alloc: Global, times: &Range<u32>) -> Result<Vec<u8>, AllocError> {
     let mut text = Vec::from_slice(alloc, &HEADER)?;
     for k in 0..100u16 {

@@ -18,7 +18,7 @@ pub(crate) enum GateMode {
     Slow,
     /// It holds back each of two workers at its first leg until it has seen the other there, and counts these.
     Meeting,
-    /// It holds back worker 0 at its first leg, until worker 2 has entered its own.
+    /// It holds back worker 0 at its first leg, until worker 2 has begun its own.
     AfterThird,
     /// It holds back no worker, and shows the turn that worker 0 asks for.
     Shown,
@@ -76,7 +76,7 @@ impl Hold {
         is_soon(&self.first, turn);
     }
 
-    /// Whether worker 2 has entered its first leg, if worker 0 asks for its own.
+    /// Whether worker 2 has begun its first leg, if worker 0 asks for its own.
     fn is_after_third(&self, worker: u32, turn: u64) -> bool {
         if worker == 2 && turn == 0 {
             self.first.store(1, Ordering::SeqCst);

@@ -12,7 +12,7 @@ use std::test::Fail;
 pub(crate) const SETTINGS: &str = "pool = ['203.0.113.1']\ninside = ['10.0.0.0/8']\n\
 [[redirect]]\nprotocol = 'udp'\ninside = '10.0.0.3:7000'\nexternal = 7000\n";
 
-/// 10.0.0.3:7000 stands at port 7001.
+/// A redirect to 10.0.0.3:7000 at port 7001.
 const OTHER_SETTINGS: &str = "pool = ['203.0.113.1']\ninside = ['10.0.0.0/8']\n\
 [[redirect]]\nprotocol = 'udp'\ninside = '10.0.0.3:7000'\nexternal = 7001\n";
 
@@ -46,8 +46,8 @@ fn state(alloc: Global) -> Result<State, AllocError> {
     })
 }
 
-/// What a state keeps of a log: of the binding the entry of this number, the last, after so many packets, one each 10 us, and of the
-/// redirect the first entry.
+/// What a state keeps of a log: the last entry, with this number, for the binding after this number of packets, one
+/// every 10 us; and the first entry for the redirect.
 pub(crate) fn kept(alloc: Global, number: u8, packets: u8) -> Result<SavedLogState, AllocError> {
     let last = u64::from(packets) * 10_000;
     let sent = Account {
@@ -72,7 +72,7 @@ pub(crate) fn kept(alloc: Global, number: u8, packets: u8) -> Result<SavedLogSta
     })
 }
 
-/// The log that goes on under a configuration from the state and this of its log.
+/// Returns the log that goes on under a configuration from the state and what it keeps of its log.
 fn resumed<'a>(
     alloc: Global,
     config: &'a Config,
@@ -110,7 +110,7 @@ fn a_log_goes_on_with_the_bindings_of_its_state(rt: HostRuntime) -> Result<(), F
     Ok(())
 }
 
-/// Of another redirect the entry ends at the clock, and the new one has the next number.
+/// The entry of another redirect ends at the clock, and the new one has the next number.
 #[test]
 fn a_log_ends_what_the_configuration_leaves_out(rt: HostRuntime) -> Result<(), Fail> {
     let alloc = rt.alloc();
@@ -127,7 +127,7 @@ fn a_log_ends_what_the_configuration_leaves_out(rt: HostRuntime) -> Result<(), F
     Ok(())
 }
 
-/// Two accounts of one number, and one of a number that was not given, are of no log.
+/// Two accounts with one number are refused, and so is one with a number that was not given.
 #[test]
 fn accounts_that_no_log_has(rt: HostRuntime) -> Result<(), Fail> {
     let alloc = rt.alloc();

@@ -13,7 +13,7 @@ use crate::samples::hosts::{CLIENT, RESOLVER};
 use napt_account::SavedLogState;
 use napt_capture::{Watched, WriteFault};
 use napt_config::Config;
-use napt_run::{Devices, Fault, LogStart, LogWriter, Start, State, Which, run_streams_with_log};
+use napt_run::{Devices, Fault, LogStart, LogWriter, Start, State, Which, run_streams};
 use napt_state::first_misfit;
 use std::alloc::{AllocError, Global};
 use std::num::NonZeroU32;
@@ -107,23 +107,21 @@ fn run_on(
         state: &state,
     };
     let sent = sent_at(alloc, times)?;
+    let mut text = Watched::new(Vec::new(alloc));
     let mut devices = Devices {
         inside: Watched::new(sent.as_slice()),
         outside: Watched::new(HEADER.as_slice()),
         to_outside: Watched::new(Vec::new(alloc)),
         to_inside: Watched::new(Vec::new(alloc)),
         report: Watched::new(Vec::new(alloc)),
-        log: LogWriter {
-            start: log_start,
-            device: Watched::new(Vec::new(alloc)),
-        },
+        log: LogWriter::new(alloc, start, log_start, &mut text)?,
     };
     let gate = Hold::new(alloc, GateMode::Open)?;
-    let end = run_streams_with_log(rt, alloc, start, &mut devices, gate)?;
-    let LogWriter { device, .. } = devices.log;
+    let end = run_streams(rt, alloc, start, &mut devices, gate)?;
+    drop(devices);
     let state = end.passed.into_state_if(true, alloc)?.ok_or("a state")?;
     Ok(Part {
-        text: device.into_inner(),
+        text: text.into_inner(),
         saved: end.log.saved(alloc, &state)?,
         state,
     })

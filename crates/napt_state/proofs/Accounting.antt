@@ -55,7 +55,7 @@ pub lt_not : (a b : ℕ) → b < a → nat_le a b ≡ false
 lt_not a b by = grind (arith, nat_tests)
 
 module _ (made clock : ℕ) where
-  -- what is still to be looked at, after these accounts
+  -- The accounts that are still to be checked, after the given ones.
   abbrev pub fits : List Kept → List SavedBinding → Bool
   fits seen rest = have_ended clock rest && are_accounts made clock seen (accounted_in rest)
 
@@ -63,7 +63,7 @@ module _ (made clock : ℕ) where
     abbrev pub seen : ℕ → List Kept
     seen k = accounted_in (take k list)
 
-    -- the first were looked at, and the others are to be
+    -- The first accounts were checked, and the others are still to be.
     abbrev pub IsLooked : ℕ → Type 0
     IsLooked k = fits [] list ≡ fits (seen k) (drop k list)
 

@@ -32,7 +32,7 @@ tagged : (is : StateLine) → key (first is) ≡ tag is
 tagged (lines.Binding row last account) = kind_key row.fixed
 tagged _ = omega arith
 
--- The first word of a line that is one of a state.
+-- The first word of a line of a state.
 pub tag_of : (line word name : StateTextBytes) → word ≡ get_or (words_in line) 0 [] → (is : StateLine) →
     line_text is ≡ line ++ codes "\n" → word ≡ name → key name ≡ tag is
 tag_of line word name got is text e =

@@ -1,5 +1,6 @@
 pub mod Accounting
 pub mod Arms
+pub mod Ended
 pub mod Lines
 pub mod Reading
 pub mod Replay

@@ -1,10 +1,10 @@
 -- A line is split into its words again, since no word has a space, and a text into its lines, since no line has a line
 -- feed.
 use Rattle.std.proofs.lemmas.{Grind.common_steps, Bool.Decides.nat_tests}
-use Rattle.std.proofs.Common.{ℕ, zero, suc, ◌≡◌, ◌≢◌, ◌<◌, get_or, ◌==◌, ◌||◌, ◌/◌, ◌%◌, ◌∙◌, Bool, true, false, List, [], ◌∷◌, ◌++◌, codes, decimal, length, Option, Some, None, IfSome, refl, sym, ap, subst, append_assoc, append-nil, length-append, if◌then◌else◌, arith}
+use Rattle.std.proofs.Common.{ℕ, zero, suc, ◌≡◌, ◌≢◌, ◌<◌, get_or, nat_le, ◌==◌, ◌||◌, ◌/◌, ◌%◌, ◌∙◌, Bool, true, false, List, [], ◌∷◌, ◌++◌, codes, decimal, length, Option, Some, None, IfSome, refl, sym, ap, subst, append_assoc, append-nil, length-append, if◌then◌else◌, arith}
 use Rattle.std.{proofs.{BufReadLemmas.{take_through-append, drop_through-append}, Math.Seq.get_or-append_seam}, specs.Fmt.{digit_glyph, digits, digits_onto}}
-use Rattle.std.specs.{Io.{BufRead.{take_through, drop_through}, KnownBytes.IsAtEnd}, List.{All, list_any, slice_split}, Net.Text.dotted_text}
-use Rattle.std.proofs.lemmas.{Bool.{both_ways, eqb-false, false_from_ne_true, or_parts}, List.{append_cancel_right, Elements.{All-append, All-cons}}}
+use Rattle.std.specs.{Io.{BufRead.{take_through, drop_through}, KnownBytes.IsAtEnd}, List.{All, list_any, slice_split}, Net.Text.dotted_text, Str.{IsAscii, IsUtf8}}
+use Rattle.std.proofs.lemmas.{Str.{IsAscii-append, IsUtf8-from_ascii}, Bool.{both_ways, eqb-false, false_from_ne_true, or_parts}, List.{append_cancel_right, Elements.{All-append, All-cons}}}
 use Rattle.std.proofs.lemmas.List.{Folds.{list_any-append, list_any_at}, Splits.{slice_split_at, slice_split_none}}
 use Rattle.napt_wire.specs.declared.Protocol.{Protocol, TheVariants.{Icmp, Tcp, Udp}}
 use Rattle.napt_config.specs.Text.{address_text}
@@ -14,9 +14,9 @@ use Rattle.napt_state.specs.declared.line.StateLine.TheVariants as lines
 use Rattle.napt_state.specs.StateContents.{IsFirstLine}
 use Rattle.napt_state.specs.StateText.{StateTextBytes, is_space, words_in, words_text, state_flag, kind_text, state_protocol_name, end_text, count_words, words_if, split_words, line_text}
 
--- A byte that ends a word.
+-- A byte that no word has: one that ends it, or is not ASCII.
 abbrev is_mark : ℕ → Bool
-is_mark byte = is_space byte || (byte == 10)
+is_mark byte = is_space byte || ((byte == 10) || nat_le 128 byte)
 
 abbrev has_mark : StateTextBytes → Bool
 has_mark text = list_any is_mark text
@@ -33,18 +33,25 @@ IsLine text = All (λ byte. byte ≢ 10) text
 
 no_end_at : (text : StateTextBytes) → has_mark text ≡ false → IsLine text
 no_end_at text none k d within =
-    eqb-false (get_or text k d) 10 (or_parts (is_space (get_or text k d)) _ (no_mark_at text none k d within)).1
+    eqb-false (get_or text k d) 10
+    (or_parts (get_or text k d == 10) _ (or_parts (is_space (get_or text k d)) _ (no_mark_at text none k d within)).1).0
+
+ascii_word : (text : StateTextBytes) → has_mark text ≡ false → IsAscii text
+ascii_word [] none i = omega arith
+ascii_word (byte ∷ text) none zero =
+    (let small = (or_parts (is_mark byte) _ none).0 in grind (arith, nat_tests, small))
+ascii_word (byte ∷ text) none (suc i) = ascii_word text (or_parts (is_mark byte) _ none).1 i
 
 -- WORDS WITHOUT A MARK
 
-glyph : (digit : ℕ) → is_mark (digit_glyph false digit) ≡ false
-glyph digit = grind (arith, nat_tests)
+glyph : (digit : ℕ) → digit < 10 → is_mark (digit_glyph false digit) ≡ false
+glyph digit few = grind (arith, nat_tests)
 
 in_digits : (many number : ℕ) (text : StateTextBytes) → has_mark text ≡ false →
     has_mark (digits_onto many 10 false number text) ≡ false
 in_digits zero number text none = none
 in_digits (suc many) number text none =
-    let here : has_mark (digit_glyph false (number % 10) ∷ text) ≡ false = rw (glyph (number % 10)) none in
+    let here : has_mark (digit_glyph false (number % 10) ∷ text) ≡ false = rw (glyph (number % 10) (omega arith)) none in
     elim (number / 10 == 0) as (λ b. has_mark (if b then digit_glyph false (number % 10) ∷ text
     else digits_onto many 10 false (number / 10) (digit_glyph false (number % 10) ∷ text)) ≡ false)
     [ true ↦ here | false ↦ in_digits many (number / 10) (digit_glyph false (number % 10) ∷ text) here ]
@@ -146,6 +153,34 @@ joined-line first (word ∷ more) none =
     All-append (λ byte. byte ≢ 10) first (32 ∷ joined word more) (no_end_at first here)
     (All-cons (λ byte. byte ≢ 10) 32 (joined word more) (λ is. omega arith) (joined-line word more behind))
 
+-- WHAT IS WRITTEN IS UTF-8
+
+ascii_end : IsAscii (codes "\n")
+ascii_end zero = omega arith
+ascii_end (suc i) = omega arith
+
+ascii_space : (text : StateTextBytes) → IsAscii text → IsAscii (32 ∷ text)
+ascii_space text all zero = omega arith
+ascii_space text all (suc i) = all i
+
+ascii_joined : (first : StateTextBytes) (more : List StateTextBytes) → have_marks (first ∷ more) ≡ false →
+    IsAscii (joined first more)
+ascii_joined first [] none = ascii_word first (or_parts (has_mark first) false none).0
+ascii_joined first (word ∷ more) none =
+    let (here, behind) = or_parts (has_mark first) (have_marks (word ∷ more)) none in
+    IsAscii-append first (32 ∷ joined word more) (ascii_word first here)
+    (ascii_space (joined word more) (ascii_joined word more behind))
+
+ascii_words : (texts : List StateTextBytes) → 0 < length texts → have_marks texts ≡ false → IsAscii (words_text texts)
+ascii_words [] some none = absurd (omega arith)
+ascii_words (first ∷ more) some none = subst IsAscii (sym (words_text-joined first more))
+    (IsAscii-append (joined first more) (codes "\n") (ascii_joined first more none) ascii_end)
+
+pub line_text-utf8 : (entry : StateLine) → IsUtf8 (line_text entry)
+unfolding line_text
+line_text-utf8 entry = IsUtf8-from_ascii (words_text (split_words entry))
+    (ascii_words (split_words entry) (many entry) (in_words entry))
+
 abbrev pub Line : StateTextBytes → Type 0
 Line text = (line : StateTextBytes) × (text ≡ line ++ codes "\n") × IsLine line
 
@@ -159,7 +194,7 @@ line_text-ended entry = line_of (split_words entry) (many entry) (in_words entry
 
 module _ (left new : Option (List ℕ)) (old line : StateTextBytes) (text rest : StateTextBytes) (none : old ≡ [])
     (got : IfSome left (λ xs. line ≡ old ++ take_through 10 xs)) (left_is : left ≡ Some (text ++ rest)) where
-  -- The line that is read is the first of those left, and the rest is then left.
+  -- The line that is read is the first of those that were left, and the rest is left after it.
   pub line_read : IfSome left (λ xs. new ≡ Some (drop_through 10 xs)) → Line text → (line ≡ text) × (new ≡ Some rest)
   line_read h k = grind (arith, common_steps, nat_tests, append_assoc, take_through-append, drop_through-append)
 
@@ -169,17 +204,19 @@ module _ (left new : Option (List ℕ)) (old line : StateTextBytes) (text rest :
       let empty : text ++ rest ≡ [] = subst IsAtEnd left_is end in
       omega (arith, ap length empty, ap length is, length-append text rest, length-append row (codes "\n"))
 
--- A text that ends inside a line has no line feed at its end.
-pub torn_read : (left : Option (List ℕ)) (old line torn front : StateTextBytes) → old ≡ [] →
-    IfSome left (λ xs. line ≡ old ++ take_through 10 xs) → left ≡ Some torn → IsLine torn →
-    line ≡ front ++ codes "\n" → ⊥
-torn_read left old line torn front none got left_is whole ended =
-    let is : torn ≡ front ++ codes "\n" =
-    sym (append-nil torn) ∙ sym (take_through-append 10 torn [] whole) ∙ ap (take_through 10) (append-nil torn)
-    ∙ ap (λ l. l ++ take_through 10 torn) (sym none)
-    ∙ sym (subst (λ o. IfSome o (λ xs. line ≡ old ++ take_through 10 xs)) left_is got) ∙ ended in
-    whole (length front) 0 (omega (arith, ap length is, length-append front (codes "\n")))
-    (ap (λ l. get_or l (length front) 0) is ∙ get_or-append_seam front 10 [] 0)
+-- A text that ends inside a line is that line, and has no line feed at its end.
+module _ (left : Option (List ℕ)) (old line torn : StateTextBytes) (none : old ≡ [])
+    (got : IfSome left (λ xs. line ≡ old ++ take_through 10 xs)) (left_is : left ≡ Some torn) (whole : IsLine torn) where
+  pub torn_line : torn ≡ line
+  torn_line = sym (append-nil torn) ∙ sym (take_through-append 10 torn [] whole) ∙ ap (take_through 10) (append-nil torn)
+      ∙ ap (λ l. l ++ take_through 10 torn) (sym none)
+      ∙ sym (subst (λ o. IfSome o (λ xs. line ≡ old ++ take_through 10 xs)) left_is got)
+
+  pub torn_read : (front : StateTextBytes) → line ≡ front ++ codes "\n" → ⊥
+  torn_read front ended =
+      let is : torn ≡ front ++ codes "\n" = torn_line ∙ ended in
+      whole (length front) 0 (omega (arith, ap length is, length-append front (codes "\n")))
+      (ap (λ l. get_or l (length front) 0) is ∙ get_or-append_seam front 10 [] 0)
 
 both_parts : (xs : StateTextBytes) → take_through 10 xs ++ drop_through 10 xs ≡ xs
 both_parts [] = refl

@@ -13,7 +13,7 @@ use Rattle.napt_state.proofs.Replay.{none_follows, one_follows, is_last}
 pub unless_weaker : {P Q : Type 0} (reason : StateReason) → (P → Q) → unless_for reason P → unless_for reason Q
 unless_weaker (Unread error) f h = h
 unless_weaker Memory f h = h
-unless_weaker NotUtf8 f h = h
+unless_weaker NotUtf8 f h = f h
 unless_weaker Torn f h = f h
 unless_weaker (Word its word) f h = f h
 unless_weaker WordCount f h = f h
@@ -22,7 +22,7 @@ unless_weaker OtherCounts f h = f h
 unless_weaker Accounts f h = f h
 unless_weaker BehindEnd f h = f h
 
--- what a call returns that reads the next line
+-- What a call returns that reads the next line.
 abbrev pub Reads : Result StateLine StateReason → Option StateTextBytes → Option StateTextBytes → Type 0
 Reads read old new = (line : StateLine) (rest : StateTextBytes) → IsStateLine line →
     old ≡ Some (line_text line ++ rest) →
@@ -36,7 +36,7 @@ same_ok x y is = subst (λ r. IfOk r (λ z. x ≡ z)) is refl
 
 -- WHAT IS LEFT
 
--- of the lines of a text those behind some are left
+-- The lines of a text after the first ones are left.
 pub record Ahead (whole so_far : StateFileModel) (more : List StateLine) (left : Option StateTextBytes) : Type 0
   where
     pub clock : so_far.clock ≡ whole.clock
@@ -47,7 +47,7 @@ pub record Ahead (whole so_far : StateFileModel) (more : List StateLine) (left :
 abbrev pub IsAhead : StateFileModel → StateFileModel → Option StateTextBytes → Type 0
 IsAhead whole so_far left = (more : List StateLine) × Ahead whole so_far more left
 
--- behind a line that was read
+-- After a line that was read.
 pub record AheadOf (whole so_far : StateFileModel) (line : StateLine) (more : List StateLine)
     (left : Option StateTextBytes) : Type 0 where
   pub clock : so_far.clock ≡ whole.clock
@@ -56,7 +56,7 @@ pub record AheadOf (whole so_far : StateFileModel) (line : StateLine) (more : Li
   pub text : left ≡ Some (flat_map line_text more)
 
 module _ (whole so_far : StateFileModel) (old new : Option StateTextBytes) where
-  -- the next line was read
+  -- The next line was read.
   pub ahead_next : (line : StateLine) → Reads (Ok line) old new → IsAhead whole so_far old →
       (more : List StateLine) × AheadOf whole so_far line more new
   ahead_next line reads ([], ahead) = absurd (one_follows so_far whole ahead.split)
@@ -72,7 +72,7 @@ module _ (whole so_far : StateFileModel) (old new : Option StateTextBytes) where
         },
       )
 
-  -- or none was
+  -- There was no next line.
   pub none_next : (Q : Type 0) (reason : StateReason) → Reads (Err reason) old new → IsAhead whole so_far old →
       unless_for reason Q
   none_next Q reason reads ([], ahead) = absurd (one_follows so_far whole ahead.split)
@@ -98,7 +98,7 @@ module _ (whole so_far : StateFileModel) (line : StateLine) (more : List StateLi
       },
     )
 
--- the last line was read
+-- The last line was read.
 pub all_read : (whole so_far : StateFileModel) (counts : LineCounts) (more : List StateLine)
     (left : Option StateTextBytes) →
     AheadOf whole so_far (end counts) more left →
@@ -124,7 +124,7 @@ no_end (lines.End counts) h = h counts refl
 
 -- WHAT WAS READ
 
--- a text begins with the lines of what was read, and the rest is left
+-- A text begins with the lines of what was read, and the rest is left.
 pub record Taken (text : StateTextBytes) (so_far : StateFileModel) (left : Option StateTextBytes) : Type 0 where
   pub rest : StateTextBytes
   pub remains : left ≡ Some rest
@@ -173,7 +173,7 @@ module _ (text : StateTextBytes) (so_far : StateFileModel) (line : StateLine) (o
 
 -- A TEXT OF AN EARLIER VERSION
 
--- no text that is written has its log in that form
+-- No text that is written has its log in that form.
 pub no_earlier : (whole so_far : StateFileModel) (made length : ℕ) (more : List StateLine)
     (left : Option StateTextBytes) → AheadOf whole so_far (earlier_log made length) more left → ⊥
 no_earlier whole so_far made length more left a = none_follows (earlier_log made length) so_far refl

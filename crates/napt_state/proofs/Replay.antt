@@ -1,4 +1,4 @@
--- What the lines of a text say, taken one after another: each text says one thing, and what may stand where.
+-- What the lines of a text say, taken one after another: each text says one thing, and each line has its place.
 use Rattle.napt_state.specs.StateFiles.{StateFileModel}
 use Rattle.std.proofs.lemmas.{List.{Sums.fold-append}}
 use Rattle.std.proofs.Common.{ℕ, ◌≡◌, List, [], ◌∷◌, ◌++◌, map, flat_map, Option, Some, None, refl, sym, ◌∙◌, ap, append_assoc, append-nil}
@@ -22,7 +22,7 @@ of_list clock log list = record { clock = clock; log = log; bindings = list }
 abbrev pub longer : Binding → Flow → Binding
 longer b f = record b { flows = b.flows ++ f ∷ [] }
 
--- the last binding gets a flow, if it is one that lives
+-- The last binding gets a flow, if it is live.
 abbrev with_flow : Flow → List SavedBinding → Option (List SavedBinding)
 with_flow f [] = None
 with_flow f (bindings.Live b account ∷ []) = Some (bindings.Live (longer b f) account ∷ [])
@@ -103,7 +103,7 @@ said clock s =
 
 -- WHAT MAY FOLLOW
 
--- what is said behind some of a text's lines
+-- The contents after the first lines of a text.
 pub goes_on : (old whole : StateFileModel) (more : List StateLine) →
     lines_between whole ++ end (counts_of whole) ∷ [] ≡ lines_between old ++ more →
     fold step (Going old) more ≡ Closed (of_list old.clock whole.log whole.bindings) (counts_of whole)
@@ -127,14 +127,14 @@ none_follows line old none can =
     let never : ⊥ = cc in
     never
 
--- no log line follows another, or a binding
+-- No log line follows another, or a binding.
 pub log_out : (clock : ℕ) (log : Option LogPosition) (list : List SavedBinding) (position : LogPosition) →
     ((log ≡ None) × (list ≡ []) → ⊥) → log_in clock log list position ≡ Refused
 log_out clock None [] position h = absurd (h (refl, refl))
 log_out clock None (b ∷ list) position h = refl
 log_out clock (Some other) list position h = refl
 
--- no flow follows where no binding is the last
+-- No flow follows if the last binding is not a live one.
 pub flow_out : (f : Flow) (list : List SavedBinding) → HasNoLast list → with_flow f list ≡ None
 flow_out f [] h = refl
 flow_out f (bindings.Live b account ∷ []) h = absurd (h [] b account refl)
@@ -146,7 +146,7 @@ pub no_flow_follows : (f : Flow) (old : StateFileModel) → HasNoLast old.bindin
 no_flow_follows f old h =
     none_follows (flow f) old (ap (flow_in old.clock old.log) (flow_out f old.bindings h))
 
--- no line follows that is none of a state's of this version, but its last one
+-- No line follows that this version does not write, except for the last line.
 pub no_other_follows : (line : StateLine) (old : StateFileModel) →
     ((position : LogPosition) → line ≡ lines.Log position → ⊥) →
     ((row : Row) (last : ℕ) (account : Option Account) → line ≡ lines.Binding row last account → ⊥) →
@@ -168,7 +168,7 @@ one_follows old whole is =
     let never : ⊥ = cc in
     never
 
--- the last line: the whole was said before it, and nothing is behind it
+-- The last line: everything was said before it, and nothing follows it.
 pub record IsLast (old whole : StateFileModel) (counts : LineCounts) (more : List StateLine) : Type 0 where
   pub list : old.bindings ≡ whole.bindings
   pub log : old.log ≡ whole.log

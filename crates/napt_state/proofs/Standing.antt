@@ -95,7 +95,7 @@ few_share timers now protocol (flow ∷ []) few = ap flows_share (sym (standing_
     ∙ one_shares (is_standing timers now protocol flow) flow
 few_share timers now protocol (flow ∷ (other ∷ flows)) few = absurd (omega arith)
 
--- The flows that stand from one place back.
+-- The flows that stand, with one more place before them.
 pub standing_before : (timers : Timers) (now : ℕ) (protocol : Protocol) (flows : List Flow) (left : ℕ) (d : Flow) →
     0 < left → left ≤ length flows → standing timers now protocol (drop (left - 1) flows)
     ≡ cond (is_standing timers now protocol (get_or flows (left - 1) d))

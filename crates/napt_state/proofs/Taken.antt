@@ -19,7 +19,7 @@ use Rattle.napt_binding.specs.Lists.{pair_eq}
 abbrev is_loose : Binding → Bool
 is_loose b = not b.row.fixed
 
--- `retain_mut` of a function, if each call returns and changes as the function says and leaves the closure as it is.
+-- `retain_mut` of a function, if each call returns and changes what the function says and does not change the closure.
 pub retained : {S X : Type 0} (R : S → X → Bool → S → X → Type 0) (test : X → Bool) (change : X → X) (f : S) →
     ((x : X) (b : Bool) (t : S) (y : X) → R f x b t y → (t ≡ f) × (b ≡ test x) × (y ≡ change x)) → (s : S) → s ≡ f →
     (xs ys : List X) → RetainsInTurn R s xs ys → ys ≡ retain_mut test change xs

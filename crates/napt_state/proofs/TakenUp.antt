@@ -7,6 +7,7 @@ use Rattle.napt_rules.specs.{Prelude.{AreTimers, Binding, Each, Timers, Protocol
 use Rattle.napt_binding.specs.Ends.{end_by_protocol, end_of}
 use Rattle.napt_account.specs.declared.account.Account.{Account}
 use Rattle.napt_account.specs.LogStarts.{account_in, accounted, are_accounts, is_saved_log_state, with_account}
+use Rattle.napt_state.proofs.Ended.{accounts_stay}
 use Rattle.napt_state.specs.StateFiles.{StateFileModel}
 use Rattle.napt_state.specs.declared.{saved_bindings.SavedBinding.SavedBinding, state_contents.TakenState.TakenState}
 use Rattle.napt_state.specs.declared.saved_bindings.SavedBinding.TheVariants as bindings
@@ -51,7 +52,7 @@ module _ (timers : Timers) (clock : ℕ) (seen : List SavedBinding) (x : SavedBi
         accounts_are = so_far.accounts_are ∙ sym (ap (map (λ (it : Taken). it.1)) same);
       }
 
--- one more item of a list is yielded
+-- One more item of a list is yielded.
 pub split_next : {X : Type 0} (seen : List X) (x : X) (rest old all : List X) → seen ++ old ≡ all → old ≡ x ∷ rest →
     (seen ++ x ∷ []) ++ rest ≡ all
 split_next seen x rest old all split is =
@@ -66,7 +67,7 @@ held_none : (is : Bool) (b : Binding) (others : List Taken) →
 held_none true b others = refl
 held_none false b others = refl
 
--- the bindings that are taken have the accounts that were saved
+-- The bindings that are taken have the accounts that were saved.
 accounts_taken : (timers : Timers) (clock : ℕ) (list : List SavedBinding) →
     accounted (map (λ it. it.0) (taken_in timers clock list)) (map (λ it. it.1) (taken_in timers clock list))
     ≡ accounted_in list
@@ -89,19 +90,25 @@ log_can_begin timers saved has =
     ∙ both (nat_le (made_so_far saved.log) (2 ^ 61)) (have_ended saved.clock saved.bindings)
     (are_accounts (made_so_far saved.log) saved.clock [] (accounted_in saved.bindings)) has
 
-pub taken_up : (rules : Rules) (saved : StateFileModel) (taken : TakenState) → taken ≡ taken_of rules.timers saved →
-    (found : Option (Row × Misfit)) → found ≡ misfit rules taken.state → found ≡ None → IsTakenFrom rules saved taken
-taken_up rules saved taken is found found_is none = record {
-  state = ap (λ (t : TakenState). t.state) is;
-  log = ap (λ (t : TakenState). t.log) is;
+started_can_begin : (ends : Bool) (rules : Rules) (saved : StateFileModel) → HasAccounts saved →
+    is_saved_log_state (taken_of ends rules saved).state (taken_of ends rules saved).log ≡ true
+started_can_begin false rules saved has = log_can_begin rules.timers saved has
+started_can_begin true rules saved has = accounts_stay rules (state_taken rules.timers saved) (log_taken rules.timers saved)
+    ∙ log_can_begin rules.timers saved has
+
+pub taken_up : (ends : Bool) (rules : Rules) (saved : StateFileModel) (taken : TakenState) →
+    taken ≡ taken_of ends rules saved → (found : Option (Row × Misfit)) → found ≡ misfit rules taken.state →
+    found ≡ None → IsTakenFrom ends rules saved taken
+taken_up ends rules saved taken is found found_is none = record {
+  whole = is;
   fits = sym found_is ∙ none;
-  accounts = λ has. ap (λ (t : TakenState). is_saved_log_state t.state t.log) is ∙ log_can_begin rules.timers saved has;
+  accounts = λ has. ap (λ (t : TakenState). is_saved_log_state t.state t.log) is ∙ started_can_begin ends rules saved has;
 }
 
-pub not_taken : (rules : Rules) (saved : StateFileModel) (taken : TakenState) → taken ≡ taken_of rules.timers saved →
-    (found : Option (Row × Misfit)) → found ≡ misfit rules taken.state → (one : Row × Misfit) → found ≡ Some one →
-    misfit rules (state_taken rules.timers saved) ≡ Some one
-not_taken rules saved taken is found found_is one some =
+pub not_taken : (ends : Bool) (rules : Rules) (saved : StateFileModel) (taken : TakenState) →
+    taken ≡ taken_of ends rules saved → (found : Option (Row × Misfit)) → found ≡ misfit rules taken.state →
+    (one : Row × Misfit) → found ≡ Some one → misfit rules (taken_of ends rules saved).state ≡ Some one
+not_taken ends rules saved taken is found found_is one some =
     sym (ap (λ (t : TakenState). misfit rules t.state) is) ∙ sym found_is ∙ some
 
 -- WHAT HAD ENDED

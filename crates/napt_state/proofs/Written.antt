@@ -33,7 +33,7 @@ pub words_behind : (old : StateTextBytes) (front behind : List StateTextBytes) �
 words_behind old front [] some = absurd (omega (arith, some))
 words_behind old front (word ∷ more) some = joined old front word more
 
--- Lines after a first one.
+-- Lines that are appended after a first one.
 pub written_behind : {X : Type 0} (first : StateLine) (line : X → StateLine) (n : ℕ) (xs : List X) → length xs ≤ n →
     line_text first ++ flat_map (λ x. line_text (line x)) (take n xs) ≡ flat_map line_text (first ∷ map line xs)
 written_behind first line n xs le = ap (λ l. line_text first ++ l)
@@ -56,7 +56,7 @@ text_parts s = ap (λ l. line_text (clock s.clock) ++ l)
     ∙ ap (λ l. flat_map line_text (log_lines s.log) ++ l) (bindings_text s.bindings))
     ∙ append_assoc (flat_map line_text (log_lines s.log)) _ _)
 
--- the clock and the log, then the bindings so far
+-- The clock and the log, then the bindings so far.
 pub written_saved : (s : StateFileModel) (counts : LineCounts) (n : ℕ) (a b d e : Option StateTextBytes) →
     length s.bindings ≤ n →
     counts ≡ counts_of s →

@@ -1,5 +1,6 @@
 pub mod StateFiles
 pub mod StateText
+pub mod EndedMisfits
 pub mod Saved
 pub mod StateContents
 pub mod StateReaders

@@ -12,7 +12,7 @@ use Rattle.napt_account.specs.LogStarts.{SavedLogStateModel, are_accounts, is_sa
 use Rattle.napt_account.specs.declared.account.Account.{Account}
 use Rattle.napt_state.specs.declared.{line.{LogEnd.LogEnd, LogPosition.LogPosition}, saved_bindings.SavedBinding.SavedBinding, state_contents.TakenState.TakenState}
 use Rattle.napt_state.specs.declared.saved_bindings.SavedBinding.TheVariants as bindings
-use Rattle.napt_state.specs.StateText.{IsStateLine, saved_lines}
+use Rattle.napt_state.specs.{EndedMisfits.{misfit_count, without_misfits}, StateText.{IsStateLine, saved_lines}}
 
 -- WHAT IS SAVED, by a run under these timers
 
@@ -20,7 +20,7 @@ abbrev pub saved_binding : Timers → ℕ → Binding → Option Account → Sav
 saved_binding timers clock b account = cond (is_live timers clock b) (bindings.Live b account)
     (bindings.Ended b.row (end_by_protocol b.row.protocol timers b))
 
--- bindings past the last account have none
+-- Bindings past the last account have none.
 abbrev pub saved_bindings : Timers → ℕ → List Binding → List (Option Account) → List SavedBinding
 saved_bindings timers clock [] accounts = []
 saved_bindings timers clock (b ∷ list) [] = saved_binding timers clock b None ∷ saved_bindings timers clock list []
@@ -53,7 +53,7 @@ abbrev pub made_so_far : Option LogPosition → ℕ
 made_so_far (Some position) = position.made
 made_so_far None = 0
 
--- where the text of the log ends; all is 0 if there is none
+-- Where the text of the log ends; every number is 0 if there is no text.
 abbrev pub log_end : Option LogPosition → LogEnd
 log_end (Some position) = position.end
 log_end None = record { piece = 0; length = 0; row = 0 }
@@ -75,7 +75,7 @@ IsSaved saved = Each IsStateLine (saved_lines saved) × HasAccounts saved
 
 -- WHAT IS TAKEN UP under these timers
 
--- the timer of a binding: under TCP of one whose flow is not established
+-- The timer of a binding; under TCP that of a flow that is not established.
 abbrev pub timer_of : Protocol → Timers → ℕ
 timer_of Icmp timers = timers.icmp
 timer_of Tcp timers = timers.transitory
@@ -85,13 +85,13 @@ abbrev pub one_flow : Protocol → ℕ → List Flow
 one_flow Tcp last = record { remote = record { address = 0; number = 0 }; last = last; marks = no_marks } ∷ []
 one_flow _ last = []
 
--- a binding that was used so long ago that it ends then
+-- A binding that was last used so that it ends at the given time.
 abbrev pub binding_until : Timers → Row → ℕ → Binding
 binding_until timers row end =
     let last : ℕ = end - timer_of row.protocol timers * ns_per_second in
     record { row = row; last = last; flows = one_flow row.protocol last }
 
--- none if the end is earlier than the timer after the time 0, so that the binding would live at the clock
+-- None if the end is earlier than the timer after the time 0, so that the binding would live at the clock.
 abbrev pub taken_binding : Timers → ℕ → SavedBinding → List (Binding × Option Account)
 taken_binding timers clock (bindings.Live b account) = (b, account) ∷ []
 taken_binding timers clock (bindings.Ended row end) =
@@ -112,22 +112,33 @@ abbrev pub log_taken : Timers → StateFileModel → SavedLogStateModel
 log_taken timers saved =
     record { made = made_so_far saved.log; accounts = map (λ it. it.1) (taken_bindings timers saved) }
 
-abbrev pub taken_of : Timers → StateFileModel → TakenState
-taken_of timers saved = record { state = state_taken timers saved; log = log_taken timers saved }
+-- If misfits end at the start, the state is without those; the log keeps the account of each binding.
+abbrev pub starting : Bool → Rules → TakenState → TakenState
+starting false rules taken = taken
+starting true rules taken = record taken {
+  state = without_misfits rules taken.state;
+  ended = misfit_count rules taken.state;
+}
 
--- it is taken if its bindings fit, and a log can begin with its accounts if it has them
-pub record IsTakenFrom (rules : Rules) (saved : StateFileModel) (taken : TakenState) : Type 0 where
-  pub state : taken.state ≡ state_taken rules.timers saved
-  pub log : taken.log ≡ log_taken rules.timers saved
+abbrev pub taken_whole : Timers → StateFileModel → TakenState
+taken_whole timers saved =
+    record { state = state_taken timers saved; log = log_taken timers saved; ended = 0 }
+
+abbrev pub taken_of : Bool → Rules → StateFileModel → TakenState
+taken_of ends rules saved = starting ends rules (taken_whole rules.timers saved)
+
+-- A state is taken if its bindings fit, and a log can begin with its accounts if they are valid.
+pub record IsTakenFrom (ends : Bool) (rules : Rules) (saved : StateFileModel) (taken : TakenState) : Type 0 where
+  pub whole : taken ≡ taken_of ends rules saved
   pub fits : misfit rules taken.state ≡ None
   pub accounts : HasAccounts saved → is_saved_log_state taken.state taken.log ≡ true
 
-abbrev pub IsTaken : Rules → StateFileModel → Result TakenState (Row × Misfit) → Type 0
-IsTaken rules saved (Ok taken) = IsTakenFrom rules saved taken
-IsTaken rules saved (Err found) = misfit rules (state_taken rules.timers saved) ≡ Some found
+abbrev pub IsTaken : Bool → Rules → StateFileModel → Result TakenState (Row × Misfit) → Type 0
+IsTaken ends rules saved (Ok taken) = IsTakenFrom ends rules saved taken
+IsTaken ends rules saved (Err found) = misfit rules (taken_of ends rules saved).state ≡ Some found
 
--- LAW: a binding that had ended when it was saved is not live in the run that goes on, whatever its timers, and is held as
--- long as under the timers of before
+-- LAW: a binding that had ended when it was saved is not live in the run that goes on, whatever its timers, and its
+-- number is held as long as under the earlier timers
 
 pub record StaysEnded (timers : Timers) (clock : ℕ) (row : Row) (end : ℕ) : Type 0 where
   pub dead : Each (λ it. is_live timers clock it.0 ≡ false) (taken_binding timers clock (bindings.Ended row end))

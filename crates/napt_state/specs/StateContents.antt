@@ -1,18 +1,17 @@
--- What is said of a text that is read.
+-- What contracts say of a text that is read.
 use Rattle.napt_state.specs.StateFiles.{StateFileModel}
 use Rattle.std.specs.Prelude.{◌≡◌, ◌⊎◌, ℕ, List, [], ◌∷◌, ◌++◌, Option, Some, None, Result, Ok, Err}
 use Rattle.napt_rules.specs.{Prelude.Binding, declared.Flow.Flow}
 use Rattle.napt_state.specs.declared.line.StateLine.TheVariants as lines
-use Rattle.napt_state.specs.declared.{line.StateLine.StateLine, fault.{StateFault.StateFault, StateReason.{StateReason, TheVariants.{Unread, NotUtf8, Memory}}}}
+use Rattle.napt_state.specs.declared.{line.StateLine.StateLine, fault.{StateFault.StateFault, StateReason.{StateReason, TheVariants.{Unread, Memory}}}}
 use Rattle.napt_state.specs.StateText.{line_text, lines_between, counts_of, earlier_log, end, saved_text}
 use Rattle.napt_state.specs.declared.saved_bindings.SavedBinding.{SavedBinding}
 use Rattle.napt_state.specs.declared.saved_bindings.SavedBinding.TheVariants as bindings
 use Rattle.napt_account.specs.declared.account.Account.{Account}
 
--- The fact holds, unless a read failed, the reader reported that the bytes are not UTF-8, or memory was refused.
+-- The fact holds, unless a read failed or memory was refused.
 abbrev pub unless_for : StateReason → Type 0 → Type 0
 unless_for (Unread _) fact = Unit {0}
-unless_for NotUtf8 fact = Unit {0}
 unless_for Memory fact = Unit {0}
 unless_for _ fact = fact
 
@@ -25,11 +24,11 @@ abbrev pub UnlessFailed : {A : Type 0} → Result A StateFault → Type 0 → Ty
 UnlessFailed (Ok _) fact = fact
 UnlessFailed (Err fault) fact = unless_for fault.reason fact
 
--- The bytes begin with this line, and the others are left.
+-- The bytes begin with this line, and those after it are left.
 abbrev pub IsFirstLine : StateLine → List ℕ → Option (List ℕ) → Type 0
 IsFirstLine entry all left = (rest : List ℕ) × (all ≡ line_text entry ++ rest) × (left ≡ Some rest)
 
--- what is said before the first line after that of the clock
+-- The contents after the line of the clock alone.
 abbrev pub empty_contents : ℕ → StateFileModel
 empty_contents clock = record { clock = clock; log = None; bindings = [] }
 
@@ -38,7 +37,7 @@ pub record IsAdded (line : StateLine) (old new : StateFileModel) : Type 0 where
   pub clock : new.clock ≡ old.clock
   pub lines : lines_between new ≡ lines_between old ++ line ∷ []
 
--- the last binding gets one more flow
+-- The last binding gets one more flow.
 pub record IsAddedFlow (flow : Flow) (old new : List SavedBinding) : Type 0 where
   pub before : List SavedBinding
   pub last : Binding
@@ -46,16 +45,16 @@ pub record IsAddedFlow (flow : Flow) (old new : List SavedBinding) : Type 0 wher
   pub is : old ≡ before ++ bindings.Live last account ∷ []
   pub now : new ≡ before ++ bindings.Live (record last { flows = last.flows ++ flow ∷ [] }) account ∷ []
 
--- no binding that lives is the last
+-- No live binding is the last.
 abbrev pub HasNoLast : List SavedBinding → Type 0
 HasNoLast list = (before : List SavedBinding) (last : Binding) (account : Option Account) →
     ¬ (list ≡ before ++ bindings.Live last account ∷ [])
 
--- a text that has the log of a state in the form of earlier versions
+-- A text that has the log of a state in the form of earlier versions.
 abbrev pub IsEarlier : List ℕ → Type 0
 IsEarlier text = (front rest : List ℕ) × (made length : ℕ) × (text ≡ front ++ (line_text (earlier_log made length) ++ rest))
 
--- the text of what was read, unless an earlier version wrote it
+-- The text is that of what was read, unless an earlier version wrote it.
 abbrev pub IsReadAs : List ℕ → StateFileModel → Type 0
 IsReadAs text saved = (text ≡ saved_text saved) ⊎ IsEarlier text
 

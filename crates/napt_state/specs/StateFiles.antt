@@ -4,6 +4,6 @@ use Rattle.napt_state.specs.declared.{line.LogPosition.LogPosition, saved_bindin
 
 pub record StateFileModel : Type 0 where
   pub clock : ℕ
-  -- the log of the run, if it had one
+  -- The log of the run, if it had one.
   pub log : Option LogPosition
   pub bindings : List SavedBinding

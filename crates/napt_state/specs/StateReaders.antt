@@ -21,7 +21,7 @@ state_inside_key row = record { address = row.inside.address; number = row.insid
 abbrev pub state_key_eq : EndpointKey → EndpointKey → Bool
 state_key_eq a b = (a.address == b.address) && ((a.number == b.number) && sameb the_type a.protocol b.protocol)
 
--- Whether an endpoint of a row is among these.
+-- Whether an endpoint of a row is in the set.
 abbrev pub clash : Endpoints → Row → Bool
 clash all row = hash.contains state_key_eq all.external (state_external_key row)
     || hash.contains state_key_eq all.inside (state_inside_key row)

@@ -23,7 +23,7 @@ pub enum StateReason {
     NotUtf8,
     /// The text ends before its last line does.
     Torn,
-    /// A word is not one that may be there; with it, those of its first 40 characters that can be printed.
+    /// A word may not be there; the text has those of its first 40 characters that can be printed.
     Word(StateField, String),
     /// A line has more or fewer words than its first word requires.
     WordCount,
@@ -107,10 +107,10 @@ impl fmt::Display for StateFault {
             StateReason::Torn => f.write_str("the text breaks off"),
             StateReason::Word(kind, word) => write!(f, "{kind} '{word}'"),
             StateReason::WordCount => f.write_str("too many words, or too few"),
-            StateReason::NoBinding => f.write_str("a flow before each binding"),
-            StateReason::Counts => f.write_str("counts of other lines"),
-            StateReason::Accounts => f.write_str("numbers that no log has"),
-            StateReason::BehindEnd => f.write_str("behind the end"),
+            StateReason::NoBinding => f.write_str("a flow that belongs to no binding"),
+            StateReason::Counts => f.write_str("counts that do not match the lines"),
+            StateReason::Accounts => f.write_str("numbers that no log can have"),
+            StateReason::BehindEnd => f.write_str("text after the end"),
         }
     }
 }

@@ -13,7 +13,7 @@ use napt_rules::{Row, SessionMarks};
 use napt_wire::{Endpoint, Protocol};
 use std::alloc::AllocError;
 
-/// The greatest number of entries of a log, and of packets of one, with which a run can go on.
+/// The greatest number of entries of a log, and of packets of one entry, with which a run can go on.
 pub(crate) const MOST: u64 = 1 << 61;
 
 /// Appends a number in decimal. Fails only if memory is refused.
@@ -67,8 +67,8 @@ pub(crate) fn add_row(text: &mut String, row: &Row) -> Result<(), AllocError>
     add_endpoints(text, row)
 }
 
-/// Appends the words of the protocol and of both endpoints of a row, with a space after each. Fails only if memory runs
-/// out.
+/// Appends the words of the protocol and of both endpoints of a row, with a space after each. Fails only if memory is
+/// refused.
 pub(crate) fn add_endpoints(text: &mut String, row: &Row) -> Result<(), AllocError>
     ensures { OnOk result (string_bytes text.new ≡ string_bytes text.old
         ++ texts.spaced (texts.ends_words row.now [])) }
@@ -189,7 +189,7 @@ pub(crate) fn protocol(line: &str, place: usize) -> Option<Protocol>
     }
 }
 
-/// Whether a row is a redirect, by the word at a place.
+/// Returns whether the row of a line is a redirect, by the word at an index.
 pub(crate) fn is_fixed(line: &str, place: usize) -> Option<bool>
     ensures { (fixed : Bool) →
         slice_index_or (texts.words_in line.now) place [] ≡ texts.kind_text fixed →
@@ -224,7 +224,7 @@ pub(crate) fn row(line: &str, place: usize) -> Option<Row>
     })
 }
 
-/// The row, of no redirect, whose protocol and endpoints are the five words from a place on.
+/// Returns the row, not of a redirect, whose protocol and endpoints are in the five words from an index on.
 pub(crate) fn endpoints(line: &str, place: usize) -> Option<Row>
     requires { place < 91 }
     ensures { (row : Bound) → row.fixed ≡ false → texts.IsRowLine row →
@@ -245,7 +245,7 @@ pub(crate) fn endpoints(line: &str, place: usize) -> Option<Row>
     })
 }
 
-/// The account that the six words from a place on are.
+/// Returns the account in the six words from an index on.
 pub(crate) fn account(line: &str, place: usize) -> Option<Account>
     requires { place < 90 }
     ensures read { (account : Held) → texts.IsAccount account →

@@ -26,20 +26,20 @@ pub(crate) enum StateLine {
     Held(Row, u64),
     /// The last line.
     End(LineCounts),
-    /// How many entries a log has, and how many bytes its file has, in the form of earlier versions. Its entries follow it.
+    /// The numbers of entries of a log and of bytes of its file, in the form of earlier versions. Its entries follow.
     EarlierLog(u64, u64),
-    /// An entry of a log in that form.
+    /// An entry of a log in the form of earlier versions.
     EarlierEntry(LogEntry),
 }
 
-/// How many entries the log of a state has so far, and where its text ends.
+/// The number of entries that the log of a state has so far, and where its text ends.
 #[derive(Clone, Copy, Debug, PartialEq, Eq)]
 pub struct LogPosition {
     pub made: u64,
     pub end: LogEnd,
 }
 
-/// Where the text of a log ends. All is 0 if it went to no file.
+/// Where the text of a log ends. Every number is 0 if it went to no file.
 #[derive(Clone, Copy, Debug, Default, PartialEq, Eq)]
 pub struct LogEnd {
     /// The number of its last piece; 0 if it is one file.
@@ -50,12 +50,12 @@ pub struct LogEnd {
     pub row: u64,
 }
 
-/// How many bindings, held ones too, and how many flows a state has.
+/// The number of bindings of a state, including held ones, and the number of its flows.
 #[derive(Clone, Copy, Debug, PartialEq, Eq)]
 pub(crate) struct LineCounts {
     pub bindings: u64,
     pub flows: u64,
-    /// How many lines of entries there are, in the form of earlier versions, if the state has a log.
+    /// The number of lines of entries in the form of earlier versions, if the state has a log in it.
     pub entries: Option<u64>,
 }
 
@@ -272,7 +272,7 @@ fn read_binding(line: &str) -> Option<StateLine>
     ))
 }
 
-/// Reads a binding that has ended of a line that begins with the word for it.
+/// Reads the binding that has ended in a line that begins with the word for it.
 fn read_held(line: &str) -> Option<StateLine>
     ensures read { (row : Bound) (end : ℕ) → texts.IsStateLine (texts.held_line row end) →
         texts.words_in line.now ≡ texts.held_words row end →
@@ -293,7 +293,7 @@ fn read_flow(line: &str) -> Option<StateLine>
     }))
 }
 
-/// Reads the numbers of a log of a line that begins with its word: four, or the two of earlier versions.
+/// Reads the numbers of a log in a line that begins with its word: four, or the two of earlier versions.
 fn read_log(line: &str) -> Option<StateLine>
     ensures read { (position : Placed) → texts.IsStateLine (texts.log position) →
         texts.words_in line.now ≡ texts.log_words position →

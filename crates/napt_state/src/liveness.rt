@@ -1,4 +1,4 @@
-//! Whether what a state has is live.
+//! Which bindings and flows of a state are live.
 ghost use Rattle.std.specs.{Prelude.{◌≡◌, ◌||◌, not}, List.list_any};
 ghost use Rattle.napt_rules.specs.Bindings.{is_tcp};
 ghost use Rattle.napt_rules.specs.Life as life;
@@ -31,7 +31,7 @@ pub(crate) fn is_live(binding: &StateBinding, config: &Config, now: u64) -> bool
     }
 }
 
-/// Whether a flow of a binding stands at a time, in ns: one of TCP is live, and any other lives as long as its binding.
+/// Whether a flow of a binding stands at a time, in ns: a TCP flow if it is live, and any other as long as its binding.
 pub(crate) fn stands(flow: &Flow, protocol: Protocol, config: &Config, now: u64) -> bool
     ensures { result ≡ (not (is_tcp protocol) || life.is_live_flow config.now.timers now flow.now) }
 {

@@ -1,8 +1,9 @@
 //! Whether the bindings of a state fit a configuration.
-ghost use Rattle.std.specs.{Prelude.{◌≡◌, ◌&&◌, not, List, nat_lt, IfOk}, List.list_any};
+ghost use Rattle.std.specs.{Prelude.{◌≡◌, not, List, nat_lt, IfOk, OnOk}, List.list_any};
 ghost use Rattle.napt_rules.specs.{Bindings.Binding as Bound, Opening.opening};
 ghost use Rattle.napt_rules.specs.Life as life;
 ghost use Rattle.napt_rules.specs.Misfits as taking;
+ghost use Rattle.napt_state.specs.EndedMisfits as ending;
 ghost use Rattle.napt_state.specs.StateReaders.{AreOf};
 
 use crate::endpoints::Endpoints;
@@ -29,7 +30,7 @@ fn redirect_endpoints(alloc: Global, config: &Config) -> Result<Endpoints, Alloc
     Ok(endpoints)
 }
 
-/// Whether a number is possible for the protocol: 0 is none of UDP or TCP.
+/// Whether a number is possible for the protocol: UDP and TCP have no port 0.
 fn is_number(protocol: Protocol, number: u16) -> bool
     ensures { result ≡ taking.is_number protocol number }
 {
@@ -67,7 +68,7 @@ fn is_used_after(config: &Config, clock: u64, binding: &StateBinding) -> bool
     clock < binding.last || has_later(clock, &binding.flows)
 }
 
-/// Whether two of the flows of a binding that stand at a time, in ns, are of one remote. Fails only if memory runs out.
+/// Whether two flows of a binding that stand at a time, in ns, share a remote. Fails only if memory is refused.
 fn flows_share(
     alloc: Global,
     config: &Config,
@@ -96,14 +97,14 @@ fn flows_share(
     Ok(false)
 }
 
-/// The time, in ns, at which a binding of a state was live that is live or held at its clock.
+/// Returns a time, in ns, at which a binding was live that is live or held at the clock of its state.
 fn held_at(config: &Config, clock: u64) -> u64
     ensures { result ≡ life.hold_ago config.now.timers clock }
 {
     IdleTimers::from_config(config).hold_ago(clock)
 }
 
-/// Returns the first reason against a binding of a state, by the endpoints of the redirects and of later bindings.
+/// Returns the first reason against a binding of a state, given the endpoints of the redirects and of later bindings.
 fn misfit_of(
     alloc: Global,
     config: &Config,
@@ -159,7 +160,7 @@ fn misfit_or(
     }
 }
 
-/// The first of the bindings of a state that go on and do not fit, and why. Fails only if memory runs out.
+/// Returns the first of the bindings of a state that go on and do not fit, and why. Fails only if memory is refused.
 pub fn first_misfit(
     alloc: Global,
     config: &Config,
@@ -199,8 +200,81 @@ fn first_misfit_in(
 
 /// Whether a binding is no redirect and is live at a time, in ns.
 fn goes_on(binding: &StateBinding, config: &Config, now: u64) -> bool
-    ensures { result ≡ (not binding.now.row.fixed
-        && life.is_live config.now.timers now binding.now) }
+    ensures { result ≡ ending.goes_on config.now.timers now binding.now }
 {
     !binding.row.fixed && is_live(binding, config, now)
+}
+
+/// Ends the bindings of a state that go on and do not fit, each judged by those behind it that fit, and returns how many. All
+/// others stay as they are. In linear time. Fails only if memory runs out.
+pub(crate) fn end_misfits(
+    alloc: Global,
+    config: &Config,
+    state: &mut State,
+) -> Result<u64, AllocError>
+    ensures state { OnOk result (state.new ≡ ending.without_misfits config.now state.old) }
+    ensures many { IfOk result (λ many. many ≡ ending.misfit_count config.now state.old) }
+{
+    end_misfits_in(alloc, config, state.clock, &mut state.list)
+}
+
+/// Ends those of these bindings that go on at a clock and do not fit, and returns how many.
+fn end_misfits_in(
+    alloc: Global,
+    config: &Config,
+    clock: u64,
+    list: &mut Vec<StateBinding>,
+) -> Result<u64, AllocError>
+    ensures list { OnOk result (list.new.items
+        ≡ ending.ended_misfits config.now clock list.old.items) }
+    ensures many { IfOk result (λ many. many
+        ≡ ending.misfits_in config.now clock list.old.items) }
+{
+    let redirects = redirect_endpoints(alloc, config)?;
+    let mut behind = Endpoints::new(alloc);
+    let mut many = 0_u64;
+    let mut left = list.len();
+    while left > 0 {
+        left -= 1;
+        let binding = &mut list[left];
+        if why_ended(alloc, config, clock, binding, &redirects, &behind)?.is_some() {
+            let Some(more) = many.checked_add(1) else {
+                return Err(AllocError);
+            };
+            many = more;
+            give_up(binding);
+        } else if goes_on(binding, config, held_at(config, clock)) {
+            behind.insert(&binding.row)?;
+        }
+    }
+    Ok(many)
+}
+
+/// Returns why a binding ends, by the endpoints of the redirects and of the later bindings that fit, or `None` if it fits or does
+/// not go on.
+fn why_ended(
+    alloc: Global,
+    config: &Config,
+    clock: u64,
+    binding: &StateBinding,
+    redirects: &Endpoints,
+    behind: &Endpoints,
+) -> Result<Option<Misfit>, AllocError>
+    ensures { (rest : List Bound) → AreOf (opening config.now) redirects.now →
+        AreOf rest behind.now →
+        IfOk result (λ why. why ≡ ending.why_ended config.now clock binding.now rest) }
+{
+    if goes_on(binding, config, held_at(config, clock)) {
+        misfit_of(alloc, config, clock, binding, redirects, behind)
+    } else {
+        Ok(None)
+    }
+}
+
+/// Makes a binding one that ended long ago.
+fn give_up(binding: &mut StateBinding)
+    ensures { binding.new ≡ ending.given_up binding.old }
+{
+    binding.last = 0;
+    binding.flows.clear();
 }

@@ -1,13 +1,14 @@
 //! The contents of the text of a state.
 
 ghost use Rattle.std.specs.Prelude.{◌≡◌, true, false, Ok, IfOk};
+ghost use Rattle.napt_state.specs.EndedMisfits as ending;
 ghost use Rattle.napt_state.specs.Saved as saved;
 ghost use Rattle.napt_state.specs.StateContents as said;
 ghost use Rattle.napt_state.specs.StateText as texts;
 
 use crate::line::{LineCounts, LogPosition, StateLine};
 use crate::saved_bindings::{SavedBinding, ended_binding, made_so_far};
-use crate::state_checks::first_misfit;
+use crate::state_checks::{end_misfits, first_misfit};
 use napt_account::SavedLogState;
 use napt_config::Config;
 use napt_rules::{Flow, Misfit, Row, State, StateBinding};
@@ -37,10 +38,12 @@ impl Model for StateFileContents {
 pub struct TakenState {
     pub state: State,
     pub log: SavedLogState,
+    /// How many of its bindings did not fit, and end at the start.
+    pub ended: u64,
 }
 
 impl StateFileContents {
-    /// Those of a state without bindings, and without a log.
+    /// Returns the contents of a state without bindings and without a log.
     pub fn new(alloc: Global, clock: u64) -> StateFileContents
         ensures { result ≡ said.empty_contents clock }
     {
@@ -51,7 +54,7 @@ impl StateFileContents {
         }
     }
 
-    /// Adds what a line says, and returns whether it may follow those so far. Fails only if memory runs out.
+    /// Adds what a line says, and returns whether the line may follow those so far. Fails only if memory is refused.
     pub(crate) fn add(&mut self, alloc: Global, line: StateLine) -> Result<bool, AllocError>
         ensures added { result ≡ Ok true → said.IsAdded line self.old self.new }
         ensures refused { result ≡ Ok false → ¬ said.CanFollow line self.old }
@@ -75,16 +78,20 @@ impl StateFileContents {
         Ok(true)
     }
 
-    /// Takes the state up under a configuration, or returns the first binding that does not fit it, and why. What does not go on
-    /// need not fit: redirects, and what has gone at the clock. In linear time. Fails only if memory runs out.
+    /// Takes the state up under a configuration. If `ends_misfits`, bindings that do not fit it end at the clock; in a log their
+    /// entries end there. Otherwise returns the first one, and why, as it does of a clock that is no later than a timer and the
+    /// hold. What does not go on need not fit: redirects, and what has gone at the clock. In linear time. Fails only if memory runs
+    /// out.
     pub fn take_up(
         self,
         alloc: Global,
         config: &Config,
+        ends_misfits: bool,
     ) -> Result<Result<TakenState, (Row, Misfit)>, AllocError>
-        ensures { IfOk result (saved.IsTaken config.now self) }
+        ensures { IfOk result (saved.IsTaken ends_misfits config.now self) }
     {
-        let taken = self.into_state(alloc, config)?;
+        let whole = self.into_state(alloc, config)?;
+        let taken = starting(alloc, config, whole, ends_misfits)?;
         Ok(match first_misfit(alloc, config, &taken.state)? {
             None => Ok(taken),
             Some(misfit) => Err(misfit),
@@ -93,7 +100,7 @@ impl StateFileContents {
 
     /// Returns the state, in which a binding that has ended ends as before under other timers, and what it keeps of a log.
     fn into_state(self, alloc: Global, config: &Config) -> Result<TakenState, AllocError>
-        ensures { IfOk result (λ taken. taken ≡ saved.taken_of config.now.timers self) }
+        ensures { IfOk result (λ taken. taken ≡ saved.taken_whole config.now.timers self) }
     {
         let StateFileContents {
             clock,
@@ -122,18 +129,39 @@ impl StateFileContents {
                 made: made_so_far(log),
                 accounts,
             },
+            ended: 0,
         })
     }
 }
 
-/// A binding that had ended when it was saved is not live in the run that goes on, whatever its timers, and its number is held
-/// as long as under the timers of before.
+/// Ends the misfits of a state that is taken up, if they are to end. Fails only if memory runs out.
+fn starting(
+    alloc: Global,
+    config: &Config,
+    mut taken: TakenState,
+    ends_misfits: bool,
+) -> Result<TakenState, AllocError>
+    ensures { IfOk result (λ made. made ≡ saved.starting ends_misfits config.now taken) }
+{
+    if ends_misfits {
+        taken.ended = end_misfits(alloc, config, &mut taken.state)?;
+    }
+    Ok(taken)
+}
+
+/// Of a state whose misfits end there goes on what fits, and a configuration takes it; in a log they end at its clock. The clock
+/// has to be past a timer and the hold, as that of a date is.
+pub fn misfits_end()
+    ensures { ending.MisfitsEnd }
+{}
+
+/// A binding that had ended when it was saved is not live in the run that goes on, whatever its timers, and its number
+/// is held as long as under the earlier timers.
 pub fn ended_bindings_stay_ended()
     ensures { saved.EndedBindingsStayEnded }
 {}
 
-/// Adds a flow to the last binding, if that is one that has not ended, and returns whether it is. Fails only if memory runs
-/// out.
+/// Adds a flow to the last binding, if that has not ended, and returns whether it did. Fails only if memory is refused.
 fn add_flow(list: &mut Vec<SavedBinding>, flow: Flow) -> Result<bool, AllocError>
     ensures added { result ≡ Ok true → said.IsAddedFlow flow list.old.items list.new.items }
     ensures none { result ≡ Ok false → said.HasNoLast list.old.items }
@@ -149,7 +177,7 @@ fn add_flow(list: &mut Vec<SavedBinding>, flow: Flow) -> Result<bool, AllocError
 }
 
 impl LineCounts {
-    /// How many bindings and flows there are. Fails only if there are more than 2^64.
+    /// Returns the number of bindings and that of flows. Fails only if there are 2^64 flows or more.
     pub(crate) fn of(saved: &StateFileContents) -> Result<LineCounts, AllocError>
         ensures { IfOk result (λ counts. counts ≡ texts.counts_of saved.now) }
     {

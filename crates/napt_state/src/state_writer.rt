@@ -1,5 +1,5 @@
 //! The text of a state, read line by line.
-ghost use Rattle.std.specs.{Prelude.{◌≡◌, ◌≢◌, ◌+◌, ◌-◌, ◌^◌, ◌++◌, ◌<◌, min, ℕ, List, [], Ok, Err, Some, None, IfOk, OnOk, IsOk, IfSome, length}, List.All, Io.KnownBytes.IsAtEnd};
+ghost use Rattle.std.specs.{Prelude.{◌≡◌, ◌≢◌, ◌+◌, ◌-◌, ◌^◌, ◌++◌, ◌<◌, min, ℕ, List, [], Ok, Err, Some, None, IfOk, OnOk, IsOk, IfSome, length}, List.All, Io.KnownBytes.IsAtEnd, Str.IsUtf8};
 ghost use Rattle.napt_state.specs.Saved.{HasAccounts, IsSaved};
 ghost use Rattle.napt_state.specs.StateText as texts;
 ghost use Rattle.napt_state.specs.StateContents as said;
@@ -13,14 +13,15 @@ use crate::state_contents::StateFileContents;
 use crate::wrong_words::{reason_of, wrong_word};
 use napt_account::OpenLog;
 use std::alloc::Global;
-use std::io::{BufRead, ErrorKind};
+use std::io::BufRead;
+use std::str;
 
 /// A text of a state that is read line by line, in the memory of its longest line.
 #[derive(Drop)]
 pub(crate) struct SavedState<R> {
     alloc: Global,
     reader: R,
-    line: String,
+    line: Vec<u8>,
     /// The line as it is written.
     again: String,
     /// The number of lines that have been read.
@@ -36,7 +37,7 @@ impl<R: BufRead + Drop> SavedState<R> {
         SavedState {
             alloc,
             reader,
-            line: String::new(alloc),
+            line: Vec::new(alloc),
             again: String::new(alloc),
             lines: 0,
         }
@@ -61,23 +62,23 @@ impl<R: BufRead + Drop> SavedState<R> {
         ensures end { R.remaining self.old.reader ≡ Some [] →
             said.StateUnlessUnread result (result ≡ Ok None) }
         ensures none { result ≡ Ok None → IsAtEnd (R.remaining self.old.reader) }
-        ensures torn { (torn : List ℕ) → 0 < length torn → All (λ byte. byte ≢ 10) torn →
-            R.remaining self.old.reader ≡ Some torn →
+        ensures torn { (torn : List ℕ) → IsUtf8 torn → 0 < length torn →
+            All (λ byte. byte ≢ 10) torn → R.remaining self.old.reader ≡ Some torn →
             said.StateUnlessUnread result (result ≡ Err StateReason.Torn) }
     {
         self.line.clear();
         self.lines = self.lines.saturating_add(1);
-        let length = match self.reader.read_line(&mut self.line) {
+        let length = match self.reader.read_until(b'\n', &mut self.line) {
             Ok(length) => length,
-            Err(error) if matches!(error.kind(), ErrorKind::InvalidData) => {
-                return Err(StateReason::NotUtf8);
-            }
             Err(error) => return Err(StateReason::Unread(error)),
         };
         if length == 0 {
             return Ok(None);
         }
-        let Some(text) = self.line.as_str().strip_suffix('\n') else {
+        let Ok(line) = str::from_utf8(&self.line) else {
+            return Err(StateReason::NotUtf8);
+        };
+        let Some(text) = line.strip_suffix('\n') else {
             return Err(StateReason::Torn);
         };
         let Some(entry) = StateLine::read(text) else {
@@ -87,7 +88,7 @@ impl<R: BufRead + Drop> SavedState<R> {
         if entry.add_to(&mut self.again).is_err() {
             return Err(StateReason::Memory);
         }
-        if self.again.as_str() == self.line.as_str() {
+        if self.again.as_str() == line {
             Ok(Some(entry))
         } else {
             Err(reason_of(self.alloc, text))
@@ -127,7 +128,7 @@ impl<R: BufRead + Drop> SavedState<R> {
 
     /// Returns the reason of a line that may not be where it is.
     fn misplaced(&self) -> StateReason {
-        let kind = fields::word(self.line.as_str(), 0);
+        let kind = fields::word(str::from_utf8(&self.line).unwrap_or(""), 0);
         wrong_word(self.alloc, StateField::Kind, kind)
     }
 

@@ -15,7 +15,7 @@ use std::alloc::Global;
 use std::io;
 use std::io::{BufRead, Write};
 
-/// Writes a line, in the memory of the one before.
+/// Writes a line, in the memory of the line before it.
 fn put_line<W: Write>(writer: &mut W, line: &mut String, entry: &StateLine) -> io::Result<()>
     ensures { OnOk result (Appends (W.contents writer.old) (W.contents writer.new)
         (texts.line_text entry.now)) }
@@ -36,7 +36,7 @@ fn push_binding<W: Write>(writer: &mut W, line: &mut String, saved: &SavedBindin
     }
 }
 
-/// Writes a binding that lives, with its account, and its flows.
+/// Writes a live binding with its account, and its flows.
 fn push_live<W: Write>(
     writer: &mut W,
     line: &mut String,
@@ -65,8 +65,8 @@ fn push_log<W: Write>(writer: &mut W, line: &mut String, log: Option<LogPosition
     }
 }
 
-/// Writes the text of a state line by line, and flushes it, in the memory of one line. Fails if a write or the flush fails,
-/// or memory runs out: then the writer may have taken any first bytes of the text.
+/// Writes the text of a state line by line, and flushes it, in the memory of one line. Fails if a write or the flush
+/// fails, or memory is refused; the writer may then have got a beginning of the text.
 pub fn write_state<W: Write>(
     alloc: Global,
     writer: &mut W,
@@ -88,8 +88,8 @@ pub fn write_state<W: Write>(
 
 /// Reads the text of a state to its end, in the memory of the state and of one line. Nothing else is taken: no part of a text,
 /// and nothing with anything after it. A text in which an earlier version wrote its log is read too. The fault is the first
-/// one; of the reader, which is dropped, some first bytes were taken then. `read` says nothing where a read fails, memory
-/// runs out or the reader says that the bytes are not UTF-8, which those of a state's text are.
+/// one; of the reader, which is dropped, some first bytes were taken then. `read` says nothing where a read fails or memory
+/// runs out.
 pub fn read_state<R: BufRead + Drop>(
     alloc: Global,
     reader: R,

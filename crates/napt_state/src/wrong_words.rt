@@ -28,8 +28,8 @@ fn words_behind(kind: &str) -> &'static [StateField] {
     }
 }
 
-/// Whether a line of this kind may have only so many words after the first: a binding without an account, the counts without
-/// that of entries, a log in the form of earlier versions.
+/// Whether a line of this kind may be shorter, with this number of words after the first: a binding without an account,
+/// the counts without that of entries, or a log in the form of earlier versions.
 fn is_shorter(kind: &str, words: usize) -> bool {
     match kind {
         "binding" | "redirect" => words == 6,
@@ -43,7 +43,7 @@ fn is_plain(number: &str) -> bool {
     number == "0" || !number.starts_with('0') && !number.starts_with('+')
 }
 
-/// Whether the word at an index is what it has to be.
+/// Whether the word at an index is what a line has there.
 fn is_right(kind: StateField, line: &str, place: usize) -> bool {
     let word = fields::word(line, place);
     match kind {
@@ -59,7 +59,7 @@ fn is_right(kind: StateField, line: &str, place: usize) -> bool {
     }
 }
 
-/// Returns the reason of a word that may not be there.
+/// Returns the reason why a word may not be there.
 pub(crate) fn wrong_word(alloc: Global, kind: StateField, word: &str) -> StateReason {
     let mut shown = String::new(alloc);
     for character in word.chars().take(SHOWN) {

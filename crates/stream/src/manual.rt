@@ -24,9 +24,9 @@ After success each output contains the bytes that napt writes. The differences a
   Each packet is answered, written and flushed before more input is read.
   With an outside capture, a packet waits for the next record of the other side,
   whose time shows that no earlier packet can come. An empty record will do.
-  At a fault of a capture, all packets before it have been translated and
-  written. Outputs begin with their header in any case; the report is written
-  only at the end.
+  If a capture has a fault, all packets before it are translated and written.
+  Outputs begin with their header in any case; the report is written only at
+  the end.
   The log is the one that explain log writes. The rows of a packet are in the
   log before the packet is written. A log that has text is refused, unless
   --resume names the state that was saved with it: then the log is continued.
@@ -35,17 +35,20 @@ After success each output contains the bytes that napt writes. The differences a
   of packets.
   If standard error is a terminal, a run of more than two seconds prints there
   the number of packets read, the packets per second, and the live bindings.
-  Lines that warn are printed wherever it goes, without another status.
+  Warnings are printed even if it is not a terminal, and do not change the status.
 
 --verbose adds a second line on standard error, which a terminal gets anyway: the
 option, its file, and what is wrong with it (in a configuration, with the place).
+With --end-misfits the bindings of the state that the configuration cannot keep end
+at its time, in the log too, and one line on standard error counts them; all others
+go on.
 
 Exit status, and the line on standard error that says why: as for napt, with
 ", $name, ": in place of napt: at its beginning. too-large never occurs, and too-many
 only with a log, at packet 4611686018427387904.
-  0  done; a line warns if the log lists all bindings of the state anew, if
-     a packet is earlier than the state, if the captures seem to be swapped,
-     and if one is cut
+  0  done; a line warns if the log begins new entries for the bindings of the
+     state, if a packet is earlier than the state, if the captures seem to be
+     swapped, and if one is cut
   2  ", $name, ": usage
   3  ", $name, ": config WORD
   4  ", $name, ": capture SIDE WORD

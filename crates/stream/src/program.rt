@@ -33,6 +33,7 @@ pub fn serve<R: ProgramHost + Clock>(
     ensures { IfErr result IsStopUnderOpenGate }
 {
     let mut words = words(rt)?;
+    let call = call.with_misfits(&mut words);
     if take_verbose(&mut words) {
         reason.is_requested = true;
     }
@@ -75,11 +76,13 @@ fn run<R: ProgramHost + Clock>(
     let RunResources {
         config,
         state,
+        ended,
         saved,
         devices,
         log,
         save,
-    } = open(rt, streams, options, &mut reason.place)?;
+    } = open(rt, streams, options, &mut reason.place, call.ends_misfits)?;
+    call.print_ended(rt, ended);
     let RunDevices {
         inside,
         outside,

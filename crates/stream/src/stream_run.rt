@@ -17,7 +17,6 @@ use napt_program::{
 };
 use napt_run::{
     Devices, Fault, LogStart, LogWriter, NoLog, RunEnd, Start, State, run_streams,
-    run_streams_with_log,
 };
 use napt_state::{LogEnd, StateFileContents};
 use std::alloc::Global;
@@ -139,14 +138,18 @@ impl<'a> StreamRun<'a> {
     {
         let (options, config) = (self.options, self.config);
         let start = self.start();
-        let LogOutput { device, is_new } = log;
-        let writer = LogWriter {
-            start: self.log_start(is_new),
-            device,
+        let LogOutput { mut device, is_new } = log;
+        let log_start = self.log_start(is_new);
+        let Ok(writer) = LogWriter::new(rt.alloc(), start, log_start, &mut device) else {
+            return StreamResult {
+                captures,
+                outputs,
+                answer: Err(MEMORY),
+            };
         };
         let mut devices = run_devices(captures, outputs, writer);
-        let answer = run_streams_with_log(rt, rt.alloc(), start, &mut devices, self.gate);
-        let (captures, outputs, LogWriter { device, .. }) = parts_of(devices);
+        let answer = run_streams(rt, rt.alloc(), start, &mut devices, self.gate);
+        let (captures, outputs, _) = parts_of(devices);
         StreamResult {
             captures,
             outputs,

@@ -7,12 +7,12 @@ use napt_capture::CaptureFault;
 use napt_config::Prefix;
 use std::alloc::{AllocError, Global};
 
-/// The call of split that makes of a capture what napt reads.
+/// The call of split that turns a capture into those that napt reads.
 #[derive(Clone, Copy)]
 pub struct SplitAdvice<'a> {
-    /// What split is called: `./split`, or `napt-split` where it is installed.
+    /// The name of split: `./split`, or `napt-split` if it is installed.
     pub command: &'a str,
-    /// The path of the capture; none if it has none.
+    /// The path of the capture, if it has one.
     pub capture: Option<&'a str>,
     /// The prefixes of inside hosts.
     pub inside: &'a [Prefix],
@@ -26,7 +26,7 @@ enum FileForm {
     Gzip,
     /// A libpcap capture of this spelling and link type.
     Pcap(CaptureSpelling, u32),
-    /// It could not be read.
+    /// The capture could not be read.
     Unread,
     /// None of these, or a libpcap capture that ends within its header.
     Unknown,
@@ -39,7 +39,7 @@ struct CaptureSpelling {
     unit: &'static str,
 }
 
-/// The first four bytes, 0 if there are fewer.
+/// Returns the first four bytes, or 0 if there are fewer.
 fn first_four(bytes: &[u8]) -> [u8; 4] {
     match bytes.first_chunk::<4>() {
         Some(four) => *four,
@@ -65,7 +65,7 @@ fn form_of(bytes: &[u8], fault: CaptureFault) -> FileForm {
     }
 }
 
-/// A libpcap capture, with its link type at 20.
+/// Returns the form of a libpcap capture, whose link type is at byte 20.
 fn pcap(bytes: &[u8], is_big: bool, unit: &'static str) -> FileForm {
     let link = match bytes.get(20..24) {
         Some(rest) => first_four(rest),
@@ -78,7 +78,7 @@ fn pcap(bytes: &[u8], is_big: bool, unit: &'static str) -> FileForm {
     FileForm::Pcap(CaptureSpelling { order, unit }, link)
 }
 
-/// The name of a link type that captures often have.
+/// Returns the name of a link type, if captures often have it.
 fn link_name(link: u32) -> Option<&'static str> {
     match link {
         0 => Some("BSD loopback"),
@@ -95,8 +95,8 @@ fn link_name(link: u32) -> Option<&'static str> {
     }
 }
 
-/// Why `read_capture` refuses some bytes with this fault: the fault in words, what the bytes seem to be, and what to do
-/// if that is known, with this call of split. There are at least two reasons. Fails only if memory runs out.
+/// Returns why `read_capture` refuses some bytes with this fault, in at least two reasons: the fault in words, what the
+/// bytes seem to be, and what to do if that is known, with this call of split. Fails only if memory is refused.
 pub fn capture_reasons(
     alloc: Global,
     bytes: &[u8],
@@ -126,7 +126,7 @@ fn add_form(
         FileForm::Unknown => {
             let command = splitting.command;
             let text = format!(in alloc;
-                "save it as pcap or pcapng; {command} makes of it what napt reads"
+                "save it as pcap or pcapng; {command} then makes the captures that napt reads"
             );
             add(reasons, "do", text)
         }
@@ -144,7 +144,7 @@ fn add_form(
     }
 }
 
-/// Adds the command that makes napt's two captures from this one, or from one of another name if it has none.
+/// Adds the command that makes napt's two captures from this one, or from `other` if this one has no path.
 fn add_split(
     alloc: Global,
     reasons: &mut Vec<Reason>,
@@ -169,14 +169,14 @@ fn add_split(
     add(reasons, "", String::from_str(alloc, more))
 }
 
-/// A form in words.
+/// Returns a form in words.
 fn form_text(alloc: Global, form: FileForm) -> Result<String, AllocError> {
     match form {
         FileForm::Empty => String::from_str(alloc, "empty"),
         FileForm::Pcapng => String::from_str(alloc, "pcapng"),
         FileForm::Gzip => String::from_str(alloc, "compressed by gzip"),
         FileForm::Unread => String::from_str(alloc, "a folder, or a file or device that failed"),
-        FileForm::Unknown => String::from_str(alloc, "no capture that is known here"),
+        FileForm::Unknown => String::from_str(alloc, "not a capture of a known form"),
         FileForm::Pcap(spelling, link) => pcap_text(alloc, spelling, link),
     }
 }

@@ -2,14 +2,14 @@
 
 use napt_wire::Cause;
 
-/// What is said of a cause.
+/// The texts about a cause.
 #[derive(Clone, Copy)]
 pub struct CauseText {
     /// The cause in words.
     pub meaning: &'static str,
     /// What to do if many packets are dropped for it.
     pub advice: Option<&'static str>,
-    /// The same of replies, if that is not what it is for other packets.
+    /// The same for replies, if it differs from that for other packets.
     pub advice_of_replies: Option<&'static str>,
 }
 
@@ -30,7 +30,7 @@ impl CauseText {
         }
     }
 
-    /// What is said of a cause.
+    /// Returns the texts about a cause.
     pub fn of(cause: Cause) -> CauseText {
         match cause {
             Cause::Truncated => CauseText::with(
@@ -42,7 +42,7 @@ impl CauseText {
                 "IPv6 and ARP are not translated; else link headers or a VLAN tag were left in the capture, or cut twice",
             ),
             Cause::BadHeader => CauseText::with(
-                "a length in a header that cannot be",
+                "an impossible length in a header",
                 "link headers were cut at the wrong place, or the card leaves total lengths 0: switch its offload off",
             ),
             Cause::BadChecksum => CauseText::with(
@@ -57,7 +57,7 @@ impl CauseText {
                 "neither UDP nor TCP, an ICMP message that is not translated, or an echo to the pool",
             ),
             Cause::BadInner => CauseText::new(
-                "an ICMP error that quotes too little, or what nobody here sent",
+                "an ICMP error that quotes too little, or a packet that nobody here sent",
             ),
             Cause::BadPort => CauseText::new("a port 0"),
             Cause::Spoofed => CauseText::with(

@@ -1,3 +1,4 @@
+-- last_end: one more flow may end later.
 use Rattle.std.proofs.Common.{sym, ◌∙◌, ap, max, take}
 use Rattle.napt_binding.{specs.Ends.last_end, proofs.FirstEnds.last_end_more}
 use Rattle.napt_account.proofs.binding_end.last_end.Goals as goal

@@ -1,3 +1,4 @@
+-- last_end: `last` is the end of the last of the flows so far.
 use Rattle.std.proofs.Common.{◌≡◌, take}
 use Rattle.napt_binding.specs.Ends.{last_end}
 use Rattle.napt_account.proofs.binding_end.last_end.Given as goal

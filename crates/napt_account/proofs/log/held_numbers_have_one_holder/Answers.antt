@@ -7,4 +7,5 @@ pub returns-clause-ends : goal.returns-clause-ends
 returns-clause-ends c = ends_are_first
 
 pub returns-clause-held : goal.returns-clause-held
-returns-clause-held c = held_numbers ends_are_first c.packets_carry_numbers.ensures c.opening_is_sound.ensures
+returns-clause-held c = held_numbers ends_are_first c.packets_carry_numbers.ensures
+    c.taken_states_are_kept.ensures.sound c.runs_go_on.ensures.alike

@@ -1,3 +1,4 @@
+-- by_number: the sorted entries are those of the definition, since their numbers are distinct.
 use Rattle.std.proofs.{Common.{rules}, lemmas.List.Sorted.{answers_always}}
 use Rattle.napt_account.{specs.declared.log.LogEntry.LogEntry, proofs.LogStarts.order_is}
 use Rattle.napt_account.proofs.log_start.by_number.Goals as goal

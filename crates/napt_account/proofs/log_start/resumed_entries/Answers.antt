@@ -1,5 +1,5 @@
-use Rattle.std.proofs.Common.{rules, vec_items, vec_len, ◌≡◌, ℕ, ◌+◌, ◌<◌, List, [], ◌∷◌, ◌++◌, None, Some, Option, Vec, length, get_or, map, take, sym, ◌∙◌, ap, subst, arith, append-nil}
-use Rattle.std.proofs.lemmas.List.{take_all}
+-- resumed_entries: one more binding gives its entry if it has an account, and otherwise none.
+use Rattle.std.proofs.Common.{rules, vec_items, vec_len, ◌≡◌, ℕ, ◌<◌, List, [], ◌∷◌, ◌++◌, None, Some, Option, Vec, length, get_or, map, take, sym, ◌∙◌, ap, arith, append-nil}
 use Rattle.napt_rules.specs.Prelude.{Binding, Rules, State}
 use Rattle.napt_account.specs.declared.{account.Account.Account, log.LogEntry.LogEntry}
 use Rattle.napt_account.specs.LogStarts.{account_in, accounted, resumed_entry, with_account}

@@ -1,3 +1,4 @@
+-- resumed_entries: the entries so far are those of the first bindings that have accounts.
 use Rattle.std.proofs.Common.{◌≡◌, map, take}
 use Rattle.napt_account.specs.LogStarts.{accounted, resumed_entry}
 use Rattle.napt_account.proofs.log_start.resumed_entries.Given as goal

@@ -9,4 +9,4 @@ returns-in-Err-clause-whole g c saved is told =
     c.stop_of_state.ensures.unread
 
 pub returns-in-Err-clause-misfit : goal.returns-in-Err-clause-misfit
-returns-in-Err-clause-misfit g c text told = c.stop_of_state.ensures.misfit c.args.config.now text
+returns-in-Err-clause-misfit g c text told = c.stop_of_state.ensures.misfit c.args.ends_misfits c.args.config.now text

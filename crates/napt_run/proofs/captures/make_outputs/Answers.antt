@@ -1,3 +1,4 @@
+-- make_outputs: the captures in memory and the report are the texts of the definition.
 use Rattle.std.proofs.Common.{◌≡◌, IfOk, string_bytes, refl, ap₂, ◌∙◌, subst}
 use Rattle.napt_wire.specs.declared.Side.TheVariants as sides
 use Rattle.napt_capture.specs.{Contents.CaptureModel, Watched.device_of}

@@ -1,3 +1,4 @@
+-- run_captures: the clauses for each device, as one relation over all devices.
 use Rattle.std.proofs.lemmas.Result.{err_from_is_err_and}
 use Rattle.napt_run.proofs.captures.run_captures.Goals as goal
 

@@ -1,3 +1,4 @@
+-- run_whole: each output gets its share of the texts, by the call that failed, and the fault is explained.
 use Rattle.std.proofs.{Common.{◌≡◌, ℕ, List, Option, Err, refl}, lemmas.Result.err_from_is_err_and}
 use Rattle.napt_records.specs.declared.{Fault.Fault, Which.{Which, TheVariants.{Outside, Inside, Report}}}
 use Rattle.napt_run.{specs.Captures.{GetsFrom, IsWriteFaultOf, OutputReceives, OutputShare, whole}, proofs.captures.run_whole.{Given.Over, Goals.In_ok-outputs}}
@@ -7,7 +8,7 @@ use Rattle.napt_run.proofs.captures.run_whole.Goals as goal
 
 -- WHAT THE RETURNS SHARE
 
--- once outputs are made
+-- After the outputs were made.
 known : (g : Over) (c : In_ok-outputs g) →
     AreMade (origin_of c.args.start) (g.R.Source.remaining c.args.inside.now) (g.Q.Source.remaining c.args.outside.now)
     (record { inside = c.in_ok-inside.inside; outside = c.in_ok-outside.outside })
@@ -16,7 +17,7 @@ known g c =
     (record { inside = c.in_ok-inside.inside; outside = c.in_ok-outside.outside }) c.in_ok-inside.ensures.ok
     c.in_ok-outside.ensures.ok c.in_ok-outputs.ensures.too_many.1
 
--- what an output gets that received a share of its text
+-- What an output gets that received a share of its text.
 got : (g : Over) (c : In_ok-outputs g) (which : Which) (share : OutputShare) {told : List ℕ}
     (old new : Option (List ℕ)) →
     told ≡ text_of which c.in_ok-outputs.outputs → OutputReceives share told old new →
@@ -25,7 +26,7 @@ got : (g : Over) (c : In_ok-outputs g) (which : Which) (share : OutputShare) {to
 got g c which share old new is kept =
     received which share _ _ _ _ _ _ _ _ (known g c) c.in_ok-outputs.ensures.ok is kept
 
--- what it answers where writing an output failed
+-- The answer if writing an output failed.
 unwritten : (g : Over) (c : In_ok-outputs g) (which : Which) (fault : Fault) → IsWriteFaultOf which fault →
     Answered (origin_of c.args.start) (g.R.Source.remaining c.args.inside.now) (g.Q.Source.remaining c.args.outside.now)
     (Err fault)

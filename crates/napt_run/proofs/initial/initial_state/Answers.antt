@@ -1,3 +1,4 @@
+-- initial_state: a run from a state without bindings begins with the opening list, and its log with the redirects.
 use Rattle.std.proofs.Common.{◌≡◌, List, [], ap, append-nil, ◌∙◌}
 use Rattle.napt_config.specs.Rules.{Rules}
 use Rattle.napt_rules.specs.Prelude.{Binding, opening}

@@ -1,3 +1,4 @@
+-- take_up: the log is that of the state, and its text begins as the definition says.
 use Rattle.std.proofs.Common.{◌∙◌}
 use Rattle.napt_log_text.specs.Logs.{LogOrigin, first_text}
 use Rattle.napt_run.proofs.log_start.take_up.Goals as goal

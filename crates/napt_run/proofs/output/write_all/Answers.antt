@@ -1,4 +1,4 @@
--- What a write takes stands behind what is done.
+-- write_all: the bytes that a write accepts follow those that were written before.
 use Rattle.std.proofs.Common.{◌≡◌, ℕ, zero, suc, nat_eq, false, rules, ◌+◌, ◌-◌, ◌≤◌, List, ◌++◌, length, take, drop, Option, Result, Ok, Err, refl, sym, ap, ◌∙◌, subst, arith, length-drop}
 use Rattle.std.{proofs.lemmas.List.take_rest, specs.{Io.{WritesAtMost, KnownBytes.{Appends, WriteAppends}}, Result.result_unwrap_or}}
 use Rattle.std.proofs.KnownBytes.{Appends-trans}
@@ -6,7 +6,7 @@ use lib.Seq.{take-add}
 use Rattle.napt_capture.specs.{Device.failed_writes, declared.device.DeviceFault.DeviceFault}
 use Rattle.napt_run.proofs.output.write_all.Goals as goal
 
--- a write of the rest that took some bytes
+-- A write of the rest that took some bytes.
 takes_more : (r : Result ℕ DeviceFault) (old mid new : Option (List ℕ)) (bytes : List ℕ)
     (done count failed-0 failed-1 failed-2 : ℕ)
     → count ≡ result_unwrap_or r 0 → (count ≡ 0 → ⊥) → WritesAtMost r (drop done bytes) →

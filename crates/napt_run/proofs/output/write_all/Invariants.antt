@@ -1,4 +1,4 @@
--- The bytes that are done were written, and no write failed.
+-- write_all: the bytes so far have been written, and no write failed.
 use Rattle.std.{proofs.Common.{◌≡◌, ◌-◌, ◌≤◌, length, take}, specs.Io.KnownBytes.Appends}
 use Rattle.napt_run.proofs.output.write_all.Given as goal
 

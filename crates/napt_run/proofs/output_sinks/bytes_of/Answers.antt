@@ -1,3 +1,4 @@
+-- bytes_of: a packet has fewer than 2 ^ 16 bytes.
 use Rattle.std.proofs.Common.{rules, sym, subst}
 use Rattle.napt_wire.{specs.Packet.IsPacket, proofs.PacketNumbers.length-packet}
 use Rattle.napt_run.proofs.output_sinks.bytes_of.Goals as goal

@@ -1,3 +1,4 @@
+-- add_accounted: the line gets the words of the row, the last use and the account.
 use Rattle.std.proofs.Common.{◌≡◌, ℕ, [], ◌∷◌, ◌++◌, ◌∙◌, decimal, string_bytes, ap, arith}
 use Rattle.napt_account.specs.declared.account.Account.{Account}
 use Rattle.napt_rules.specs.declared.Row.{Row}

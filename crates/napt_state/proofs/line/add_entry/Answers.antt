@@ -1,3 +1,4 @@
+-- add_entry: the line gets the words of the entry.
 use Rattle.std.proofs.Common.{◌≡◌, [], ◌∷◌, ◌++◌, ◌∙◌, codes, decimal, string_bytes, ap, arith}
 use Rattle.napt_account.specs.declared.log.LogEntry.{LogEntry}
 use Rattle.napt_state.specs.StateText.{StateTextBytes, spaced, words_text, row_words, use_words, entry_words}

@@ -1,3 +1,4 @@
+-- has_accounts: an account is apart from all before it exactly if neither set has its number or endpoint.
 use Rattle.std.proofs.Common.{◌≡◌, ◌<◌, ◌≤◌, ◌==◌, ◌^◌, Bool, true, false, not, ◌&&◌, ◌||◌, List, [], ◌∷◌, ◌++◌, None, Some, get_or, length, refl, sym, ◌∙◌, ap, subst, arith}
 use Rattle.std.specs.{List.list_any, Prelude.nat_le}
 use Rattle.napt_rules.specs.Prelude.{Binding}

@@ -1,3 +1,4 @@
+-- ended_bindings_stay_ended: the law.
 use Rattle.napt_state.proofs.TakenUp.{stays_ended}
 use Rattle.napt_state.proofs.state_contents.ended_bindings_stay_ended.Goals as goal
 

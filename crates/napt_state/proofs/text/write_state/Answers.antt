@@ -1,3 +1,4 @@
+-- write_state: with the last line the whole text has been written, and it has been flushed.
 use Rattle.std.proofs.Common.{length, ap, arith}
 use Rattle.napt_state.specs.StateFiles.{StateFileModel}
 use Rattle.napt_state.specs.declared.saved_bindings.SavedBinding.{SavedBinding}

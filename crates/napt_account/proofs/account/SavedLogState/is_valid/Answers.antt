@@ -1,9 +1,9 @@
-use Rattle.std.proofs.lemmas.{Grind.common_steps, Bool.Decides.nat_tests}
-use Rattle.std.proofs.Common.{rules, vec_items, vec_len, ◌≡◌, ℕ, ◌+◌, ◌<◌, ◌≤◌, ◌==◌, Bool, true, false, not, ◌&&◌, ◌||◌, List, [], ◌∷◌, ◌++◌, None, Some, Option, length, drop, get_or, map, take, refl, sym, ◌∙◌, ap, subst, arith}
+-- is_valid: an account is apart from all before it exactly if neither set has its number or endpoint.
+use Rattle.std.proofs.Common.{rules, vec_items, vec_len, ◌≡◌, ℕ, ◌<◌, ◌==◌, Bool, true, false, not, ◌&&◌, ◌||◌, List, None, Some, length, get_or, take, refl, sym, ◌∙◌, ap, subst, arith}
 use Rattle.std.specs.{List.list_any, Prelude.nat_le}
 use Rattle.napt_rules.specs.Prelude.{Binding, State}
 use Rattle.napt_account.specs.declared.account.Account.{Account}
-use Rattle.napt_account.specs.LogStarts.{SavedLogStateModel, account_in, accounted, are_accounts, are_apart, is_account, is_saved_log_state, most_saved}
+use Rattle.napt_account.specs.LogStarts.{SavedLogStateModel, account_in, accounted, are_apart, is_account, most_saved}
 use Rattle.napt_account.specs.OpenEntries.{entry_key, external_eq}
 use Rattle.napt_account.proofs.{Accounts.{HasEndpoints, HasNumbers, any_apart, checked_none, checked_some, endpoints_more, numbers_more, seen_more, seen_same, some_binding, unchecked}, LogStarts.Kept}
 use Rattle.napt_account.proofs.account.SavedLogState.is_valid.Goals as goal
@@ -49,7 +49,7 @@ loop-place-preserved c =
     let i = c.loop-place.invariant in
     let kept : Kept = (get_or state.list k b, a) in
     let more = seen_more saved.made state.clock state.list saved.accounts k b below i.checked a some in
-    let key = c.external_key-key.ensures ∙ ap (λ (x : Binding). entry_key x.row) (c.behind-state.view_is ∙ sym is) in
+    let key = c.external_key-key.ensures.key ∙ ap (λ (x : Binding). entry_key x.row) (c.behind-state.view_is ∙ sym is) in
     let made_is = ap (λ (s : SavedLogStateModel). s.made) c.self.view_is in
     let clock_is = ap (λ (s : State). s.clock) c.state.view_is in
     let within : is_account saved.made state.clock a ≡ true =
@@ -96,7 +96,7 @@ returns-then-not-is_within c =
     let some : account_in saved.accounts k ≡ Some a = sym c.account.ensures ∙ c.in-Some.is in
     let i = c.loop-place.invariant in
     let kept : Kept = (get_or state.list k b, a) in
-    let key = c.external_key-key.ensures ∙ ap (λ (x : Binding). entry_key x.row) (c.behind-state.view_is ∙ sym is) in
+    let key = c.external_key-key.ensures.key ∙ ap (λ (x : Binding). entry_key x.row) (c.behind-state.view_is ∙ sym is) in
     let made_is = ap (λ (s : SavedLogStateModel). s.made) c.self.view_is in
     let clock_is = ap (λ (s : State). s.clock) c.state.view_is in
     let within : is_account saved.made state.clock a ≡ c.is_within.result =

@@ -1,3 +1,4 @@
+-- is_valid: the sets have the numbers and endpoints of the accounts so far, all of which are valid.
 use Rattle.std.proofs.Common.{take}
 use Rattle.napt_account.specs.LogStarts.{accounted}
 use Rattle.napt_account.proofs.Accounts.{HasEndpoints, HasNumbers, IsChecked}

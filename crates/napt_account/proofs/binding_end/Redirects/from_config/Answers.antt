@@ -1,4 +1,5 @@
-use Rattle.std.proofs.Common.{◌≡◌, ℕ, ◌≤◌, List, length, take, ◌∙◌, subst}
+-- from_config: the keys of all redirects are those by which a redirect is found.
+use Rattle.std.proofs.Common.{◌≤◌, List, length, ◌∙◌, subst}
 use Rattle.std.proofs.lemmas.List.{take_all}
 use Rattle.napt_table.specs.declared.TimedRow.{TimedRow}
 use Rattle.napt_account.proofs.Redirects.{AreKeys, keys_all}

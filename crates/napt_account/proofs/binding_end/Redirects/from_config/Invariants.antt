@@ -1,3 +1,4 @@
+-- from_config: the keys so far are those of the first redirects.
 use Rattle.std.proofs.Common.{take}
 use Rattle.napt_account.proofs.Redirects.{AreKeys}
 use Rattle.napt_account.proofs.binding_end.Redirects.from_config.Given as goal

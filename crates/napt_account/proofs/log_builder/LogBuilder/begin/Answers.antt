@@ -1,6 +1,6 @@
-use Rattle.std.proofs.Common.{◌≡◌, ◌+◌, ◌^◌, ◌≤◌, ℕ, List, [], ◌∷◌, ◌++◌, false, sym, ◌∙◌, ap, subst, arith}
-use Rattle.napt_sequential.specs.declared.passage.Trace.{Trace}
-use Rattle.napt_account.specs.{Log.LogModel, LogBuilders.{IsBuilt, LogBuilderModel, built}}
+-- begin: before the first input the entries are the open entries of the log, so that the invariant holds.
+use Rattle.std.proofs.Common.{◌≡◌, ◌^◌, ℕ, List, [], ◌∷◌, ◌++◌, false, sym, ◌∙◌, ap, subst, arith}
+use Rattle.napt_account.specs.{Log.LogModel, LogBuilders.{IsBuilt, built}}
 use Rattle.napt_account.proofs.log_builder.LogBuilder.begin.Goals as goal
 
 pub invariant_of-result : goal.invariant_of-result

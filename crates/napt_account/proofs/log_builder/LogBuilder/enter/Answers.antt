@@ -1,8 +1,9 @@
-use Rattle.std.proofs.Common.{◌≡◌, ℕ, ◌+◌, ◌*◌, ◌^◌, ◌<◌, ◌≤◌, false, List, [], ◌∷◌, ◌++◌, length, drop, filter, Option, Some, None, Ok, refl, sym, ◌∙◌, ap, subst, arith, append-nil, append_assoc}
+-- enter: the log is the fold of one more input, the part is what this adds, and the invariant is preserved.
+use Rattle.std.proofs.Common.{◌≡◌, ℕ, ◌+◌, ◌*◌, ◌^◌, ◌<◌, false, List, [], ◌∷◌, ◌++◌, length, drop, filter, Option, Ok, refl, sym, ◌∙◌, ap, subst, arith, append-nil, append_assoc}
 use Rattle.std.specs.Option.{IfSome}
 use Rattle.napt_sequential.specs.declared.passage.{Passage.{Passage, TheVariants.{Nothing, Made, Out, In, Dropped}}, Trace.Trace}
-use Rattle.napt_account.specs.{declared.{legs.Legs.Legs, log.{LogEntry.LogEntry, Shortage.Shortage}}, BindingTallies.use_of, Effects.{IsNext, log_after}, Log.{LogModel, after_input, after_leg, shortages_by, shortages_in}}
-use Rattle.napt_account.specs.{LogBuilders.{IsBuilt, LogBuilderModel, built, built_from, part_in, taken_in}, OpenEntries.OpenEntriesShow, LogParts.{LogDelta, is_behind, part_between}}
+use Rattle.napt_account.specs.{declared.{legs.Legs.Legs, log.{Shortage.Shortage}}, BindingTallies.use_of, Effects.{IsNext, log_after}, Log.{LogModel, after_input, after_leg, shortages_by, shortages_in}}
+use Rattle.napt_account.specs.{LogBuilders.{IsBuilt, LogBuilderModel, built, built_from, taken_in}, OpenEntries.OpenEntriesShow, LogParts.{LogDelta, is_behind, part_between}}
 use Rattle.napt_account.proofs.{GoingOn.{few_leg, fold_joined}, Lists.map_joined, WholeLogs.drop_joined}
 use Rattle.napt_account.proofs.log_builder.LogBuilder.enter.Goals as goal
 

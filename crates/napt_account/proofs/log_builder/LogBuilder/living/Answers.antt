@@ -1,4 +1,5 @@
-use Rattle.std.{proofs.Common.{◌≡◌, ◌+◌, ◌*◌, ◌^◌, ◌∙◌, ap, subst}}
+-- living: by the invariant, the entries in order of end are the open entries of the log.
+use Rattle.std.{proofs.Common.{◌≡◌, ◌∙◌, ap, subst}}
 use Rattle.napt_account.specs.{LogBuilders.{LogBuilderModel}, LogParts.living_at}
 use Rattle.napt_account.proofs.log_builder.LogBuilder.living.Goals as goal
 

@@ -1,9 +1,10 @@
-use Rattle.std.proofs.Common.{rules, vec_items, vec_len, ◌≡◌, ℕ, ◌+◌, ◌≤◌, ◌^◌, List, [], ◌∷◌, ◌++◌, Bool, true, false, not, filter, length, map, refl, sym, ◌∙◌, ap, subst, arith}
-use Rattle.napt_rules.specs.Prelude.{Rules, RulesInvariant, State, Timers}
+-- resume: the numbers of the saved entries are distinct, and a builder can begin with the log that is made of them.
+use Rattle.std.proofs.Common.{rules, vec_items, vec_len, ◌≡◌, ℕ, ◌+◌, ◌≤◌, ◌^◌, List, [], ◌++◌, Bool, false, not, filter, length, map, sym, ◌∙◌, ap, subst, arith}
+use Rattle.napt_rules.specs.Prelude.{Rules, RulesInvariant, State}
 use Rattle.napt_table.specs.declared.TimedRow.{TimedRow}
 use Rattle.napt_account.specs.declared.log.LogEntry.{LogEntry}
-use Rattle.napt_account.specs.{Log.{LogModel, numbered_from, unused_entry}, LogBuilders.{IsStart, LogBuilderModel}, LogParts.{LogDelta, is_open}, LogStarts.{NumbersDiffer, SavedLogStateModel, continued_entries, entry_ended_at, has_entry, in_order_of_number, log_started, new_entries, resumed_entries}}
-use Rattle.napt_account.proofs.{InOrder.differ_filter, LogStarts.{entries_numbers, is_start, live, of_differ, to_differ}}
+use Rattle.napt_account.specs.{Log.{LogModel, numbered_from, unused_entry}, LogBuilders.{IsStart}, LogParts.{is_open}, OpenEntries.AreKeyed, LogStarts.{NumbersDiffer, SavedLogStateModel, continued_entries, entry_ended_at, has_entry, in_order_of_number, log_started, new_entries, resumed_entries}}
+use Rattle.napt_account.proofs.{InOrder.differ_filter, Keyed.live_keyed, LogStarts.{entries_numbers, is_start, live, of_differ, to_differ}}
 use Rattle.napt_account.proofs.log_builder.LogBuilder.resume.Goals as goal
 
 pub by_number-requires : goal.by_number-requires
@@ -31,6 +32,11 @@ by_number-requires-3 c = subst NumbersDiffer (sym c.in_ok-all.ensures)
     (entries_numbers c.args.config.now c.pool-pool.ensures.kept c.args.state.now c.requires.taken c.args.saved.now
     c.requires.saved)
 
+pub new_entries-requires-clause-apart : goal.new_entries-requires-clause-apart
+new_entries-requires-clause-apart c = subst AreKeyed
+    (ap (map (λ (timed : TimedRow). timed.row)) (sym (c.deref-5.ensures.value ∙ c.in_ok-live.ensures)))
+    (live_keyed c.args.config.now c.pool-pool.ensures.kept c.args.state.now c.requires.taken)
+
 pub begin-requires : goal.begin-requires
 begin-requires c =
     let own : Rules = c.args.config.now in
@@ -47,22 +53,20 @@ begin-requires c =
     ∙ ap (λ (n : ℕ). filter (is_open n) all) clock)) in
     let listed = c.deref-4.ensures.value ∙ entries in
     let alive = c.deref-5.ensures.value ∙ c.in_ok-live.ensures in
-    let new : c.in_ok-made.made.items ≡ new_entries own state saved = c.in_ok-made.ensures
+    let new : c.in_ok-made.made.items ≡ new_entries own state saved = c.in_ok-made.ensures.begun
     ∙ (λ i. numbered_from (first i + 1) (map (λ timed. unused_entry timed.row (clock i) timed.end)
     (filter (λ timed. not (has_entry (listed i) timed)) (alive i)))) in
     let added = c.deref-6.ensures.value ∙ new in
     let whole = c.in_ok-extend_from_slice.ensures.items ∙ (λ i. entries i ++ added i) in
     let long : length (vec_items c.in_ok-made.made) ≡ vec_len c.in_ok-made.made = search rules in
-    let many : c.len-2.result ≡ length (new_entries own state saved) = c.len-2.ensures ∙ (sym long ∙ ap length new) in
-    let wide : length (vec_items c.in_ok-live.live) ≡ vec_len c.in_ok-live.live = search rules in
-    let lives : length (live own keeps.timers state) ≡ c.len.result =
-    ap length (sym c.in_ok-live.ensures) ∙ (wide ∙ sym c.len.ensures) in
-    let room = c.if-len-gt-MOST_BINDINGS.false in
-    let most : length (live own keeps.timers state) ≤ 2 ^ 61 = omega (arith, lives, room) in
+    let many : c.len.result ≡ length (new_entries own state saved) = c.len.ensures ∙ (sym long ∙ ap length new) in
+    let lives = ap length alive in
+    let few = c.in_ok-made.ensures.few in
+    let most : length (live own keeps.timers state) ≤ 2 ^ 61 = omega (arith, lives, few) in
     let start : IsStart state.clock (log_started own state saved) =
     is_start own keeps state c.requires.taken saved c.requires.saved most in
     let begun : LogModel = record {
-      made = c.saved.inside.made + c.len-2.result;
+      made = c.saved.inside.made + c.len.result;
       entries = c.extend_from_slice.new.self.items;
       shortages = [];
     } in
@@ -87,13 +91,13 @@ returns-clause-log c =
     ∙ ap (λ (n : ℕ). filter (is_open n) all) clock)) in
     let listed = c.deref-4.ensures.value ∙ entries in
     let alive = c.deref-5.ensures.value ∙ c.in_ok-live.ensures in
-    let new : c.in_ok-made.made.items ≡ new_entries own state saved = c.in_ok-made.ensures
+    let new : c.in_ok-made.made.items ≡ new_entries own state saved = c.in_ok-made.ensures.begun
     ∙ (λ i. numbered_from (first i + 1) (map (λ timed. unused_entry timed.row (clock i) timed.end)
     (filter (λ timed. not (has_entry (listed i) timed)) (alive i)))) in
     let added = c.deref-6.ensures.value ∙ new in
     let whole = c.in_ok-extend_from_slice.ensures.items ∙ (λ i. entries i ++ added i) in
     let long : length (vec_items c.in_ok-made.made) ≡ vec_len c.in_ok-made.made = search rules in
-    let many : c.len-2.result ≡ length (new_entries own state saved) = c.len-2.ensures ∙ (sym long ∙ ap length new) in
+    let many : c.len.result ≡ length (new_entries own state saved) = c.len.ensures ∙ (sym long ∙ ap length new) in
     c.in_ok-log.ensures ∙ (λ i. record {
       rules = own;
       clock = clock i;
@@ -117,7 +121,7 @@ returns-clause-first c =
     ∙ ap (λ (n : ℕ). filter (is_open n) all) clock)) in
     let listed = c.deref-4.ensures.value ∙ entries in
     let alive = c.deref-5.ensures.value ∙ c.in_ok-live.ensures in
-    let new : c.in_ok-made.made.items ≡ new_entries own state saved = c.in_ok-made.ensures
+    let new : c.in_ok-made.made.items ≡ new_entries own state saved = c.in_ok-made.ensures.begun
     ∙ (λ i. numbered_from (first i + 1) (map (λ timed. unused_entry timed.row (clock i) timed.end)
     (filter (λ timed. not (has_entry (listed i) timed)) (alive i)))) in
     let gone = c.in_ok-gone-2.ensures ∙ ap in_order_of_number (c.in_ok-gone.ensures

@@ -1,3 +1,4 @@
+-- bindings: by the invariant, the bindings of the run are those of the definition for the inputs so far.
 use Rattle.std.{proofs.Common.{◌≡◌, ◌∙◌, ap, subst}, specs.Prelude.IfOk}
 use Rattle.napt_rules.specs.Prelude.{run_result_from}
 use Rattle.napt_account.specs.{LogBuilders.taken_in, LoggedRuns.{LoggedRunModel, state_begun}}

@@ -1,6 +1,7 @@
-use Rattle.std.proofs.Common.{◌≡◌, [], false, List, append-nil, sym, ◌∙◌, ap, subst}
-use Rattle.napt_rules.specs.Prelude.{Binding, Rules, State, initial_state, opening, with_redirects}
-use Rattle.napt_account.specs.LogStarts.{SavedLogStateModel, empty_state, log_started, no_saved_log}
+-- from_config: a run from the empty state is the new run of the definition.
+use Rattle.std.proofs.Common.{[], false, append-nil, ◌∙◌}
+use Rattle.napt_rules.specs.Prelude.{Rules, opening, with_redirects}
+use Rattle.napt_account.specs.LogStarts.{log_started}
 use Rattle.napt_account.proofs.logged_run.LoggedRun.from_config.Goals as goal
 
 pub returns : goal.returns

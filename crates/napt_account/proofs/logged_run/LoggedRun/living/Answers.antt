@@ -1,4 +1,5 @@
-use Rattle.std.{proofs.Common.{◌≡◌, ◌∙◌, ap, subst, sym}, specs.Prelude.IfOk}
+-- living: by the invariant, the open entries of the builder are those of the run's log.
+use Rattle.std.{proofs.Common.{◌≡◌, ◌∙◌, ap, subst}, specs.Prelude.IfOk}
 use Rattle.napt_rules.specs.Prelude.{last_clock}
 use Rattle.napt_account.specs.{Log.{LogModel, log_on}, LogBuilders.taken_in, LogParts.living_at, LoggedRuns.{LoggedRunModel, log_begun, state_begun}}
 use Rattle.napt_account.proofs.logged_run.LoggedRun.living.Goals as goal

@@ -1,3 +1,4 @@
+-- resume: before the first input the invariant holds of the state and its log.
 use Rattle.std.proofs.Common.{◌≡◌, ℕ, false, [], ◌∷◌, ◌++◌, List, refl, sym, ◌∙◌, ap, subst}
 use Rattle.napt_rules.specs.Prelude.{Arrival, Rules, State, with_redirects}
 use Rattle.napt_account.specs.{Log.log_on, LogBuilders.{LogBuilderModel, taken_in}, LogStarts.{SavedLogStateModel, log_started}, LoggedRuns.{IsLoggedRun, log_begun, state_begun}}

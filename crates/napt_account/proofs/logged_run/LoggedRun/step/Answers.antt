@@ -1,9 +1,10 @@
+-- step: the effects of one more input are possible, so that the builder takes them, and the invariant is preserved.
 use Rattle.std.proofs.lemmas.{Grind.common_steps, Bool.Decides.nat_tests}
-use Rattle.std.proofs.Common.{◌≡◌, ◌↔◌, ◌+◌, ◌^◌, ◌<◌, ◌≤◌, false, inl, inr, List, [], ◌∷◌, ◌++◌, length, sym, ◌∙◌, ap, subst, arith}
+use Rattle.std.proofs.Common.{◌≡◌, ◌+◌, ◌^◌, ◌<◌, false, inl, inr, List, [], ◌∷◌, ◌++◌, length, sym, ◌∙◌, ap, subst, arith}
 use Rattle.std.proofs.lemmas.{Bool.cases_lt, Result.err_from_is_err_and, List.length-append}
 use Rattle.napt_rules.specs.Prelude.{Arrival, Rules, State, last_clock}
-use Rattle.napt_sequential.specs.{SequentialRuns.{SequentialRunInvariant, StepPost}, Traces.traces_of, declared.passage.Trace.Trace}
-use Rattle.napt_account.specs.{declared.logged_run.LogStep.LogStep, BindingTallies.use_of, Effects.IsNext, Log.{LogModel, after_input, log_on}, LogBuilders.{LogBuilderModel, part_in, taken_in}, LogParts.part_between}
+use Rattle.napt_sequential.specs.{SequentialRuns.{SequentialRunInvariant, StepPost}, declared.passage.Trace.Trace}
+use Rattle.napt_account.specs.{declared.logged_run.LogStep.LogStep, BindingTallies.use_of, Effects.IsNext, Log.{LogModel, after_input, log_on}, LogBuilders.{LogBuilderModel, taken_in}, LogParts.part_between}
 use Rattle.napt_account.specs.LoggedRuns.{IsLoggedRun, IsStepFault, LoggedRunModel, LoggedStepPost, log_begun, state_begun}
 use Rattle.napt_account.proofs.LoggedRuns.{log_fault, log_next, not_many, part_next, taken_more}
 use Rattle.napt_account.proofs.logged_run.LoggedRun.step.Goals as goal

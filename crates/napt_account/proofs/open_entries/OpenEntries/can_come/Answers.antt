@@ -1,6 +1,7 @@
+-- can_come: an endpoint has no entry here exactly if the log has no open entry for it.
 use Rattle.std.proofs.Common.{◌≡◌, true, false, not, Option, Some, None, refl, sym, ◌∙◌, ap, subst}
 use Rattle.std.specs.Option.{is_some, option_map}
-use Rattle.napt_sequential.specs.declared.passage.Passage.{Passage, TheVariants.Made}
+use Rattle.napt_sequential.specs.declared.passage.Passage.{TheVariants.Made}
 use Rattle.napt_account.specs.{declared.open_entries.Open.Open, Effects.CanCome}
 use Rattle.napt_account.proofs.OpenEntries.{row_free, row_none}
 use Rattle.napt_account.proofs.open_entries.OpenEntries.can_come.Goals as goal

@@ -1,6 +1,7 @@
-use Rattle.std.{proofs.Common.{◌+◌, Some, refl, sym, ◌∙◌, ap, subst, arith}, specs.Prelude.IsSome}
+-- count: the entry that is found is the open entry of the row; if there is none, nothing changes.
+use Rattle.std.{proofs.Common.{◌+◌, refl, sym, ◌∙◌, ap, subst, arith}, specs.Prelude.IsSome}
 use Rattle.napt_account.specs.{declared.{binding_tally.LogNote.LogNote, open_entries.{Open.Open, OpenEntries.OpenEntries}}, BindingTallies.tally_used, Log.{LogModel, with_use}}
-use Rattle.napt_account.{specs.OpenEntries.{open_at, OpenEntriesShow}}
+use Rattle.napt_account.{specs.OpenEntries.{OpenEntriesShow}}
 use Rattle.napt_account.proofs.OpenEntries.{counted_shows, counted_used, open_entry, shows_more, unused_here, unused_same}
 use Rattle.napt_account.proofs.open_entries.OpenEntries.count.Goals as goal
 
@@ -20,14 +21,14 @@ returns-clause-shows c = λ most log shows opened.
     } in
     let changes = (c.get_mut.follows.holds next).3 (subst IsSome c.in-Some.ensures.value refl) in
     counted_shows c.args.way c.args.now most c.args.self.now log shows c.args.timed c.external_key-key.result
-    c.external_key-key.ensures o (sym c.in-Some.ensures.value) c.count.new.self c.count.ensures c.due_by-due.result
+    c.external_key-key.ensures.key o (sym c.in-Some.ensures.value) c.count.new.self c.count.ensures c.due_by-due.result
     c.due_by-due.ensures.early c.queue_at.new.self c.queue_at.ensures.made
     (λ y. c.queue_at.ensures.open y ∙ changes.0 y) c.in_ok-queue_at.ensures.queued opened
 
 pub returns-clause-uses : goal.returns-clause-uses
 returns-clause-uses c = λ most log shows.
     counted_used c.args.way c.args.now most c.args.self.now log shows c.args.timed c.external_key-key.result
-    c.external_key-key.ensures c.in-Some.open.now (sym c.in-Some.ensures.value) c.through-used.result
+    c.external_key-key.ensures.key c.in-Some.open.now (sym c.in-Some.ensures.value) c.through-used.result
     (c.through-used.ensures
     ∙ ap (λ (n : LogNote). tally_used c.args.way n c.in-Some.open.now.numbered.number) c.found.ensures)
 
@@ -39,10 +40,10 @@ returns-in_default-clause-shows c = λ most log shows opened.
     (sym c.get_mut.follows.holds-at-none)
     (subst (λ (l : LogModel). OpenEntriesShow c.args.now (most + 1) l same)
     (sym (unused_same c.args.way c.args.now most same log shows c.args.timed c.external_key-key.result
-    c.external_key-key.ensures (sym c.in_default.ensures.value)))
+    c.external_key-key.ensures.key (sym c.in_default.ensures.value)))
     (shows_more c.args.now most (most + 1) (omega arith) log same shows))
 
 pub returns-in_default-clause-uses : goal.returns-in_default-clause-uses
 returns-in_default-clause-uses c = λ most log shows.
     unused_here c.args.way c.args.now most c.args.self.now log shows c.args.timed c.external_key-key.result
-    c.external_key-key.ensures (sym c.in_default.ensures.value)
+    c.external_key-key.ensures.key (sym c.in_default.ensures.value)

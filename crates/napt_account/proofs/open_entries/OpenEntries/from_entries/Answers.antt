@@ -1,3 +1,4 @@
+-- from_entries: each entry is inserted at an endpoint that has none yet, and queued at its end.
 use Rattle.std.proofs.Common.{◌≤◌, ℕ, false, None, List, length, ◌∙◌, ap}
 use Rattle.napt_wire.specs.declared.Protocol.TheVariants.{Icmp}
 use Rattle.napt_rules.specs.declared.Row.{Row}

@@ -1,3 +1,4 @@
+-- insert: a new entry with the next number is at its endpoint, which had none, and is queued at its end.
 use Rattle.std.proofs.Common.{◌+◌, cond, ℕ, Some, ◌∙◌, ap}
 use Rattle.napt_account.specs.{declared.log.LogEntry.LogEntry, OpenEntries.{entry_at, external_eq, entry_key}}
 use Rattle.napt_account.proofs.OpenEntries.{put_indexed, put_shows}

@@ -1,4 +1,5 @@
-use Rattle.std.proofs.Common.{◌≡◌, ◌++◌, [], ◌∷◌, None, Some, Option, List, refl, sym, ◌∙◌, ap, subst, append-nil}
+-- list_made: the entry at the endpoint of a binding that was made is its open entry in the log.
+use Rattle.std.proofs.Common.{◌≡◌, ◌++◌, [], List, sym, ◌∙◌, ap, append-nil}
 use Rattle.std.specs.{Prelude.option_to_list, Option.option_map}
 use Rattle.napt_sequential.specs.declared.passage.Passage.{Passage, TheVariants.Made}
 use Rattle.napt_account.specs.{declared.{log.LogEntry.LogEntry, open_entries.Open.Open}, MadeEntries.made_entry}

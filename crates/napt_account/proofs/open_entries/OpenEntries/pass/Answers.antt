@@ -1,3 +1,4 @@
+-- pass: a binding that is made gets a new entry, and any other binding counts the packet.
 use Rattle.std.proofs.Common.{◌≡◌, ◌+◌, ◌≤◌, ℕ, true, None, sym, ◌∙◌, ap, subst, arith}
 use Rattle.std.specs.Prelude.{IfOk}
 use Rattle.napt_binding.specs.Ends.{is_before}

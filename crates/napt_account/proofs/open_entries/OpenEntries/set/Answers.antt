@@ -7,7 +7,7 @@ use Rattle.napt_account.proofs.open_entries.OpenEntries.set.Goals as goal
 pub returns-clause-indexed : goal.returns-clause-indexed
 returns-clause-indexed c = λ but.
     let key : EntryKey = entry_key c.args.numbered.entry.binding in
-    let same = c.external_key-key.ensures in
+    let same = c.external_key-key.ensures.key in
     let due : Option ℕ = c.due_by-due.result in
     let next : Open = record { numbered = c.args.numbered; due = due } in
     let new : OpenEntries = record {

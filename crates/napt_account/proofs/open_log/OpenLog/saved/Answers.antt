@@ -1,4 +1,5 @@
-use Rattle.std.proofs.Common.{◌≡◌, ℕ, ◌+◌, ◌<◌, ◌≤◌, List, [], ◌∷◌, ◌++◌, None, true, false, Option, length, get_or, map, take, sym, ◌∙◌, ap, subst, arith}
+-- saved: the map finds the account of each open entry, and a binding gets the account at its endpoint.
+use Rattle.std.proofs.Common.{◌≡◌, ℕ, ◌+◌, ◌<◌, ◌≤◌, List, [], ◌∷◌, ◌++◌, None, false, Option, length, get_or, map, take, sym, ◌∙◌, ap, subst}
 use Rattle.std.proofs.lemmas.List.{take_all, take_more}
 use Rattle.std.specs.HashMap as hash
 use Rattle.napt_wire.specs.declared.Protocol.TheVariants.{Icmp}
@@ -32,12 +33,12 @@ loop-numbered-preserved c =
     (elim c.if-not-contains_key.branch [
       | then-not-contains_key+in_ok-insert w ↦
           subst (IsMap (take (k + 1) items)) (sym w.by_key-is)
-          (map_more items k none below c.loop-numbered.by_key old c.external_key-key.result c.external_key-key.ensures
+          (map_more items k none below c.loop-numbered.by_key old c.external_key-key.result c.external_key-key.ensures.key
           (sym c.contains_key.ensures ∙ w.if-not-contains_key.true) w.insert.new.self w.from_entry.result
           w.from_entry.ensures w.in_ok-insert.ensures.updates.0)
       | else-not-contains_key w ↦
           subst (IsMap (take (k + 1) items)) (sym w.by_key-is)
-          (map_same items k none below c.loop-numbered.by_key old c.external_key-key.result c.external_key-key.ensures
+          (map_same items k none below c.loop-numbered.by_key old c.external_key-key.result c.external_key-key.ensures.key
           (sym c.contains_key.ensures ∙ w.if-not-contains_key.false))
     ])
 

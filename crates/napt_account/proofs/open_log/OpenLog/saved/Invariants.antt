@@ -1,3 +1,4 @@
+-- saved: the map has the entries so far, and the bindings so far have got their accounts.
 use Rattle.std.proofs.Common.{◌≡◌, map, take}
 use Rattle.std.specs.HashMap as hash
 use Rattle.napt_account.specs.OpenEntries.{entry_key, external_eq}

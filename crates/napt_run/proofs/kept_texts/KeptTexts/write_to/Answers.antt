@@ -1,3 +1,4 @@
+-- write_to: the bytes written so far fit 64 bits, and after a fault they are a prefix of all bytes.
 use Rattle.std.{proofs.{Common.{◌≡◌, ◌<◌, ◌≤◌, ◌^◌, ◌++◌, arith, flat_map, length, take, ap, subst}, lemmas.Result.err_from_is_err_and}, specs.Prelude.get_or}
 use Rattle.std.specs.Io.KnownBytes.{Appends}
 use Rattle.napt_capture.specs.Writing.{PutErr}

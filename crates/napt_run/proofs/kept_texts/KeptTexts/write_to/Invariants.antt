@@ -1,4 +1,4 @@
--- The pieces so far are written, and no write failed.
+-- write_to: the pieces so far have been written, and no write failed.
 use Rattle.std.proofs.Common.{◌≡◌, flat_map, take}
 use Rattle.napt_capture.specs.Writing.{PutOk}
 use Rattle.napt_run.proofs.kept_texts.KeptTexts.write_to.Given as goal

@@ -1,3 +1,4 @@
+-- write_record: a record without earlier bytes fits the greatest capture.
 use Rattle.std.proofs.Common.{arith}
 use Rattle.napt_records.proofs.Texts.{length-record}
 use Rattle.napt_run.proofs.output.Output.write_record.Goals as goal

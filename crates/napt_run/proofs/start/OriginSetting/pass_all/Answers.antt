@@ -1,3 +1,4 @@
+-- pass_all: a run over inputs in memory that succeeds has written the records of all of them.
 use Rattle.napt_run.proofs.PassesAll.{passes_all}
 use Rattle.napt_run.specs.Origins.{origin_of}
 use Rattle.napt_run.proofs.start.OriginSetting.pass_all.Goals as goal

@@ -1,7 +1,7 @@
-use Rattle.std.proofs.Common.{◌≡◌, ℕ, ◌+◌, List, Option, None, Some, sym, ◌∙◌, ap, subst}
+use Rattle.std.proofs.Common.{◌≡◌, ℕ, ◌+◌, List, Option, Some, sym, ◌∙◌, ap, subst}
 use Rattle.napt_records.specs.{NewStreams.{IsMergerNew, IsStreamNew}, StreamMergers.IsMergerLive}
 use Rattle.napt_wire.specs.declared.Side.TheVariants as sides
-use Rattle.napt_run.{specs.{Captures.failed_readings, LogRuns.as_run, Streams.IsBehindHeader}, proofs.Begun.{begun_live, none_is, stream_begun}}
+use Rattle.napt_run.{specs.{Captures.failed_readings, Streams.IsBehindHeader}, proofs.Begun.{begun_live, stream_begun}}
 use Rattle.napt_run.proofs.{Behind.{reads_of, runs_to}, BothPassed.logs_to, start.OriginSetting.run_behind_headers.{Given.Over, Goals.After-pass-passed}}
 use Rattle.napt_run.specs.Origins.{origin_of}
 use Rattle.napt_run.proofs.start.OriginSetting.run_behind_headers.Goals as goal
@@ -31,29 +31,26 @@ begun g c bytes others ours theirs b o is same = record {
 }
 
 pub returns-clause-runs : goal.returns-clause-runs
-returns-clause-runs g c bytes others ours theirs =
+returns-clause-runs g c bytes others start ours theirs is_new begins =
     let at = (goal.at.returns-clause-runs g c).After-pass-passed in
-    runs_to g.G.Gate.is_open (origin_of c.args.self.start) c.new-inputs.result c.args.both.now.leaving
+    runs_to (origin_of c.args.self.start) c.new-inputs.result start c.args.both.now.leaving
     c.pass-passed.new.inputs c.pass-passed.new.both.leaving bytes others (live g at)
-    (begun g at bytes others ours theirs) c.requires.sound c.requires.counts (as_run c.pass-passed.result)
-    c.pass-passed.ensures.outputs
+    (begun g at bytes others ours theirs) is_new begins c.pass-passed.result c.pass-passed.ensures.outputs
 
 pub returns-clause-logs : goal.returns-clause-logs
 returns-clause-logs g c bytes others ours theirs =
     let at = (goal.at.returns-clause-logs g c).After-pass-passed in
-    logs_to g.K.Told.LegTrace.tells g.K.Logging.enters g.K.Logging.fails g.K.Logging.is_settled
+    logs_to g.K.Told.LegTrace.tells g.K.StreamLog.enters g.K.StreamLog.fails g.K.StreamLog.is_settled
     g.G.Gate.is_open (origin_of c.args.self.start) c.new-inputs.result c.args.both.now.leaving c.pass-passed.new.inputs
-    c.pass-passed.new.both.leaving c.args.both.now.log.now c.pass-passed.new.both.log.now bytes others (live g at)
-    (begun g at bytes others ours theirs) c.requires.sound c.requires.counts c.pass-passed.result
-    c.pass-passed.ensures.outputs c.pass-passed.ensures.log
+    c.pass-passed.new.both.leaving c.args.both.now.log.now c.pass-passed.new.both.log.now bytes others
+    (begun g at bytes others ours theirs) c.pass-passed.result c.pass-passed.ensures.outputs c.pass-passed.ensures.log
 
 pub returns-clause-readings : goal.returns-clause-readings
 returns-clause-readings g c not_run =
     let at = (goal.at.returns-clause-readings g c).After-pass-passed in
     let (read, is, by) =
-    reads_of g.G.Gate.is_open (origin_of c.args.self.start) c.new-inputs.result c.args.both.now.leaving
-    c.pass-passed.new.inputs c.pass-passed.new.both.leaving None None (live g at) (λ b o is same. none_is b is)
-    c.requires.sound c.requires.counts (as_run c.pass-passed.result) c.pass-passed.ensures.outputs not_run in (
+    reads_of (origin_of c.args.self.start) c.new-inputs.result c.pass-passed.new.inputs c.args.both.now.leaving
+    c.pass-passed.new.both.leaving (live g at) c.pass-passed.result c.pass-passed.ensures.outputs not_run in (
       read,
       is,
       ap g.R.Source.failed (c.inside-1.given.1 (sym c.new-ours.ensures.name

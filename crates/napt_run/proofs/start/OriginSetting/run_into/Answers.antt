@@ -1,3 +1,4 @@
+-- run_into: the devices of both outputs are left as the outputs leave them.
 use Rattle.std.proofs.Common.{sym, ◌∙◌, ap}
 use Rattle.napt_run.proofs.PassesAll.{told_inside, told_outside, told_tally}
 use Rattle.napt_run.proofs.start.OriginSetting.run_into.Goals as goal

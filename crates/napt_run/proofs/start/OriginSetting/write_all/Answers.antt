@@ -1,3 +1,4 @@
+-- write_all: with the headers before them, the records are whole captures.
 use Rattle.napt_run.proofs.PassesAll.{headed_all}
 use Rattle.napt_run.specs.Origins.{origin_of}
 use Rattle.napt_run.proofs.start.OriginSetting.write_all.Goals as goal

@@ -1,3 +1,4 @@
+-- of: `flows` is the number of flows of the bindings so far.
 use Rattle.std.proofs.Common.{◌≡◌, take}
 use Rattle.napt_state.specs.StateText.{flow_count}
 use Rattle.napt_state.proofs.line.LineCounts.of.Given as goal

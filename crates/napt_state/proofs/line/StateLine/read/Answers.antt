@@ -1,3 +1,4 @@
+-- read: a line that was written is read back, by the word with which it begins.
 use Rattle.std.proofs.Common.{◌≡◌, [], ◌∙◌, codes, true, false, ap, get_or}
 use Rattle.napt_state.specs.declared.line.StateLine.{StateLine}
 use Rattle.napt_state.specs.declared.line.StateLine.TheVariants as lines
@@ -53,7 +54,7 @@ returns-in-end c = record {
       (words_read is _ text) (tag_of _ _ _ c.word.ensures is text c.in-end.is);
 }
 
--- a line of a state begins with one of the words
+-- A line of a state begins with one of the words.
 no_word : (word : StateTextBytes) (is : StateLine) → word ≡ get_or (split_words is) 0 [] → (word ≡ codes "clock" → ⊥) →
     (word ≡ codes "binding" → ⊥) → (word ≡ codes "redirect" → ⊥) → (word ≡ codes "flow" → ⊥) →
     (word ≡ codes "log" → ⊥) → (word ≡ codes "entry" → ⊥) → (word ≡ codes "end" → ⊥) →

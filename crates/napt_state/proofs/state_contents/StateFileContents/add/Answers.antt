@@ -1,3 +1,4 @@
+-- add: no line of a log follows another one or a binding, and no flow follows a binding that has ended.
 use Rattle.std.proofs.lemmas.Bool.{true≢false}
 use Rattle.std.proofs.Common.{rules, vec_items, vec_len, ◌≡◌, ◌==◌, length, List, Option, None, Some, [], true, false, refl, sym, ◌∙◌, ap, subst, arith}
 use Rattle.std.specs.Option.{is_some}

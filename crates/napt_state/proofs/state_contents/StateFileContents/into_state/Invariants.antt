@@ -1,8 +1,8 @@
+-- into_state: the bindings so far and those to come are all, and those so far are taken.
 use Rattle.std.{proofs.Common.{◌≡◌, ◌++◌}, specs.Vec.Iter.into_iter_items}
 use Rattle.napt_state.proofs.TakenUp.{TakesSoFar}
 use Rattle.napt_state.proofs.state_contents.StateFileContents.into_state.Given as goal
 
--- the bindings so far and those to come are all, and those so far are taken
 abbrev pub invariant-loop-binding : goal.invariant-loop-binding
 invariant-loop-binding l = record {
   split : l.yielded ++ into_iter_items l.binding-iterator ≡ into_iter_items l.initial.binding-iterator;

@@ -1,10 +1,10 @@
+-- saved: the contents so far are those of the lines that were read, and the lines after them are left.
 use Rattle.std.proofs.Common.{◌≡◌, ℕ, List, Some}
 use Rattle.napt_state.specs.StateFiles.{StateFileModel}
 use Rattle.napt_state.specs.{Saved.IsSaved, StateText.saved_text}
 use Rattle.napt_state.proofs.Reading.{IsAhead, Taken}
 use Rattle.napt_state.proofs.state_writer.SavedState.saved.Given as goal
 
--- what was said so far was read, and the lines behind it are left
 abbrev pub invariant-loop : goal.invariant-loop
 invariant-loop g l = record {
   read : (whole : StateFileModel) → IsSaved whole → g.R.Read.remaining l.fn.self.reader ≡ Some (saved_text whole) →

@@ -1,0 +1,5 @@
+pub mod Asked
+pub mod KeptEntries
+pub mod LogLaws
+pub mod Pieces
+pub mod SavedRows

@@ -1,0 +1,4 @@
+use Rattle.napt_attribution.proofs.saved_rows.binding_of.Goals as goal
+
+pub returns-in-Ok : goal.returns-in-Ok
+returns-in-Ok c = λ time event listed is. let same = c.in-Ok.ensures time event listed is in cc

@@ -1,0 +1,8 @@
+use Rattle.std.proofs.Common.{◌≡◌, ℕ, Option, take}
+use Rattle.std.specs.{BTreeSet.contains, List.list_any}
+use Rattle.napt_attribution.specs.Asked.{is_party, party_cmp}
+use Rattle.napt_attribution.proofs.wanted_endpoints.WantedEndpoints.of.Given as goal
+
+abbrev pub invariant-loop-one : goal.invariant-loop-one
+invariant-loop-one l = (address : ℕ) (number : Option ℕ) → contains party_cmp l.parties (address, number)
+    ≡ list_any (λ one. is_party address number one.request.party) (take l.one-index l.asked)

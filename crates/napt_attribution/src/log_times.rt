@@ -1,0 +1,101 @@
+//! The times of the rows of a saved log, and the times at which it has every binding.
+
+ghost use Rattle.std.specs.Prelude.{◌≡◌, ◌<◌, IfOk};
+
+use crate::row_fault::{RowFault, wrong};
+use napt_log_text::LogField;
+
+const NO_TIME: &str = "observationTimeNanoseconds: expected a number";
+
+/// The times of the rows so far, in ns.
+#[derive(Clone, Copy)]
+pub struct LogTimes {
+    /// The time at which the first binding other than a redirect was made.
+    first: u64,
+    /// The time of the first event other than the making of a binding.
+    behind_opening: Option<u64>,
+    /// The time of the last event.
+    last: u64,
+    /// Whether bindings are missing that ended before the log began, as in a new file of a log that goes on.
+    lacks: bool,
+    /// Whether bindings before the next one may be missing.
+    may_lack: bool,
+}
+
+impl LogTimes {
+    /// Returns the value before the first row.
+    pub fn new() -> LogTimes {
+        LogTimes {
+            first: u64::MAX,
+            behind_opening: None,
+            last: 0,
+            lacks: false,
+            may_lack: true,
+        }
+    }
+
+    /// Returns the time from which on the log has every binding, and that of its last event. If bindings are missing, it has
+    /// every binding only from the first event other than a making on.
+    pub fn covered(&self) -> (u64, u64) {
+        let first = match self.behind_opening {
+            _ if !self.lacks => self.first.min(self.last),
+            Some(at) => at,
+            None => self.last,
+        };
+        (first, self.last)
+    }
+
+    /// Returns the time at which a row makes a binding.
+    pub fn made(&mut self, time: LogField, is_redirect: bool) -> Result<u64, RowFault>
+        ensures { IfOk result (λ at. time ≡ LogField.Number at) }
+    {
+        let at = self.next(time)?;
+        if !is_redirect {
+            self.first = self.first.min(at);
+        }
+        Ok(at)
+    }
+
+    /// Returns the time of an event other than the making of a binding.
+    pub fn other(&mut self, time: LogField) -> Result<u64, RowFault>
+        ensures { IfOk result (λ at. time ≡ LogField.Number at) }
+    {
+        let at = self.next(time)?;
+        self.behind_opening = self.behind_opening.or(Some(at));
+        Ok(at)
+    }
+
+    /// Returns the number of a new binding: the next one or, where bindings may be missing, a later one.
+    pub fn number_behind(&mut self, made: u64, number: LogField) -> Result<u64, RowFault>
+        ensures { IfOk result (λ given. (number ≡ LogField.Number given) × (made < given)) }
+    {
+        let next = made.saturating_add(1);
+        let given = match number {
+            LogField::Number(number) => u64::try_from(number).unwrap_or(0),
+            _ => 0,
+        };
+        if given <= made || (given > next && !self.may_lack) {
+            return Err(RowFault::Number { next, given });
+        }
+        self.lacks |= given > next;
+        self.may_lack &= self.behind_opening.is_none();
+        Ok(given)
+    }
+
+    /// Returns the time of an event, which is no earlier than those above.
+    fn next(&mut self, time: LogField) -> Result<u64, RowFault>
+        ensures { IfOk result (λ at. time ≡ LogField.Number at) }
+    {
+        let LogField::Number(time) = time else {
+            return Err(wrong(NO_TIME));
+        };
+        match u64::try_from(time) {
+            Ok(at) if at >= self.last => {
+                self.last = at;
+                Ok(at)
+            }
+            Ok(_) => Err(wrong("observationTimeNanoseconds: it is earlier than in a row above")),
+            Err(_) => Err(wrong(NO_TIME)),
+        }
+    }
+}
