@@ -7,8 +7,8 @@ use crate::device::{DeviceFault, Source};
 use std::alloc::{AllocError, Global};
 use std::marker::Model;
 
-/// The size of the buffer in bytes, which is more than a record and its header have.
-const ROOM: usize = 1_048_576;
+/// How many bytes of a capture are read ahead at most: more than a record and its header have.
+pub const ROOM: usize = 1_048_576;
 
 /// The bytes read from a source and not yet consumed: at most 1,048,576.
 #[derive(Drop)]

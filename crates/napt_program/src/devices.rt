@@ -8,7 +8,7 @@ use crate::files::RunFiles;
 use crate::log_file::LogOutput;
 use crate::stop::{MEMORY, Stop};
 use either::{Either, Left, Right};
-use napt_capture::{EmptySource, NullSink, Watched};
+use napt_capture::{EmptySource, NullSink, ROOM, Watched};
 use std::alloc::Global;
 use std::io::{BufReader, BufWriter, Read, Write};
 
@@ -16,8 +16,8 @@ use std::io::{BufReader, BufWriter, Read, Write};
 pub(crate) const BUFFERED: usize = 65_536;
 
 /// The size of an output's buffer in bytes if there is a log. Between two flushes no more bytes
-/// come than both captures read ahead (`ROOM`), so none is written before the log has been flushed.
-pub(crate) const HELD: usize = 2_097_152;
+/// come than both captures read ahead, so none is written before the log has been flushed.
+pub(crate) const HELD: usize = 2 * ROOM;
 
 /// A device for each file of a run, as `RunFiles` names them. `EmptySource` stands for a capture
 /// that was not given, and `NullSink` for an output that was not requested.
