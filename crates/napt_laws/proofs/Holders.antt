@@ -4,7 +4,7 @@ use Rattle.std.{specs.List.list_any, proofs.Math.Nat.{mod-lt, mod-eq_of_lt, mul_
 use Rattle.std.proofs.lemmas.Nat.{pow-add, div-add-mod', div-mul-add}
 use Rattle.std.proofs.lemmas.Bool.{and_from, and_parts, or_parts, not-true, le-leb, le-ltb, ltb-false, false≢true, cases_lt}
 use Rattle.std.proofs.lemmas.List.{Elements.{All-head, All-tail}, Quantifiers.position-Some}
-use Rattle.napt_rules.specs.Prelude.{Each, IsPaired, IsBlockNumber, IsInItsBlock, RunsAreSound, RunsKeepToBlocks, PortBlock, PrefixModel, IsPrefix, prefix_has, prefix_size, do_prefixes_meet, are_prefixes_apart, host_index, address_at}
+use Rattle.napt_rules.specs.Prelude.{Each, IsPaired, IsBlockNumber, IsInItsBlock, TakenStatesAreSound, TakenStatesKeepToBlocks, PortBlock, PrefixModel, IsPrefix, prefix_has, prefix_size, do_prefixes_meet, are_prefixes_apart, host_index, address_at}
 use Rattle.napt_rules.specs.declared.Row.{Row}
 use Rattle.napt_laws.specs.Hosts.{BlocksNameTheirHosts, HostsHaveTheirBlocks, BlocksAreApart, HostIsNamed, RunsNameTheirHosts}
 use Rattle.napt_config.specs.Rules.{Rules, RulesInvariant, AreBlocks, IsPoolList, contains_address, pool_address_for, paired_address, pair_of, nth_block, block_in, block_of, block_has_number, host_at, host_of}
@@ -319,7 +319,7 @@ module _ (rules : Rules) (kept : RulesInvariant rules) where
   row_told : (one : Row) → IsPaired (pair_of rules) one → IsInItsBlock rules one → HostIsNamed rules one
   row_told one paired own loose = told_at one (block_of rules one.inside.address) paired refl (own loose)
 
-pub runs_tell : RunsAreSound → RunsKeepToBlocks → RunsNameTheirHosts
-runs_tell sound own rules kept inputs =
+pub runs_tell : TakenStatesAreSound → TakenStatesKeepToBlocks → RunsNameTheirHosts
+runs_tell sound own rules kept state takes inputs =
     each_of_both (IsPaired (pair_of rules)) (IsInItsBlock rules) (HostIsNamed rules) (row_told rules kept) _
-    (sound rules kept inputs).each (own rules kept inputs)
+    (sound rules kept state takes inputs).each (own rules kept state takes inputs)

@@ -2,7 +2,7 @@
 -- at all times, which the configuration alone gives.
 use Rattle.std.specs.Prelude.{◌≡◌, ℕ, true, false, List, map, Some, IfSome}
 use Rattle.napt_config.specs.Rules.{Rules, RulesInvariant, pair_of, block_of, block_has_number, host_of}
-use Rattle.napt_rules.specs.{declared.Row.Row, Prelude.{Each, row, Arrival, run, opening, PortBlock}}
+use Rattle.napt_rules.specs.{declared.Row.Row, Prelude.{Each, row, Arrival, PortBlock, State, TakesState, effect_from, with_redirects}}
 
 -- The host of each number of a host's block, at the host's external address, is that host.
 abbrev pub BlocksNameTheirHosts : Type 0
@@ -27,7 +27,8 @@ abbrev pub HostIsNamed : Rules → Row → Type 0
 HostIsNamed rules row = row.fixed ≡ false → IfSome (block_of rules row.inside.address)
     (λ block. host_of rules row.external.address row.external.number ≡ Some row.inside.address)
 
--- This holds of each binding after any inputs: who had a number is known without a log.
+-- This holds of each binding after any inputs from a state that the configuration takes: who had a number is known without
+-- a log.
 abbrev pub RunsNameTheirHosts : Type 0
-RunsNameTheirHosts = (rules : Rules) → RulesInvariant rules → (inputs : List Arrival) →
-    Each (HostIsNamed rules) (map row (run rules inputs (opening rules)).list)
+RunsNameTheirHosts = (rules : Rules) → RulesInvariant rules → (state : State) → TakesState rules state →
+    (inputs : List Arrival) → Each (HostIsNamed rules) (map row (effect_from rules (with_redirects rules state) inputs).list)

@@ -3,4 +3,4 @@ use Rattle.napt_laws.proofs.Holders.{runs_tell}
 use Rattle.napt_laws.proofs.hosts.runs_name_their_hosts.Goals as goal
 
 pub returns : goal.returns
-returns c = runs_tell c.runs_are_sound.ensures.sound c.runs_keep_to_blocks.ensures
+returns c = runs_tell c.taken_states_are_kept.ensures.sound c.taken_states_are_kept.ensures.blocks
