@@ -23,9 +23,7 @@ use crate::commands::CommandTexts;
 use crate::manual::{INSTALLED, OWN};
 use crate::options::{ExplainOptions, OutputForm, options_of};
 use crate::pairs::tell_pairs;
-use crate::reading::{
-    answer, configuration, open_captures, read_given, requests_of, saved_at,
-};
+use crate::reading::{answer, configuration, open_captures, read_given, requests_of, saved_at};
 use crate::run_setting::RunSetting;
 use clap::Error;
 use clap::error::ErrorKind;

@@ -30,7 +30,10 @@ pub fn tell_pairs<R: Print + Eprint + AllocGlobal>(
     let mut page = Page::new(rt.alloc());
     for (host, external) in moved.iter().take(MOST_PAIRS) {
         let (host, external) = (Address(*host), Address(*external));
-        writeln!(page.text, "[[pair]]\nhost = \"{host}\"\nexternal = \"{external}\"")?;
+        writeln!(
+            page.text,
+            "[[pair]]\nhost = \"{host}\"\nexternal = \"{external}\""
+        )?;
         page.turn(rt)?;
     }
     if moved.len() > MOST_PAIRS {
@@ -64,7 +67,9 @@ fn moved_hosts(
 /// Returns whether a configuration would give an inside host another external address than this one of its pool, and has no pair
 /// for it.
 fn is_moved(config: &Config, host: u32, external: u32) -> bool {
-    let by_index = config.pool().get(host as usize % config.pool().len().max(1));
+    let by_index = config
+        .pool()
+        .get(host as usize % config.pool().len().max(1));
     config.is_inside(host)
         && config.pool().contains(&external)
         && config.pair(host) != external

@@ -84,11 +84,13 @@ pub fn state_from<D: Read + Drop>(
     };
     let log = saved.log.map_or(LogEnd::default(), |log| log.end);
     match saved.take_up(alloc, config, ends_misfits)? {
-        Ok(TakenState {
-            state,
-            log: saved,
-            ended,
-        }) => Ok(ResumedState {
+        Ok(
+            TakenState {
+                state,
+                log: saved,
+                ended,
+            },
+        ) => Ok(ResumedState {
             state,
             saved,
             log,

@@ -104,7 +104,11 @@ fn a_log_goes_on_with_the_bindings_of_its_state(rt: HostRuntime) -> Result<(), F
     assert_eq!(rt; left.made, 3);
     assert!(rt; left.entries == resumed.before.entries);
     assert!(rt; numbers(alloc, &left.entries)?.as_slice() == [1, 3].as_slice());
-    assert!(rt; left.entries.get(1).is_some_and(|it| it.entry.end == Some(END)));
+    assert!(rt;
+        left.entries
+            .get(1)
+            .is_some_and(|it| it.entry.end == Some(END))
+    );
     let saved = left.saved(alloc, &state(alloc)?)?;
     assert!(rt; saved.accounts == kept.accounts);
     Ok(())
@@ -118,9 +122,19 @@ fn a_log_ends_what_the_configuration_leaves_out(rt: HostRuntime) -> Result<(), F
     let resumed = resumed(alloc, &config, &kept(alloc, 3, 2)?)?;
     assert!(rt; numbers(alloc, &resumed.before.entries)?.as_slice() == [1, 3].as_slice());
     assert!(rt; numbers(alloc, &resumed.ended)?.as_slice() == [1].as_slice());
-    assert!(rt; resumed.ended.first().is_some_and(|it| it.entry.end == Some(30_000)));
+    assert!(rt;
+        resumed
+            .ended
+            .first()
+            .is_some_and(|it| it.entry.end == Some(30_000))
+    );
     assert!(rt; numbers(alloc, &resumed.made)?.as_slice() == [4].as_slice());
-    assert!(rt; resumed.made.first().is_some_and(|it| it.entry.made == 30_000));
+    assert!(rt;
+        resumed
+            .made
+            .first()
+            .is_some_and(|it| it.entry.made == 30_000)
+    );
     let left = resumed.log.left(alloc)?;
     assert_eq!(rt; left.made, 4);
     assert!(rt; numbers(alloc, &left.entries)?.as_slice() == [3, 4].as_slice());

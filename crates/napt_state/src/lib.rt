@@ -19,7 +19,5 @@ pub use fault::{StateFault, StateField, StateReason};
 pub use line::{LogEnd, LogPosition};
 pub use saved_bindings::SavedBinding;
 pub use state_checks::first_misfit;
-pub use state_contents::{
-    StateFileContents, TakenState, ended_bindings_stay_ended, misfits_end,
-};
+pub use state_contents::{StateFileContents, TakenState, ended_bindings_stay_ended, misfits_end};
 pub use text::{read_state, write_state};

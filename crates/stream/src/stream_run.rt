@@ -15,9 +15,7 @@ use napt_program::{
     LogDevice, LogOutput, LogPieces, MEMORY, OptionsWithLog, OutputDevices, ProgramCall,
     ProgramHost, SeekableFile, Stop, stop_of_run,
 };
-use napt_run::{
-    Devices, Fault, LogStart, LogWriter, NoLog, RunEnd, Start, State, run_streams,
-};
+use napt_run::{Devices, Fault, LogStart, LogWriter, NoLog, RunEnd, Start, State, run_streams};
 use napt_state::{LogEnd, StateFileContents};
 use std::alloc::Global;
 use std::io::{BufWriter, Write};

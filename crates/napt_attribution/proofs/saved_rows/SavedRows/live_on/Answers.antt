@@ -19,6 +19,8 @@ pub returns-in-Some : goal.returns-in-Some
 returns-in-Some c = λ asked events listed tells is.
     let none = time_none listed.entry.end (sym (ap (λ (r : LogRow). r.time) is) ∙ c.in-Empty.is) in
     let found = c.in-Some.ensures asked (entries_in events) listed tells.keeps (ap (λ (r : LogRow). r.number) is)
-        (c.in_ok-binding.ensures listed.entry.end None listed is) in
-    (found.1, told_same asked c.args.self.now c.args.self.now events tells (Living listed) refl (no_end_told listed none)
-    refl refl refl)
+    (c.in_ok-binding.ensures listed.entry.end None listed is) in (
+      found.1,
+      told_same asked c.args.self.now c.args.self.now events tells (Living listed) refl (no_end_told listed none)
+          refl refl refl,
+    )

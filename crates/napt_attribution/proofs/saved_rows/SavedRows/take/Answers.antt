@@ -23,9 +23,12 @@ returns c = λ asked events event tells is.
           let refusal = w.is_refusal.ensures w.if-is_refusal.true in
           let least : 10 ≤ w.in-Number.event = omega (arith, refusal) in
           only_refused c.args.row.now (P c.match-row.self) w.in-Number.event w.in-Number.is least
-          (λ s. (tt, told_same asked c.args.self.now c.match-row.self events tells (Refused s) refl (λ number. refl)
-          (ap (λ (r : SavedRows). r.kept) w.self-is) (ap (λ (r : SavedRows). r.made) w.self-is)
-          (ap (λ (r : SavedRows). r.unrepeated) w.self-is))) event is
+          (λ s. (
+            tt,
+            told_same asked c.args.self.now c.match-row.self events tells (Refused s) refl (λ number. refl)
+                (ap (λ (r : SavedRows). r.kept) w.self-is) (ap (λ (r : SavedRows). r.made) w.self-is)
+                (ap (λ (r : SavedRows). r.unrepeated) w.self-is),
+          )) event is
       | in-Empty+in_ok-live_on-in-Empty w ↦
           subst (λ (s : SavedRows). P s event) (sym w.self-is)
           (only_living c.args.row.now (P w.live_on.new.self) w.in-Empty.is
