@@ -15,9 +15,6 @@ use Rattle.napt_sequential.specs.Inputs.{InputsCame}
 
 -- THE START
 
-pub none_is : {P : Type 0} {X : Type 0} (x : X) → None ≡ Some x → P
-none_is x is = absurd (let no : None ≡ Some x = is in cc)
-
 pub stream_begun : {R : Type 0} {G : Ghosts R} (stream : RecordStream R G) (records : RecordReader) (source : R)
     (bytes : Option (List ℕ)) → IsBehindHeader G records bytes source → stream.records ≡ records →
     stream.live.source.now ≡ source → stream.live.fault ≡ None → stream.cut ≡ None → IsStreamNew stream bytes

@@ -51,9 +51,6 @@ or_false false false h g = refl
 pub le_by : (a b : ℕ) → a ≤ b → nat_le a b ≡ true
 le_by a b by = grind (arith, nat_tests)
 
-pub lt_not : (a b : ℕ) → b < a → nat_le a b ≡ false
-lt_not a b by = grind (arith, nat_tests)
-
 module _ (made clock : ℕ) where
   -- The accounts that are still to be checked, after the given ones.
   abbrev pub fits : List Kept → List SavedBinding → Bool

@@ -1,3 +1,4 @@
+-- add_row: the row of an event is added to those before it.
 use Rattle.std.proofs.Common.{refl}
 use Rattle.napt_attribution.proofs.log_piece.LogPiece.add_row.Goals as goal
 

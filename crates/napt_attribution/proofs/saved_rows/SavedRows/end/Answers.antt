@@ -1,3 +1,4 @@
+-- end: the open entry of the row gets the time of the row as its end.
 use Rattle.std.proofs.{Common.{◌≡◌, ◌∙◌, ℕ, Option, Some, map, refl, sym, ap, subst, rules}, lemmas.Result.on_ok_weaker}
 use Rattle.napt_log_text.specs.declared.{event.LogEvent.TheVariants.Ended, log_row.LogRow.LogRow}
 use Rattle.napt_attribution.specs.SavedLogs.{KeepsAll, entries_in, entry_with_end}

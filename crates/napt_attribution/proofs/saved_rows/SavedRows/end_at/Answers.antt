@@ -1,3 +1,4 @@
+-- end_at: the open entry of a number gets this end, and no other entry changes.
 use Rattle.std.proofs.Common.{ℕ, Some, map, refl, subst}
 use Rattle.napt_attribution.specs.SavedLogs.{Keeps, entry_with_end}
 use Rattle.napt_attribution.proofs.SavedRows.{kept_ended, open_some}

@@ -1,3 +1,4 @@
+-- live_on: an entry that is open at the end of the log gets the end that its row names.
 use Rattle.std.proofs.{Common.{◌≡◌, ◌∙◌, ℕ, Option, None, Some, map, refl, sym, ap, subst}, lemmas.Result.on_ok_weaker}
 use Rattle.napt_log_text.specs.declared.{event.LogEvent.TheVariants.Living, log_row.LogRow.LogRow}
 use Rattle.napt_attribution.specs.SavedLogs.{KeepsAll, entries_in, entry_with_end}

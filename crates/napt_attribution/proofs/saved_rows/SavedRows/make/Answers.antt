@@ -1,3 +1,4 @@
+-- make: the row begins an entry with its number and its time.
 use Rattle.std.proofs.Common.{◌≡◌, ◌∙◌, ◌∷◌, ◌++◌, ◌<◌, [], ℕ, None, Some, refl, sym, ap, ap₂, subst}
 use Rattle.napt_rules.specs.declared.Row.{Row}
 use Rattle.napt_account.specs.{declared.log.{Entry.Entry, LogEntry.LogEntry}, Log.unused_entry}

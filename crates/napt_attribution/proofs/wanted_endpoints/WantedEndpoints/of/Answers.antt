@@ -1,3 +1,4 @@
+-- of: the sets have the addresses and the endpoints that the requests name, and no others.
 use Rattle.std.proofs.Common.{Some, None, arith}
 use Rattle.napt_attribution.proofs.Asked.{all_named, one_more}
 use Rattle.napt_attribution.proofs.wanted_endpoints.WantedEndpoints.of.Goals as goal
