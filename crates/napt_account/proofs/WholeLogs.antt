@@ -11,7 +11,7 @@ use Rattle.napt_rules.specs.Prelude.{Binding, Each, act, LegAct, Arrival, RunEff
 use Rattle.napt_laws.proofs.{OneMoreInput.{grows, clock_more}, Turns.InTurn}
 use Rattle.napt_sequential.specs.{declared.passage.Passage.{Passage, TheVariants.{Nothing, Made, Out, In, Dropped}}, Traces.passage_of}
 use Rattle.napt_account.specs.{declared.log.{Entry.Entry, LogEntry.LogEntry, Shortage.Shortage}, Log.{LogModel, counted, made_by, use_entry, with_use, shortages_of, after_leg, after_record, log_on}}
-use Rattle.napt_account.specs.LogParts.{IsNumbered, LogDelta, ends_first, ends_within, in_order_of_end, is_behind, is_open, placed}
+use Rattle.napt_account.specs.LogParts.{IsNumbered, LogDelta, ends_first, ends_within, in_order_of_end, is_after, is_open, placed}
 use Rattle.napt_account.specs.{ResumedLogRuns.part_of, WholeLogs.{ArePartsOfLog, PartsAreTheLog, parts_joined, origin}}
 use Rattle.napt_account.proofs.{Effects.step_turn, Entries.{counted_binding, counted_made}, Leaves.{LeavesOpen, turn_leaves}, Lists.{filter_agrees, filter_joined, filter_seen, map_agrees, map_joined, map_twice}}
 use Rattle.napt_account.proofs.GoingOn.{filter_twice, fold_joined, none_behind, numbered_all}
@@ -108,7 +108,7 @@ Origin = ℕ × (Row × ℕ)
 
 -- A later log has the origins of an earlier one, and after them those with later numbers; and likewise its shortages.
 record Grown (one other : LogModel) : Type 0 where
-  pub origins : map origin other.entries ≡ map origin one.entries ++ map origin (filter (is_behind one.made) other.entries)
+  pub origins : map origin other.entries ≡ map origin one.entries ++ map origin (filter (is_after one.made) other.entries)
   pub more : one.made ≤ other.made
   pub lost : List Shortage
   pub shortages : other.shortages ≡ one.shortages ++ lost
@@ -138,8 +138,8 @@ module _ (one log : LogModel) (grown : Grown one log) where
       origins = same_origins log.entries
           ∙ (grown.origins
           ∙ ap (λ (os : List Origin). map origin one.entries ++ os)
-          (sym (same_origins (filter (is_behind one.made) log.entries))
-          ∙ ap (map origin) (sym (filter_seen (is_behind one.made) used log.entries))));
+          (sym (same_origins (filter (is_after one.made) log.entries))
+          ∙ ap (map origin) (sym (filter_seen (is_after one.made) used log.entries))));
       more = grown.more;
       lost = grown.lost;
       shortages = grown.shortages;
@@ -148,10 +148,10 @@ module _ (one log : LogModel) (grown : Grown one log) where
   grown_made : (now : ℕ) (timed : TimedRow) → Grown one (after_leg now (Made timed) log)
   grown_made now timed =
       let new : LogEntry = record { number = log.made + 1; entry = made_by now timed } in
-      let behind : is_behind one.made new ≡ true = (let le = grown.more in grind (arith, nat_tests, le)) in
-      let old : List LogEntry = filter (is_behind one.made) log.entries in
-      let whole : filter (is_behind one.made) (log.entries ++ new ∷ []) ≡ old ++ new ∷ [] =
-      filter_joined (is_behind one.made) log.entries (new ∷ []) ∙ ap (λ v. old ++ cond v (new ∷ []) []) behind in
+      let behind : is_after one.made new ≡ true = (let le = grown.more in grind (arith, nat_tests, le)) in
+      let old : List LogEntry = filter (is_after one.made) log.entries in
+      let whole : filter (is_after one.made) (log.entries ++ new ∷ []) ≡ old ++ new ∷ [] =
+      filter_joined (is_after one.made) log.entries (new ∷ []) ∙ ap (λ v. old ++ cond v (new ∷ []) []) behind in
       record {
         origins = map_joined origin log.entries (new ∷ [])
             ∙ (ap (λ (os : List Origin). os ++ map origin (new ∷ [])) grown.origins

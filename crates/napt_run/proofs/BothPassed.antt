@@ -20,7 +20,7 @@ use Rattle.napt_run.specs.{OutputSinks.{FailsToBegin, SinkTakes, TimedOutcomes},
 use Rattle.napt_run.specs.LoggedOutputSinks.{AreSettled, FailsEither, FailsLog, FailsOutput, IsSameSinkPlace, TakesBoth, legs_in, outcomes_in}
 use Rattle.napt_run.specs.CaptureRuns.{EntersBy, EntersFirst, EntersOr, EntersTo, FailsAfter, FailsFirst, PassesBy, PassesOr, RunPassesHalted, RunPassesTo}
 use Rattle.napt_run.specs.{Posts.IsBeforeReport, Runs.{IfHeld, run_left_of}, declared.{capture_run.Totals.Totals, output_sinks.Leaving.Leaving, logged_output_sinks.LeavingWithLog.LeavingWithLog}}
-use Rattle.napt_run.proofs.{Behind.{Refuses, fault_of, front, refused_held, taken_of, whole_is}, Ends.none_held, Fronts.outcomes_of, TraceFronts.{TraceFront, trace_front}}
+use Rattle.napt_run.proofs.{AfterHeaders.{Refuses, fault_of, front, refused_held, taken_of, whole_is}, Ends.none_held, Fronts.outcomes_of, TraceFronts.{TraceFront, trace_front}}
 
 -- WHAT LEAVES
 
