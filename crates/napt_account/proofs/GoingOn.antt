@@ -15,7 +15,8 @@ use Rattle.napt_account.proofs.Lists.{each_mapped, filter_joined, filter_seen}
 
 -- LISTS
 
-pub fold_joined : {S X : Type 0} (f : S → X → S) (xs ys : List X) (s : S) → fold f s (xs ++ ys) ≡ fold f (fold f s xs) ys
+pub fold_joined : {S X : Type 0} (f : S → X → S) (xs ys : List X) (s : S) → fold f s (xs ++ ys) ≡
+    fold f (fold f s xs) ys
 fold_joined f [] ys s = refl
 fold_joined f (x ∷ xs) ys s = fold_joined f xs ys (f s x)
 
@@ -73,7 +74,8 @@ few_leg now (In timed) log = omega arith
 few_leg now (Dropped loss) log = omega arith
 
 module _ (timers : Timers) where
-  pub numbered_all : (acts : List LegAct) (log : LogModel) → IsNumbered log → IsNumbered (fold (after_record timers) log acts)
+  pub numbered_all : (acts : List LegAct) (log : LogModel) → IsNumbered log →
+      IsNumbered (fold (after_record timers) log acts)
   numbered_all [] log h = h
   numbered_all (a ∷ acts) log h =
       numbered_all acts (after_record timers log a) (numbered_leg a.leg.now _ log h)
@@ -271,7 +273,8 @@ module _ (rules : Rules) (state then : State) (log : LogModel) (numbered : IsNum
         (log_on rules then told (rest ++ input ∷ [])) (log_on rules then kept rest)
         (log_on rules then kept (rest ++ input ∷ [])) (same rest)
         (subst (λ (t : ℕ). AreSame t told.made told.shortages (log_on rules then told (rest ++ input ∷ []))
-        (log_on rules then kept (rest ++ input ∷ []))) (clock_on then.clock rest (input ∷ [])) (same (rest ++ input ∷ [])))
+        (log_on rules then kept (rest ++ input ∷ []))) (clock_on then.clock rest (input ∷ []))
+        (same (rest ++ input ∷ [])))
         (made_more rest)
         ∙ ap (λ (l : LogModel). part_of rules then l rest input) (sym kept_here)));
     left =

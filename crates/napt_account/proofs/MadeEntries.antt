@@ -85,7 +85,8 @@ module _ (now made : ℕ) where
       pushed_new x (made_by now timed) le
       ∙ (ap (λ (ns : List LogEntry). ns ++ record { number = x.made + 1; entry = made_by now timed } ∷ []) none
       ∙ sym (ap option_to_list (made_open timed x comes)))
-  first_is (Out timed) x none le comes = used_new Outgoing timed x.entries ∙ ap (map (use_entry Outgoing now timed)) none
+  first_is (Out timed) x none le comes = used_new Outgoing timed x.entries ∙
+      ap (map (use_entry Outgoing now timed)) none
   first_is (In timed) x none le comes = used_new Incoming timed x.entries ∙ ap (map (use_entry Incoming now timed)) none
   first_is (Dropped loss) x none le comes = none
 
@@ -163,5 +164,6 @@ pub made_is : (now : ℕ) (first second : Passage) (log : LogModel) → IsNumber
     made_entry now first last ++ made_entry now second last ≡ filter (is_after log.made) last.entries)
 made_is now first second log numbered comes then =
     let mid : LogModel = after_leg now first log in
-    sym (second_is now log.made first second mid (more_leg now first log) then (first_there now log.made first log comes)
+    sym (second_is now log.made first second mid (more_leg now first log) then
+    (first_there now log.made first log comes)
     (first_is now log.made first log (none_behind log.made log.entries numbered) (omega arith) comes))

@@ -16,7 +16,8 @@ HasRows entries all = (x : EntryKey) →
 -- The set has the endpoint of a row exactly if the row shares the endpoint of an entry.
 pub share_either : (r s : Row) → external_eq (entry_key s) (entry_key r) ≡ shares r s
 share_either r s = elim (shares r s) as (λ v. shares r s ≡ v → external_eq (entry_key s) (entry_key r) ≡ v) [
-  | true ↦ λ e. ap (λ (k : EntryKey). external_eq k (entry_key r)) (sym (key_shares r s e)) ∙ external_itself (entry_key r)
+  | true ↦ λ e. ap (λ (k : EntryKey). external_eq k (entry_key r)) (sym (key_shares r s e)) ∙
+      external_itself (entry_key r)
   | false ↦ λ e. elim (external_eq (entry_key s) (entry_key r)) as (λ v.
       external_eq (entry_key s) (entry_key r) ≡ v → v ≡ false) [
         | true ↦ λ g. sym (shares_key r s (sym (external_is (entry_key s) (entry_key r) g))) ∙ e

@@ -65,5 +65,6 @@ begun_numbered rules state before =
 pub log_rises : (rules : Rules) (inputs : List Arrival) → Rises 1 (log_of rules inputs).entries
 unfolding log_on
 log_rises rules inputs =
-    rises_all rules.timers (effect_from rules (initial_state rules) inputs).acts (begun_after 0 rules (initial_state rules))
+    rises_all rules.timers (effect_from rules (initial_state rules) inputs).acts
+    (begun_after 0 rules (initial_state rules))
     (begun_numbered rules (initial_state rules) 0) (rises_from (0 + 1) _)

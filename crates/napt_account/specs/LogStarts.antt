@@ -72,7 +72,8 @@ abbrev pub has_redirect : Rules → Row → Bool
 has_redirect rules wanted =
     list_any (λ b. has_ends wanted.protocol wanted.inside wanted.external (row b)) (opening rules)
 
--- The end of a binding's entry under a configuration. A redirect that the configuration does not have ends at the clock.
+-- The end of a binding's entry under a configuration. A redirect that the configuration does not have ends at the
+-- clock.
 abbrev pub resumed_end : Rules → ℕ → Binding → Option ℕ
 resumed_end rules clock binding =
     cond binding.row.fixed (cond (has_redirect rules binding.row) None (Some clock)) (end_of rules.timers binding)

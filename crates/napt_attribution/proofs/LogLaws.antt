@@ -97,7 +97,8 @@ module _ (rules : Rules) (state : State) (log : LogModel) where
       ≡ parts_joined (λ b i. (part_of rules state log b i).made) before inputs
   made_after before [] = refl
   made_after before (input ∷ inputs) =
-      made_joined (part_events (part_of rules state log before input)) (events_after rules state log (before ++ input ∷ []) inputs)
+      made_joined (part_events (part_of rules state log before input))
+      (events_after rules state log (before ++ input ∷ []) inputs)
       ∙ ap₂ (λ (xs ys : List LogEntry). xs ++ ys) (made_of_part (part_of rules state log before input))
       (made_after (before ++ input ∷ []) inputs)
 
@@ -105,7 +106,8 @@ module _ (rules : Rules) (state : State) (log : LogModel) where
       ≡ parts_joined (λ b i. (part_of rules state log b i).ended) before inputs
   tellers_after before [] = refl
   tellers_after before (input ∷ inputs) =
-      tellers_joined (part_events (part_of rules state log before input)) (events_after rules state log (before ++ input ∷ []) inputs)
+      tellers_joined (part_events (part_of rules state log before input))
+      (events_after rules state log (before ++ input ∷ []) inputs)
       ∙ ap₂ (λ (xs ys : List LogEntry). xs ++ ys) (tellers_of_part (part_of rules state log before input))
       (tellers_after (before ++ input ∷ []) inputs)
 
@@ -114,18 +116,22 @@ module _ (rules : Rules) (state : State) (log : LogModel) where
 
   made_of_run : (inputs : List Arrival) (living : List LogEntry) → made_in (events inputs living)
       ≡ log.entries ++ all_parts (λ part. part.made) rules state log inputs
-  made_of_run inputs living = made_joined (map Made log.entries ++ events_after rules state log [] inputs) (map Living living)
+  made_of_run inputs living = made_joined (map Made log.entries ++ events_after rules state log [] inputs)
+      (map Living living)
       ∙ (ap₂ (λ (xs ys : List LogEntry). xs ++ ys)
       (made_joined (map Made log.entries) (events_after rules state log [] inputs)
-      ∙ ap₂ (λ (xs ys : List LogEntry). xs ++ ys) (made_of_made log.entries) (made_after [] inputs)) (made_of_living living)
+      ∙ ap₂ (λ (xs ys : List LogEntry). xs ++ ys) (made_of_made log.entries) (made_after [] inputs))
+      (made_of_living living)
       ∙ append-nil (log.entries ++ all_parts (λ part. part.made) rules state log inputs))
 
   tellers_of_run : (inputs : List Arrival) (living : List LogEntry) → tellers (events inputs living)
       ≡ all_parts (λ part. part.ended) rules state log inputs ++ living
-  tellers_of_run inputs living = tellers_joined (map Made log.entries ++ events_after rules state log [] inputs) (map Living living)
+  tellers_of_run inputs living = tellers_joined (map Made log.entries ++ events_after rules state log [] inputs)
+      (map Living living)
       ∙ ap₂ (λ (xs ys : List LogEntry). xs ++ ys)
       (tellers_joined (map Made log.entries) (events_after rules state log [] inputs)
-      ∙ ap₂ (λ (xs ys : List LogEntry). xs ++ ys) (tellers_of_made log.entries) (tellers_after [] inputs)) (tellers_of_living living)
+      ∙ ap₂ (λ (xs ys : List LogEntry). xs ++ ys) (tellers_of_made log.entries) (tellers_after [] inputs))
+      (tellers_of_living living)
 
 -- AN END AMONG ENTRIES WHOSE NUMBERS DIFFER
 
@@ -135,7 +141,8 @@ other_number l number later apart =
 
 none_told : (number : ℕ) (ls : List LogEntry) → Each (λ m. number ≢ m.number) ls → end_by ls number ≡ None
 none_told number [] h = refl
-none_told number (l ∷ ls) h = other_number l number (end_by ls number) (λ same. h.0 (sym same)) ∙ none_told number ls h.1
+none_told number (l ∷ ls) h = other_number l number (end_by ls number) (λ same. h.0 (sym same)) ∙
+    none_told number ls h.1
 
 or_nothing : (a : Option ℕ) → option_or a None ≡ a
 or_nothing None = refl
@@ -188,12 +195,14 @@ rows_tell parts rules invariant inputs =
     let tells : List LogEntry = all_parts (λ part. part.ended) rules state log inputs ++ living in
     let differ : Differ tells = differ_moved ls tells (IsPermutation-sym tells ls told.entries)
     (rises_differ 1 ls (log_rises rules inputs)) in
-    let ends : Each (λ l. row_end_among es l.number ≡ l.entry.end) ls = has_each (λ l. row_end_among es l.number ≡ l.entry.end) ls (λ l has.
+    let ends : Each (λ l. row_end_among es l.number ≡ l.entry.end) ls =
+    has_each (λ l. row_end_among es l.number ≡ l.entry.end) ls (λ l has.
     end_of_tellers es l.number
     ∙ (ap (λ (ms : List LogEntry). end_by ms l.number) (tellers_of_run rules state log inputs living)
     ∙ end_of tells differ l (has_back tells ls told.entries l has))) in
     by_origin (row_end_among es) (made_in es)
-    ∙ (ap (λ (ms : List LogEntry). map (bare_of (row_end_among es)) (map origin ms)) (made_of_run rules state log inputs living)
+    ∙ (ap (λ (ms : List LogEntry). map (bare_of (row_end_among es)) (map origin ms))
+    (made_of_run rules state log inputs living)
     ∙ (ap (map (bare_of (row_end_among es))) told.made
     ∙ (sym (by_origin (row_end_among es) ls) ∙ with_own_ends (row_end_among es) ls ends)))
 
@@ -215,7 +224,8 @@ asked_of (other ∷ asked) one (inl same) e is =
     subst (λ (x : HolderRequest). is_meant x.request.party e.binding.external ≡ true) (sym same) (both_second _ _ is) in
     ap (λ (b : Bool). b || is_asked_about asked e.binding.external) meant
 asked_of (other ∷ asked) one (inr has) e is =
-    or_true (is_meant other.request.party e.binding.external) (is_asked_about asked e.binding.external) (asked_of asked one has e is)
+    or_true (is_meant other.request.party e.binding.external) (is_asked_about asked e.binding.external)
+    (asked_of asked one has e is)
 
 outside : (h a : Bool) → (h ≡ true → a ≡ true) → a ≡ false → h ≡ false
 outside true a within none = sym (within refl) ∙ none
@@ -226,12 +236,16 @@ both_first true b h = refl
 both_first false b h = h
 
 module _ (h a : Entry → Bool) (within : (e : Entry) → h e ≡ true → a e ≡ true) where
-  among : (ls : List LogEntry) → filter h (map (λ l. l.entry) (filter (λ l. a l.entry) ls)) ≡ filter h (map (λ l. l.entry) ls)
+  among : (ls : List LogEntry) → filter h (map (λ l. l.entry) (filter (λ l. a l.entry) ls)) ≡
+      filter h (map (λ l. l.entry) ls)
   among [] = refl
-  among (l ∷ ls) = elim (a l.entry) as (λ b. a l.entry ≡ b → filter h (map (λ m. m.entry) (cond b (l ∷ filter (λ m. a m.entry) ls)
-      (filter (λ m. a m.entry) ls))) ≡ cond (h l.entry) (l.entry ∷ filter h (map (λ m. m.entry) ls)) (filter h (map (λ m. m.entry) ls))) [
+  among (l ∷ ls) = elim (a l.entry) as (λ b. a l.entry ≡ b →
+      filter h (map (λ m. m.entry) (cond b (l ∷ filter (λ m. a m.entry) ls)
+      (filter (λ m. a m.entry) ls))) ≡ cond (h l.entry) (l.entry ∷ filter h (map (λ m. m.entry) ls))
+      (filter h (map (λ m. m.entry) ls))) [
         | true ↦ λ is. ap (λ (xs : List Entry). cond (h l.entry) (l.entry ∷ xs) xs) (among ls)
-        | false ↦ λ is. among ls ∙ sym (ap (λ (b : Bool). cond b (l.entry ∷ filter h (map (λ m. m.entry) ls)) (filter h (map (λ m. m.entry) ls)))
+        | false ↦ λ is. among ls ∙ sym (ap (λ (b : Bool). cond b (l.entry ∷ filter h (map (λ m. m.entry) ls))
+            (filter h (map (λ m. m.entry) ls)))
             (outside (h l.entry) (a l.entry) (within l.entry) is))
       ] refl
 

@@ -139,7 +139,8 @@ logs_join on rules state origin numbered first =
 
 pub pieces_stand_alone : LogsGoOn → PiecesStandAlone
 pieces_stand_alone on rules state origin numbered each first input rest begins =
-    alone rules state (next_state rules state first) origin first (on rules state origin.log numbered first) refl each input
+    alone rules state (next_state rules state first) origin first (on rules state origin.log numbered first) refl each
+    input
     begins rest
 
 pub saved_logs_join : SavedLogsGoOn → SavedLogsJoin
@@ -173,7 +174,8 @@ module _ (are : EffectsAreTheLog) (rules : Rules) (state : State) (log : LogMode
     log_next =
         ap (λ (l : LogModel). after_input l effects) (sym (are rules state log before))
         ∙ (sym (fold_joined after_input (traces_of rules state before) (effects ∷ []) log)
-        ∙ (ap (log_after log) (sym (traces_grow rules 0 state.clock before input state.list (length before) (omega arith)))
+        ∙ (ap (log_after log) (sym (traces_grow rules 0 state.clock before input state.list (length before)
+        (omega arith)))
         ∙ are rules state log (before ++ input ∷ [])))
 
     list_next : (effect_from rules state (before ++ input ∷ [])).list ≡ course.list

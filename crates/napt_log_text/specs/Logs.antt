@@ -121,7 +121,8 @@ LogsJoin = (rules : Rules) (state : State) (origin : LogOrigin) → IsNumbered o
     Join rules state (next_state rules state first) origin first rest
 
 abbrev pub SavedLogsJoin : Type 0
-SavedLogsJoin = (rules : Rules) → RulesInvariant rules → (state saved : State) → TakesState rules state → (origin : LogOrigin) →
+SavedLogsJoin = (rules : Rules) → RulesInvariant rules → (state saved : State) → TakesState rules state →
+    (origin : LogOrigin) →
     IsNumbered origin.log → (first rest : List Arrival) →
     IsStateInOrder rules (next_state rules (with_redirects rules state) first) saved →
     Join rules (with_redirects rules state) (with_redirects rules saved) origin first rest

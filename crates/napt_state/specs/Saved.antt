@@ -1,7 +1,8 @@
 -- What a run saves of its state and its log, and what another one takes up.
 --
--- RFC 6888, REQ-8: an external number is held for a time after its binding has ended. So a binding that has ended is saved
--- with its end, and whatever timers the next run has, it ended then: it is not live again, and its number is held as long.
+-- RFC 6888, REQ-8: an external number is held for a time after its binding has ended. So a binding that has ended is
+-- saved with its end, and whatever timers the next run has, it ended then: it is not live again, and its number is held
+-- as long.
 use Rattle.napt_state.specs.StateFiles.{StateFileModel}
 use Rattle.std.specs.Prelude.{◌≡◌, ℕ, ◌-◌, ◌*◌, ◌^◌, ◌≤◌, nat_le, Bool, true, false, ◌&&◌, cond, List, [], ◌∷◌, map, flat_map, Option, Some, None, Result, Ok, Err}
 use Rattle.napt_config.specs.Rules.{Rules}

@@ -5,5 +5,6 @@ use Rattle.napt_run.proofs.log_writer.LogWriterStreamLog.flush_after.Goals as go
 
 pub returns : goal.returns
 returns g c open_gate origin inside outside start opened ready opens logs =
-    halted origin inside outside start ready opened c.args.self.now opens open_gate c.args.fault.now c.flush_rest.new.self
+    halted origin inside outside start ready opened c.args.self.now opens open_gate c.args.fault.now
+    c.flush_rest.new.self
     logs c.flush_rest.ensures
