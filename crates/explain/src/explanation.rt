@@ -136,7 +136,7 @@ impl<'a, 'b, O: Drop> Explanation<'a, 'b, O> {
             packets,
             first,
             last,
-            later: flaws.back.far(),
+            later: flaws.back.length(),
             cuts: flaws.cuts,
             are_answers: remotes.are_answers(&losses),
             losses,
@@ -174,7 +174,7 @@ impl<R: Print + Eprint + AllocGlobal, O: CommandOutput<R> + Drop> Consumer<R>
         let line = PacketLine::of(passing, self.replies);
         self.unmatched.take(alloc, line, &step.part.made)?;
         self.output.take(rt, config, passing, &mut self.page.text)?;
-        self.page.turn(rt)?;
+        self.page.write_if_full(rt)?;
         self.progress.print(rt, number);
         Ok(())
     }

@@ -47,12 +47,12 @@ impl<'m> ExplainOptions<'m> {
     }
 
     /// Returns the role of the first option whose standard stream another option already uses, the log last.
-    pub fn standard_again(&self) -> Option<FileRole> {
+    pub fn repeated_stream(&self) -> Option<FileRole> {
         let files = &self.files;
         let has_output = files.is_standard(FileRole::ToOutside)
             || files.is_stream(FileRole::ToInside)
             || files.is_stream(FileRole::Report);
-        match files.standard_again() {
+        match files.repeated_stream() {
             None if has_output && self.is_log_stream() => Some(FileRole::Log),
             again => again,
         }

@@ -3,7 +3,7 @@
 
 use crate::options::ExplainOptions;
 use napt_commands::{Exit, unwritten};
-use napt_program::{FileRole, Stop, again_text, closed_text, is_same, place_of, shared_text};
+use napt_program::{FileRole, Stop, closed_text, is_same, place_of, same_file_text, shared_text};
 use std::alloc::AllocError;
 use std::fs;
 use std::rt::Files;
@@ -41,7 +41,7 @@ fn print_again<R: Eprint + AllocGlobal>(
     path: &str,
     other: &str,
 ) -> Result<bool, AllocError> {
-    let text = again_text(rt.alloc(), name, path, other)?;
+    let text = same_file_text(rt.alloc(), name, path, other)?;
     print_if(rt, Ok(Some(text)))
 }
 

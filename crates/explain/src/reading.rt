@@ -175,7 +175,7 @@ fn refuse_shared<R: Eprint + AllocGlobal>(
     rt: &R,
     options: &ExplainOptions<'_>,
 ) -> Result<(), Exit> {
-    if let Some(role) = options.standard_again() {
+    if let Some(role) = options.repeated_stream() {
         return Err(print_shared(rt, options.named().option_of(role), role));
     }
     refuse_more_input(

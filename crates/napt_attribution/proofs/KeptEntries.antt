@@ -5,7 +5,7 @@ use Rattle.std.specs.{BTreeMap.{BTreeMap, InsertsAll, IsOrdered, get, is_at}, Cm
 use Rattle.napt_rules.specs.Prelude.{Each}
 use Rattle.napt_account.specs.{declared.log.{Entry.Entry, LogEntry.LogEntry}, LogParts.Rises}
 use Rattle.napt_account.proofs.Rising.{rises_above, rises_filter, rises_mapped}
-use Rattle.napt_attribution.specs.{Asked.{is_asked_about, is_wanted}, SavedLogs.{Keeps, asked_entries, entry_of, entry_with_end, has_no_end, is_ended_and_asked, passing}, declared.{requests.HolderRequest.HolderRequest, kept_entries.KeptEntries.KeptEntries, wanted_endpoints.WantedEndpoints.WantedEndpoints}}
+use Rattle.napt_attribution.specs.{RequestParties.{is_asked_about, is_wanted}, SavedLogs.{Keeps, asked_entries, entry_of, entry_with_end, has_no_end, is_ended_and_asked, passing}, declared.{requests.HolderRequest.HolderRequest, kept_entries.KeptEntries.KeptEntries, wanted_endpoints.WantedEndpoints.WantedEndpoints}}
 
 -- ONE MORE
 

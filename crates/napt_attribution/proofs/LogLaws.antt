@@ -8,7 +8,7 @@ use Rattle.napt_rules.specs.declared.Row.{Row}
 use Rattle.napt_account.specs.{Questions.is_meant, declared.log.{Entry.Entry, LogEntry.LogEntry, Shortage.Shortage}, Log.{LogModel, begun_after, first_entry, log_of, log_on, numbered_from, unnumbered, unused_entry}, LogParts.{IsNumbered, LogDelta, in_order_of_end, is_open, living_at}, OpenEntries.Has, ResumedLogRuns.{left_of, part_of}, WholeLogs.{ArePartsOfLog, PartsAreTheLog, all_parts, origin, parts_joined}}
 use Rattle.napt_account.proofs.{InOrder.{Differ, each_has, has_each}, Numbers.{begun_numbered, differ_moved, log_rises}, Rising.rises_differ, Sorted.{has_back, has_moved}}
 use Rattle.napt_log_text.specs.{LogReaders.{events_after, log_events, part_events}, Logs.log_anew, Requests.{holders, is_asked, is_holder, meets}, declared.{event.LogEvent.{LogEvent, TheVariants.{Made, Ended, Living, Refused}}, request.{Request.Request, TimeSpan.TimeSpan}}}
-use Rattle.napt_attribution.specs.{Asked.is_asked_about, LogLaws.{RowsNameTheHolders, RowsTellTheLog, without_counts}, SavedLogs.{asked_entries, bare_entry, row_end_among, end_told, entries_in, made_in}, declared.requests.HolderRequest.HolderRequest}
+use Rattle.napt_attribution.specs.{RequestParties.is_asked_about, LogLaws.{RowsNameTheHolders, RowsTellTheLog, without_counts}, SavedLogs.{asked_entries, bare_entry, row_end_among, end_told, entries_in, made_in}, declared.requests.HolderRequest.HolderRequest}
 
 -- THE ROWS THAT TELL AN END, by their entries
 
@@ -43,7 +43,7 @@ made_joined (Ended l ∷ es) fs = made_joined es fs
 made_joined (Living l ∷ es) fs = made_joined es fs
 made_joined (Refused s ∷ es) fs = made_joined es fs
 
--- what each kind of rows has
+-- What each kind of row has.
 made_of_made : (ls : List LogEntry) → made_in (map Made ls) ≡ ls
 made_of_made [] = refl
 made_of_made (l ∷ ls) = ap (λ (ms : List LogEntry). l ∷ ms) (made_of_made ls)
@@ -176,7 +176,7 @@ with_own_ends end [] h = refl
 with_own_ends end (l ∷ ls) h =
     ap₂ (λ (x : Option ℕ) (ms : List LogEntry). bare_entry x l ∷ ms) h.0 (with_own_ends end ls h.1)
 
--- the redirects never end
+-- The redirects never end.
 begun_open : (rules : Rules) (number : ℕ) (redirects : List Redirect) → Each (λ n. is_open 0 n ≡ true)
     (numbered_from number (map (first_entry rules.timers 0) (map (with_live_flows rules.timers 0)
     (filter (is_live rules.timers 0) (map (redirect_binding (pair_of rules)) redirects)))))

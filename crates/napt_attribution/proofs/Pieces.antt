@@ -6,13 +6,13 @@ use Rattle.napt_rules.specs.Prelude.{Each}
 use Rattle.napt_log_text.specs.{LogReaders.LogUnlessUnread, LogRows.IsEvent, Rows.csv_row, declared.{event.LogEvent.LogEvent, log_reader.LogFileFault.LogFileFault, log_row.LogRow.LogRow}}
 use Rattle.napt_attribution.specs.{SavedLogs.{FollowAll, Follows, Tells, entries_in}, declared.{requests.HolderRequest.HolderRequest, saved_rows.SavedRows.SavedRows}}
 
--- where the read failed, so does what needs it
+-- If the read failed, so does what needs it.
 pub unless : {A B E : Type 0} (read : Result A LogFileFault) (fact : Type 0) (result : Result B E) (P : B → Type 0) →
     LogUnlessUnread read fact → (fact → IfOk result P) → (IsErr read → IsErr result) → IfOk result P
 unless (Ok x) fact result P h given fails = given h
 unless (Err e) fact result P h given fails = IfOk-from_err result P (fails refl)
 
--- of a log of these events, with these bytes left
+-- A piece of a log of these events, with these bytes left.
 pub record IsRead (rules : Rules) (asked : List HolderRequest) (events : List LogEvent) (left : Option (List ℕ))
     (rows : SavedRows) : Type 0 where
   pub done : List LogEvent
@@ -78,11 +78,11 @@ begins rules asked events left rows fit bytes tells = record {
   follow = λ h. h;
 }
 
--- a row that was read
+-- A row that was read.
 pub same_row : (told row : LogRow) → Some told ≡ Some row → row ≡ told
 same_row told row h = cc
 
--- behind an empty buffer is what the device has
+-- After an empty buffer comes what the device has.
 pub behind_buffer : (capacity : ℕ) (buffer : List ℕ) (left : Option (List ℕ)) (bytes : List ℕ) → capacity ≡ 8192 →
     buffer ≡ [] →
     left ≡ Some bytes → (if capacity == 0 then None else prepend_known buffer left) ≡ Some bytes

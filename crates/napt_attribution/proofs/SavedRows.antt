@@ -39,7 +39,7 @@ end_more (Refused s ∷ es) e number = end_more es e number
 abbrev with_ends : (ℕ → Option ℕ) → List LogEntry → List LogEntry
 with_ends end ms = map (λ m. bare_entry (end m.number) m) ms
 
--- a row that tells no end
+-- A row that reports no end.
 same_ends : (es : List LogEvent) (e : LogEvent) → ((number : ℕ) → row_end_among (e ∷ []) number ≡ None) →
     row_end_among (es ++ e ∷ []) ≡ row_end_among es
 same_ends es e none = λ i number. (end_more es e number ∙
@@ -72,7 +72,7 @@ mapped f g h same (m ∷ ms) = ap₂ (λ (x : LogEntry) (xs : List LogEntry). x 
 number_same : (n q : ℕ) → (n == q) ≡ true → n ≡ q
 number_same n q h = grind (arith, nat_tests)
 
--- a row that tells this end of this number
+-- A row that reports this end of the entry of this number.
 pub entries_ended : (es : List LogEvent) (e : LogEvent) (l : LogEntry) → made_in (e ∷ []) ≡ [] →
     ((number : ℕ) → row_end_among (e ∷ []) number ≡ end_told l number None) → row_end_among es l.number ≡ None →
     entries_in (es ++ e ∷ []) ≡ map (entry_with_end l.number l.entry.end) (entries_in es)

@@ -3,7 +3,7 @@ use Rattle.std.specs.{Prelude.{◌≡◌, ℕ, ◌==◌, ◌<◌, ◌≤◌, Boo
 use Rattle.napt_rules.specs.{Prelude.Each, declared.Row.Row}
 use Rattle.napt_account.specs.{declared.log.{Entry.Entry, LogEntry.LogEntry}, Log.unused_entry, LogParts.Rises}
 use Rattle.napt_log_text.specs.declared.event.LogEvent.{LogEvent, TheVariants.{Made, Ended, Living, Refused}}
-use Rattle.napt_attribution.specs.{Asked.{Wants, is_asked_about}, declared.{requests.HolderRequest.HolderRequest, kept_entries.KeptEntries.KeptEntries, saved_rows.SavedRows.SavedRows}}
+use Rattle.napt_attribution.specs.{RequestParties.{Wants, is_asked_about}, declared.{requests.HolderRequest.HolderRequest, kept_entries.KeptEntries.KeptEntries, saved_rows.SavedRows.SavedRows}}
 
 -- The entries of the bindings that rows make, in their order.
 abbrev pub made_in : List LogEvent → List LogEntry

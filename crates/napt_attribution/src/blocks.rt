@@ -38,7 +38,7 @@ pub fn print_blocks<R: Print + Eprint + AllocGlobal>(
                 return page.end(rt);
             };
             add_block(&mut page.text, config, host)?;
-            page.turn(rt)?;
+            page.write_if_full(rt)?;
         }
     }
     page.end(rt)

@@ -34,8 +34,8 @@ impl LogTimes {
         }
     }
 
-    /// Returns the time from which on the log has every binding, and that of its last event. If bindings are missing, it has
-    /// every binding only from the first event other than a making on.
+    /// Returns the time from which on the log has every binding, and that of its last event. If bindings are missing,
+    /// it has every binding only from the first event other than a making on.
     pub fn covered(&self) -> (u64, u64) {
         let first = match self.after_opening {
             _ if !self.lacks => self.first.min(self.last),

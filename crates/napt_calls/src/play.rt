@@ -4,9 +4,9 @@
 //! separated by blanks, the first of which names the call. All numbers are decimal: bytes one by one, times in ns, an
 //! address as one number, an endpoint as its address and its number. An answer is what `{:?}` prints of it.
 //!
-//! [`packets`] reads and changes the current packet, [`table`] calls the current table, [`translators`] the current translators,
-//! over the current packet, [`captures`] reads and writes captures, [`merging`] merges two, [`settings`] reads configurations, and
-//! [`logs`] logs runs.
+//! [`packets`] reads and changes the current packet, [`table`] calls the current table, [`translators`] the current
+//! translators, over the current packet, [`captures`] reads and writes captures, [`merging`] merges two, [`settings`]
+//! reads configurations, and [`logs`] logs runs.
 
 mod captures;
 mod line;

@@ -64,7 +64,7 @@ impl<'a> PacketLines<'a> {
                 let entry = living.entry_of(row.protocol, row.external);
                 add_row(&mut page.text, row, entry, ending.last)?;
             }
-            page.turn(rt)?;
+            page.write_if_full(rt)?;
         }
         Ok(())
     }

@@ -31,7 +31,7 @@ pub struct LogPieces<'r, R: Files> {
 impl<'r, R: Files + AllocGlobal> LogPieces<'r, R> {
     /// Creates the next piece after number `last` of the log at `path`. Fails with the log's role,
     /// or with `MEMORY` if memory is refused.
-    pub(crate) fn behind(rt: &'r R, path: &str, last: u64) -> Result<LogPieces<'r, R>, Stop>
+    pub(crate) fn create_after(rt: &'r R, path: &str, last: u64) -> Result<LogPieces<'r, R>, Stop>
         ensures number { IfOk result (λ pieces. last < piece_of pieces) }
         ensures stop { IfErr result IsLogStop }
     {

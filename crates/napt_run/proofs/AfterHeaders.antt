@@ -15,12 +15,12 @@ use Rattle.napt_records.proofs.ReaderRests.{StopsBy-then}
 use Rattle.napt_laws.specs.Dispatching.{IsFrontOf}
 use Rattle.napt_rules.specs.Prelude.{Arrival}
 use Rattle.napt_sequential.specs.Inputs.{InputsCame}
-use Rattle.napt_run.{specs.OutputSinks.{AreTimes, FailsBy, FailsToBegin, IsNew, IsSettled, SinkBegins, SinkTakes, TimedOutcomes, records_text}, proofs.Fronts.{capture_is, front_of, times_of}}
+use Rattle.napt_run.{specs.OutputSinks.{AreTimes, FailsBy, FailsToBegin, IsNew, IsSettled, SinkBegins, SinkTakes, TimedOutcome, records_text}, proofs.Fronts.{capture_is, front_of, times_of}}
 use Rattle.napt_run.specs.{OutputSinkLaws.{appends_none, breaks_more, grows_more, grows_none, records_text-append, times_first, times_second}, Outputs.{Breaks, OutputGrows}}
 use Rattle.napt_run.specs.CaptureRuns.{FailsAfter, PassesAll, PassesOr, RunPassesHalted}
 use Rattle.napt_run.specs.{LogLaws.held, Posts.{AtMostOneMore, ExtentPost, FailedPost, OutputEnds, RunsTo, capture_to, may_have_ended, output_text_by}, Runs.{IfHeld, run_left_of}, Files.files_until}
 use Rattle.napt_run.specs.{Streams.{AreTaken, IsStreamFaultOf, IsOfRun, IsReading, IsSettledBy, capture_text, side_of}, declared.{output.Output.Output, output_sinks.Leaving.Leaving, capture_run.Totals.Totals}}
-use Rattle.napt_run.proofs.{Begun.{ReadBy, read_somehow, read_to_fault, read_well, told}, Breaks.first_within, Counted.all_counted, Ends.{IfHeld-by, IsCapture, broken, ends, grown, grown_if, headed, inside_is, none_held, outside_is, same_text}, Files.{begun_files, files_large}}
+use Rattle.napt_run.proofs.{OpenStreams.{ReadBy, read_somehow, read_to_fault, read_well, told}, Breaks.first_within, OutcomeCounts.all_counted, Ends.{IfHeld-by, IsCapture, broken, ends, grown, grown_if, headed, inside_is, none_held, outside_is, same_text}, Files.{begun_files, files_large}}
 
 -- WHAT IS KNOWN OF THE CAPTURES
 
@@ -81,10 +81,10 @@ module _ {D : Type 0} {S : sink.Ghosts D} (origin : OriginModel) (side : Side) (
       (capture_is origin side inputs)
       (breaks_more old mid new _ _ fault begun p, first_within old mid new _ _ fault begun p)
 
--- where the run or its log failed an output has its header at least
+-- If the run or its log failed, an output has at least its header.
 module _ {D : Type 0} {S : sink.Ghosts D} (origin : OriginModel) (inside outside : Option (List ℕ)) (which : Which)
     (old new : Output D S) where
-  -- it has what left of a front of the inputs; or, where writing it failed, a part of that
+  -- It has what left of some first inputs, or a part of that if writing it failed.
   pub record HasSome : Type 0 where
     pub inputs : List Arrival
     pub front : IfHeld inside outside (λ all. IsFrontOf inputs all.arrivals)
@@ -125,7 +125,7 @@ module _ {D : Type 0} {S : sink.Ghosts D} (origin : OriginModel) (inside outside
   halted_ends of (Err (Write Inside fault)) run p = absurd run
   halted_ends of (Err (Write Report fault)) run p = absurd run
 
-  -- or all that these inputs leave, and it is flushed
+  -- Or it has all that these inputs leave, and it is flushed.
   pub settled_ends : (result : Result (Unit {0}) Fault) (inputs : List Arrival) →
       output_text_by (capture_to which origin) result inputs ≡ capture_text origin (side_of which) inputs →
       IfHeld inside outside (λ all. IsFrontOf inputs all.arrivals) →
@@ -159,7 +159,7 @@ module _ {R Q : Type 0} {G : source.Ghosts R} {H : source.Ghosts Q} (begin end :
   front inputs first later mid whole handed =
       IfHeld-by (λ all. IsFrontOf first all.arrivals) bytes others (front_at inputs first later mid whole handed)
 
-  -- they are all inputs
+  -- They are all inputs.
   pub whole_is : (inputs : List Arrival) (cuts : CutFlags) →
       InputsCame HandsOutInputs MergeEndsWith begin inputs None end →
       cuts.inside ≡ cut_of end.inside → cuts.outside ≡ cut_of end.outside →
@@ -180,7 +180,7 @@ module _ {R Q : Type 0} {G : source.Ghosts R} {H : source.Ghosts Q} (begin end :
       is same) (StopsBy-then fault (λ stops. of_files ∙ stops) (came_fault begin end b o
       inputs (record { side = side; fault = fault }) (begun b o is same) came))
 
-  -- they are all before the fault
+  -- They are all before the fault.
   pub refused_held : (side : Side) (fault : CaptureFault) (inputs : List Arrival) →
       InputsCame HandsOutInputs MergeEndsWith begin inputs (Some (record { side = side; fault = fault })) end →
       IfHeld bytes others (λ all. Refuses side fault all inputs)
@@ -205,7 +205,7 @@ module _ {W V : Type 0} {S : sink.Ghosts W} {T : sink.Ghosts V} (origin : Origin
   abbrev GrownInside : List Arrival → Type 0
   GrownInside inputs = OutputGrows start.to_inside (capture_text origin sides.Inside inputs) new.to_inside
 
-  -- a capture had a fault
+  -- A capture had a fault.
   pub to_fault : (side : Side) (fault : CaptureFault) (inputs : List Arrival) →
       IfHeld bytes others (λ all. Refuses side fault all inputs) → GrownOutside inputs → GrownInside inputs →
       IsSettled new → To (Err (Capture side fault))
@@ -224,7 +224,7 @@ module _ {W V : Type 0} {S : sink.Ghosts W} {T : sink.Ghosts V} (origin : Origin
         told = tt;
       }
 
-  -- the output to the outside failed, and the one to the inside has the text of a front; or it was not begun
+  -- The output to the outside failed, and the one to the inside has the text of some first inputs, or it was not begun.
   pub fails_outside : start.to_outside.written ≡ 0 → (fault : WriteFault) (inputs : List Arrival) →
       IfHeld bytes others (λ all. IsFrontOf inputs all.arrivals) →
       Breaks start.to_outside (capture_text origin sides.Outside inputs) fault new.to_outside →
@@ -239,7 +239,7 @@ module _ {W V : Type 0} {S : sink.Ghosts W} {T : sink.Ghosts V} (origin : Origin
     told = tt;
   }
 
-  -- the output to the inside failed
+  -- The output to the inside failed.
   pub fails_inside : start.to_inside.written ≡ 0 → (fault : WriteFault) (inputs : List Arrival) →
       IfHeld bytes others (λ all. IsFrontOf inputs all.arrivals) → GrownOutside inputs →
       Breaks start.to_inside (capture_text origin sides.Inside inputs) fault new.to_inside →
@@ -253,7 +253,7 @@ module _ {W V : Type 0} {S : sink.Ghosts W} {T : sink.Ghosts V} (origin : Origin
     told = tt;
   }
 
-  -- the headers could not be written
+  -- The headers could not be written.
   pub unheaded : IsNew start → (fault : Fault) → FailsToBegin start fault new → To (Err fault)
   unheaded is_new (Write Outside fault) (broke, same) =
       let none = none_held bytes others in
@@ -287,7 +287,7 @@ none_read start new (Write Log fault) p = absurd p
 none_read start new (Capture side fault) p = absurd p
 none_read start new (Run fault) p = absurd p
 
--- a header of a capture was refused
+-- A header of a capture was refused.
 pub unread : {W V : Type 0} {S : sink.Ghosts W} {T : sink.Ghosts V} (origin : OriginModel)
     (bytes others : Option (List ℕ)) (start mid : Leaving W V S T) → SinkBegins start mid → IsSettled mid →
     (side : Side) (fault : CaptureFault) → IfHeld bytes others (λ all. Refuses side fault all []) →
@@ -310,18 +310,18 @@ module _ {R Q W V : Type 0} {G : source.Ghosts R} {H : source.Ghosts Q} {S : sin
       (run_left_of origin inputs)
   times inputs mid handed = grind (arith, common_steps, nat_tests, times_of, handed_timely)
 
-  grown_outside : (inputs : List Arrival) (left : List TimedOutcomes) → left ≡ run_left_of origin inputs →
+  grown_outside : (inputs : List Arrival) (left : List TimedOutcome) → left ≡ run_left_of origin inputs →
       OutputGrows mid.to_outside (records_text sides.Outside left) new.to_outside →
       OutputGrows start.to_outside (capture_text origin sides.Outside inputs) new.to_outside
   grown_outside inputs left is p = grown_behind origin sides.Outside inputs start.to_outside mid.to_outside
-      new.to_outside begins.to_outside (subst (λ (l : List TimedOutcomes). OutputGrows mid.to_outside
+      new.to_outside begins.to_outside (subst (λ (l : List TimedOutcome). OutputGrows mid.to_outside
       (records_text sides.Outside l) new.to_outside) is p)
 
-  grown_inside : (inputs : List Arrival) (left : List TimedOutcomes) → left ≡ run_left_of origin inputs →
+  grown_inside : (inputs : List Arrival) (left : List TimedOutcome) → left ≡ run_left_of origin inputs →
       OutputGrows mid.to_inside (records_text sides.Inside left) new.to_inside →
       OutputGrows start.to_inside (capture_text origin sides.Inside inputs) new.to_inside
   grown_inside inputs left is p = grown_behind origin sides.Inside inputs start.to_inside mid.to_inside
-      new.to_inside begins.to_inside (subst (λ (l : List TimedOutcomes). OutputGrows mid.to_inside
+      new.to_inside begins.to_inside (subst (λ (l : List TimedOutcome). OutputGrows mid.to_inside
       (records_text sides.Inside l) new.to_inside) is p)
 
   well : (totals : Totals) → PassesAll origin begin mid end new totals →
@@ -356,12 +356,12 @@ module _ {R Q W V : Type 0} {G : source.Ghosts R} {H : source.Ghosts Q} {S : sin
         };
       }
 
-  -- the outputs told a fault
+  -- The outputs reported a fault.
   record Early (fault : Fault) : Type 0 where
     went_is : List Arrival
     first_is : List Arrival
-    first : List TimedOutcomes
-    later : List TimedOutcomes
+    first : List TimedOutcome
+    later : List TimedOutcome
     middle : Leaving W V S T
     front_went : IfHeld bytes others (λ all. IsFrontOf went_is all.arrivals)
     front_first : IfHeld bytes others (λ all. IsFrontOf first_is all.arrivals)
@@ -371,7 +371,7 @@ module _ {R Q W V : Type 0} {G : source.Ghosts R} {H : source.Ghosts Q} {S : sin
     took_inside : OutputGrows mid.to_inside (records_text sides.Inside first) middle.to_inside
     failed : FailsBy middle later fault new
 
-  early : (fault : Fault) (inputs : List Arrival) (went : List TimedOutcomes) →
+  early : (fault : Fault) (inputs : List Arrival) (went : List TimedOutcome) →
       HasCome HandsOutInputs MergeEndsWith begin inputs end → IsFrontOf went (run_left_of origin inputs) →
       FailsAfter mid went fault new → Early fault
   early fault inputs went come front_is f =
@@ -380,7 +380,7 @@ module _ {R Q W V : Type 0} {G : source.Ghosts R} {H : source.Ghosts Q} {S : sin
       let went_of = front_of origin inputs went front_is in
       let split : f.first ++ (f.others ++ rest) ≡ run_left_of origin inputs =
       sym (append_assoc f.first f.others rest)
-      ∙ ap (λ (l : List TimedOutcomes). l ++ rest) (sym f.went_is) ∙ is in
+      ∙ ap (λ (l : List TimedOutcome). l ++ rest) (sym f.went_is) ∙ is in
       let begun_of = front_of origin inputs f.first (f.others ++ rest, split) in
       let all = subst AreTimes (sym split) (times inputs at handed) in
       let first_times = times_first f.first (f.others ++ rest) all in
@@ -405,8 +405,8 @@ module _ {R Q W V : Type 0} {G : source.Ghosts R} {H : source.Ghosts Q} {S : sin
         ) later_times;
       }
 
-  -- the text of both parts
-  text_of_both : (side : Side) (first later : List TimedOutcomes) →
+  -- The text of both parts.
+  text_of_both : (side : Side) (first later : List TimedOutcome) →
       records_text side first ++ records_text side later ≡ records_text side (first ++ later)
   text_of_both side first later = sym (records_text-append side first later)
 
@@ -416,7 +416,7 @@ module _ {R Q W V : Type 0} {G : source.Ghosts R} {H : source.Ghosts Q} {S : sin
   outside_broke fault e = broken_behind origin sides.Outside e.went_is start.to_outside mid.to_outside new.to_outside
       begins.to_outside fault (subst (λ (l : List ℕ). Breaks mid.to_outside l fault new.to_outside)
       (text_of_both sides.Outside e.first e.later
-      ∙ ap (λ (l : List TimedOutcomes). records_text sides.Outside l) e.both_are)
+      ∙ ap (λ (l : List TimedOutcome). records_text sides.Outside l) e.both_are)
       (breaks_more mid.to_outside e.middle.to_outside new.to_outside _ _ fault e.took_outside e.failed.0))
 
   inside_kept : (fault : WriteFault) (e : Early (Write Outside fault)) →
@@ -438,15 +438,15 @@ module _ {R Q W V : Type 0} {G : source.Ghosts R} {H : source.Ghosts Q} {S : sin
   inside_broke fault e = broken_behind origin sides.Inside e.went_is start.to_inside mid.to_inside new.to_inside
       begins.to_inside fault (subst (λ (l : List ℕ). Breaks mid.to_inside l fault new.to_inside)
       (text_of_both sides.Inside e.first e.later ∙
-      ap (λ (l : List TimedOutcomes). records_text sides.Inside l) e.both_are)
+      ap (λ (l : List TimedOutcome). records_text sides.Inside l) e.both_are)
       (breaks_more mid.to_inside e.middle.to_inside new.to_inside _ _ fault e.took_inside e.failed.1))
 
-  -- the run itself failed, or its log; an output may have failed before
+  -- The run itself failed, or its log; an output may have failed before.
   abbrev Halts : Type 0
   Halts = HasSome origin bytes others Outside start.to_outside new.to_outside
       × HasSome origin bytes others Inside start.to_inside new.to_inside
 
-  halted : (inputs : List Arrival) (went : List TimedOutcomes) → HasCome HandsOutInputs MergeEndsWith begin inputs end →
+  halted : (inputs : List Arrival) (went : List TimedOutcome) → HasCome HandsOutInputs MergeEndsWith begin inputs end →
       IsFrontOf went (run_left_of origin inputs) → SinkTakes mid went new → Halts
   halted inputs went come front_is took =
       let (at, handed) = came_somehow begin end bytes others begun inputs come in
@@ -527,7 +527,7 @@ module _ {R Q W V : Type 0} {G : source.Ghosts R} {H : source.Ghosts Q} {S : sin
   runs_to (Err (Write Log fault)) p = halts_to (Write Log fault) tt (halts p)
   runs_to (Err (Run fault)) p = halts_to (Run fault) tt (halts p)
 
--- and how many reads failed
+-- The number of reads that failed.
 module _ {R Q W V : Type 0} {G : source.Ghosts R} {H : source.Ghosts Q} {S : sink.Ghosts W} {T : sink.Ghosts V}
     (origin : OriginModel) (begin end : StreamMerger R Q G H) (mid new : Leaving W V S T) (live : IsMergerLive begin)
   where

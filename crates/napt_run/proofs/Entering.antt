@@ -82,7 +82,7 @@ module _ {L : Type 0} {S : Ghosts L} (from : LoggedOrigin) (before : List Trace)
   enter_written trace mid output text bytes at s same p =
       grind (arith, common_steps, nat_tests, ℕ, length-append, append-nil)
 
-  -- a text was written, and then flushed, or not
+  -- A text was written, and then it was flushed or not.
   pub write_adds : (text : TimeText) (mid last : Output L S) (r : Result (Unit {0}) WriteFault) →
       LogIsAt from before old →
       OutputGrows old.output text mid → OnOk r (OutputGrows mid [] last) → OnOk r (S.is_flushed last.device.now) →

@@ -1,7 +1,7 @@
 pub mod Received
 pub mod JoinedTexts
 pub mod Pieces
-pub mod Counted
+pub mod OutcomeCounts
 pub mod PassesAll
 pub mod Breaks
 pub mod Entering
@@ -10,7 +10,7 @@ pub mod TraceFronts
 pub mod Files
 pub mod AfterHeaders
 pub mod BothPassed
-pub mod Begun
+pub mod OpenStreams
 pub mod Headers
 pub mod Ends
 pub mod Endings

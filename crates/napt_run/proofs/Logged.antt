@@ -51,7 +51,7 @@ cut_within from inputs count within =
     subst (λ (l : TimeText). count ≤ length l) (text_is from inputs)
     (omega (arith, within, length-append (text_so_far from inputs) (ending from inputs)))
 
--- and of its text by a result
+-- Its text, by a result.
 cut_if : (from : LoggedOrigin) (ended : Bool) (inputs : List Arrival) (count : ℕ) →
     count ≤ length (text_so_far from inputs) → (count ≤ length (text_if ended (texts_of from) inputs))
     × (take count (text_so_far from inputs) ≡ take count (text_if ended (texts_of from) inputs))
@@ -92,11 +92,11 @@ front_first : (inside outside : Option (List ℕ)) (inputs first others : List A
 front_first inside outside inputs first others both front =
     grind (arith, common_steps, nat_tests, held, append_assoc)
 
--- so many calls of it failed, and whether it is broken
+-- The number of its calls that failed, and whether it is broken.
 abbrev Was : Bool → ℕ → ℕ → Type 0
 Was broken old new = ((broken ≡ false) × (new ≡ old)) ⊎ ((broken ≡ true) × (new ≡ old + 1))
 
--- the log has a front of the rows, and no call of it failed, or one, and none since
+-- The log has some first rows. No call of it failed, or one did and none since.
 record LogPart {L : Type 0} {S : Ghosts L} (from : LoggedOrigin) (inside outside : Option (List ℕ))
     (old new : Output L S) : Type 0 where
   inputs : List Arrival
@@ -114,7 +114,7 @@ tried_by : (broken : Bool) (old mid new : ℕ) (Flushed : Type 0) → Was broken
     (broken ≡ false → Flushed ⊎ (new ≡ mid + 1)) → Flushed ⊎ (new ≡ old + 1)
 tried_by broken old mid new Flushed was more tried = grind (arith, common_steps, nat_tests)
 
--- the same at the end, where it was flushed, if that still went
+-- The same at the end, where it was flushed if that was still possible.
 record LogRest {L : Type 0} {S : Ghosts L} (from : LoggedOrigin) (inside outside : Option (List ℕ))
     (old new : Output L S) : Type 0 where
   inputs : List Arrival
@@ -149,7 +149,7 @@ module _ {L : Type 0} {S : Ghosts L} (origin : OriginModel) (inside outside : Op
   abbrev Ends : Result (Unit {0}) Fault → Output L S → Type 0
   Ends result last = OutputEnds (texts_of From) Log inside outside result old.output last
 
-  -- it has a part of the rows, whatever failed
+  -- The log has a part of the rows, whatever failed.
   rest_ends : (result : Result (Unit {0}) Fault) (last : Output L S) → (IsSettledBy result → ⊥) →
       ((all : MergedInputs) (inputs : List Arrival) (count size : ℕ) → ExtentPost Log result all inputs count size) →
       (AtMostOneMore (S.failed old.output.device.now) (S.failed last.device.now) →
@@ -178,13 +178,13 @@ module _ {L : Type 0} {S : Ghosts L} (origin : OriginModel) (inside outside : Op
       (λ all. ExtentPost Log (Err (Capture side fault)) all inputs size size) inside outside (λ all t. (t.1, refl))
       taken
 
-  -- its own fault tells how much of the text it has
+  -- Its own fault says how much of the text it has.
   told : (count written : ℕ) → ((a : ℕ) → old.output.written ≡ min a (2 ^ 64 - 1) → written ≡
       min (a + count) (2 ^ 64 - 1)) →
       written ≡ min count (2 ^ 64 - 1)
   told count written counted = omega (arith, counted 0 (omega (arith, ready.written)))
 
-  -- writing the rows failed
+  -- Writing the rows failed.
   rows_broken : (inputs : List Arrival) (fault : WriteFault) (last : LogWriter L S) →
       IfHeld inside outside (λ all. IsFrontOf inputs all.arrivals) →
       Breaks old.output (text_so_far From inputs) fault last.output →
@@ -202,7 +202,7 @@ module _ {L : Type 0} {S : Ghosts L} (origin : OriginModel) (inside outside : Op
         few = λ done. absurd done;
       }
 
-  -- it could not be opened
+  -- The log could not be opened.
   unopened : (last : LogWriter L S) (fault : Fault) → Adds From [] From.opening old.output (Err fault) last →
       LogPost origin inside outside (Err fault) old last
   unopened last (Write Log fault) p = rows_broken [] fault last (none_held inside outside)
@@ -247,7 +247,7 @@ module _ {L : Type 0} {S : Ghosts L} (origin : OriginModel) (inside outside : Op
     grew inputs p = subst (λ (l : TimeText). OutputGrows old.output l after.output) (so_far_is From inputs)
         (grows_more old.output mid.output after.output _ _ begun.wrote p)
 
-    -- it was entered what these inputs tell
+    -- The traces of these inputs were entered.
     pub entered : (inputs : List Arrival) → Enters mid (told_traces origin inputs) after →
         LogGoesOnFrom From (traces_by origin inputs) (rows_on From inputs) mid.output after
     entered inputs enters =
@@ -274,7 +274,7 @@ module _ {L : Type 0} {S : Ghosts L} (origin : OriginModel) (inside outside : Op
         (ap (λ (l : TimeText). From.opening ++ l) (ready.laws.rows From.each inputs) ∙ so_far_is From inputs)
         (breaks_more old.output mid.output after.output _ _ fault begun.wrote p)
 
-    -- a part of the rows
+    -- A part of the rows.
 
     grown_part : (inputs : List Arrival) → OutputGrows old.output (text_so_far From inputs) after.output →
         IfHeld inside outside (λ all. IsFrontOf inputs all.arrivals) → Part
@@ -290,7 +290,7 @@ module _ {L : Type 0} {S : Ghosts L} (origin : OriginModel) (inside outside : Op
       counts = inl (p.sound ready.at.sound, p.kept);
     }
 
-    -- the input whose trace was not taken
+    -- The input whose trace was not taken.
     next_of : (inputs : List Arrival) (fault : RunFault)
         (p : LogHalts From [] (traces_by origin inputs) fault mid after) → NextInput origin inputs p.first p.next
     next_of inputs fault p = next_input origin inputs p.first p.next p.others p.all
@@ -331,12 +331,12 @@ module _ {L : Type 0} {S : Ghosts L} (origin : OriginModel) (inside outside : Op
         IfHeld inside outside (λ all. 2 ^ 62 ≤ length all.arrivals)
     too_many inputs many front = grind (arith, common_steps, nat_tests, held, length-append)
 
-    -- there were too many
+    -- There were too many inputs.
     too_many_at : (inputs : List Arrival) → LogHalts From [] (traces_by origin inputs) TooMany mid after →
         2 ^ 62 ≤ length inputs
     too_many_at inputs p = grind (arith, common_steps, nat_tests, traces_long, length-append)
 
-    -- a trace of a run always comes next
+    -- A trace of a run always comes next.
     never_refused : (inputs : List Arrival) (first : List Trace) (next : Trace) → NextInput origin inputs first next →
         (¬ IsNext (last_trace_time origin.state.clock first) (log_after From.log first) next) → ⊥
     never_refused inputs first next n never =
@@ -528,7 +528,7 @@ module _ {L : Type 0} {S : Ghosts L} (origin : OriginModel) (inside outside : Op
       closed (Err (Write Inside fault)) p is = absurd p
       closed (Err (Write Report fault)) p is = absurd p
 
--- or it could
+-- Or it could be written.
 pub opens_by : {L : Type 0} {S : Ghosts L} (old new : LogWriter L S) (result : Result (Unit {0}) Fault) →
     ((from : LoggedOrigin) → LogIsAt from [] old →
     Adds from [] (string_bytes old.opening) old.output result new) → OnOk result (Opens old new)

@@ -12,7 +12,7 @@ use Rattle.napt_rules.specs.{Prelude.{Arrival}, declared.{Outcome.Outcome, Row.R
 use Rattle.napt_sequential.{proofs.Inputs.came_whole, specs.declared.fault.RunFault.RunFault}
 use Rattle.napt_run.specs.{OutputSinks.SinkBegins, OutputSinkLaws.grows_more, Outputs.OutputGrows, CaptureRuns.RunPassesWell, Runs.text_after}
 use Rattle.napt_run.specs.{Streams.capture_text, WholeCaptures.{IsTallyOf, WritesAll}, declared.{output_sinks.Leaving.Leaving, output.Output.Output, whole_captures.RunTally.RunTally}}
-use Rattle.napt_run.proofs.{Counted.all_counted, Fronts.{capture_is, times_of}}
+use Rattle.napt_run.proofs.{OutcomeCounts.all_counted, Fronts.{capture_is, times_of}}
 
 -- The run over all inputs.
 pub passes_all : {F W V : Type 0} {S : Ghosts W} {T : Ghosts V} (origin : OriginModel) (from left : List Arrival)

@@ -2,7 +2,7 @@
 use Rattle.std.proofs.Common.{◌≡◌, ℕ, ◌+◌, List, Option, Some, sym, ◌∙◌, ap, subst}
 use Rattle.napt_records.specs.{NewStreams.{IsMergerNew, IsStreamNew}, StreamMergers.IsMergerLive}
 use Rattle.napt_wire.specs.declared.Side.TheVariants as sides
-use Rattle.napt_run.{specs.{Captures.failed_readings, Streams.IsAfterHeader}, proofs.Begun.{begun_live, stream_begun}}
+use Rattle.napt_run.{specs.{Captures.failed_readings, Streams.IsAfterHeader}, proofs.OpenStreams.{begun_live, stream_begun}}
 use Rattle.napt_run.proofs.{AfterHeaders.{reads_of, runs_to}, BothPassed.logs_to, start.OriginSetting.run_after_headers.{Given.Over, Goals.After-pass-passed}}
 use Rattle.napt_run.specs.Origins.{origin_of}
 use Rattle.napt_run.proofs.start.OriginSetting.run_after_headers.Goals as goal

@@ -3,7 +3,7 @@ use Rattle.std.proofs.{Common.{◌≡◌, ℕ, Bool, true, false, ◌&&◌, ◌|
 use Rattle.std.specs.{List.list_any, BTreeMap.is_at}
 use Rattle.napt_wire.specs.declared.Endpoint.{Endpoint}
 use Rattle.napt_account.specs.{Questions.is_meant, declared.question.Party.Party}
-use Rattle.napt_attribution.specs.{Asked.{is_asked_about, is_party, party_cmp}, declared.requests.HolderRequest.HolderRequest}
+use Rattle.napt_attribution.specs.{RequestParties.{is_asked_about, is_party, party_cmp}, declared.requests.HolderRequest.HolderRequest}
 
 meant_one : (external : Endpoint) (address : ℕ) (number : Option ℕ) →
     is_meant (record { address = address; number = number }) external
