@@ -125,10 +125,10 @@ impl<'a, 'b, O: Drop> Explanation<'a, 'b, O> {
             ..
         } = self;
         page.end(rt)?;
-        progress.tell_end(rt, packets);
-        flaws.tell(rt, options.form)?;
+        progress.print_end(rt, packets);
+        flaws.print(rt, options.form)?;
         if options.is_of_gateway() && remotes.are_astray() {
-            return Err(remotes.tell_astray(rt));
+            return Err(remotes.print_astray(rt));
         }
         print_warning(rt, options.outside, None, &losses);
         let ending = EndedRun {
@@ -143,7 +143,7 @@ impl<'a, 'b, O: Drop> Explanation<'a, 'b, O> {
             rows: running.bindings(rt.alloc())?,
             living: running.living(rt.alloc())?,
         };
-        unmatched.tell(rt);
+        unmatched.print(rt);
         output.end(rt, &mut page, &ending)
     }
 }
@@ -175,7 +175,7 @@ impl<R: Print + Eprint + AllocGlobal, O: CommandOutput<R> + Drop> Consumer<R>
         self.unmatched.take(alloc, line, &step.part.made)?;
         self.output.take(rt, config, passing, &mut self.page.text)?;
         self.page.turn(rt)?;
-        self.progress.tell(rt, number);
+        self.progress.print(rt, number);
         Ok(())
     }
 

@@ -24,8 +24,8 @@ pub struct ConfigAdvice {
 impl ConfigAdvice {
     /// Prints which captures end inside a record, whose last packet is ignored: on standard output if it is for people,
     /// and otherwise on standard error. A step back in time is always printed there.
-    pub fn tell<R: Print + Eprint>(self, rt: &R, form: OutputForm<'_>) -> Result<(), Exit> {
-        self.back.tell(rt, form);
+    pub fn print<R: Print + Eprint>(self, rt: &R, form: OutputForm<'_>) -> Result<(), Exit> {
+        self.back.print(rt, form);
         let CutFlags { inside, outside } = self.cuts;
         for (side, cut) in [("inside", inside), (self.holds.name(), outside)] {
             if cut && form.is_for_people() {
@@ -88,11 +88,11 @@ impl StepBack {
     }
 
     /// Prints a step of more than a second, and any step if the output has times.
-    fn tell<R: Eprint>(self, rt: &R, form: OutputForm<'_>) {
+    fn print<R: Eprint>(self, rt: &R, form: OutputForm<'_>) {
         if self.far == 0 || (self.far <= SECOND && !form.has_times()) {
             return;
         }
-        self.tell_step(rt);
+        self.print_step(rt);
         if form.asks_times() {
             let _ = eprintln!(rt;
                 "  each answer covers this much more time than was asked about, and names everybody who had the endpoint then"
@@ -111,7 +111,7 @@ impl StepBack {
     }
 
     /// Prints how long the step is, and between which packets.
-    fn tell_step<R: Eprint>(self, rt: &R) {
+    fn print_step<R: Eprint>(self, rt: &R) {
         let (from, to) = (self.from, self.to);
         let (seconds, rest) = (self.far / SECOND, self.far % SECOND);
         let _ = match from {

@@ -346,7 +346,7 @@ fn file_of(
 /// Prints what is wrong with an argument, after its name, and returns how the program stops.
 fn wrong<R: Eprint>(rt: &R, name: &str, text: &str, why: &str) -> Exit {
     let _ = eprintln!(rt; "explain: {name}{text}: {why}");
-    Exit::Told(Stop::Usage)
+    Exit::Printed(Stop::Usage)
 }
 
 /// Returns the value of an argument that is present, as its text was parsed. If it is invalid, prints why, after its

@@ -13,7 +13,7 @@ const MOST_PAIRS: usize = 256;
 
 /// Prints a pair for each host with a live binding in a state that a configuration would give another external address, in the
 /// order of hosts, and says if there are more than a configuration has, or that it can have none.
-pub fn tell_pairs<R: Print + Eprint + AllocGlobal>(
+pub fn print_pairs<R: Print + Eprint + AllocGlobal>(
     rt: &R,
     streams: StandardStreams,
     config: &Config,
@@ -21,7 +21,7 @@ pub fn tell_pairs<R: Print + Eprint + AllocGlobal>(
 ) -> Result<(), Exit> {
     if config.block().is_some() {
         let _ = eprintln!(rt; "explain: a configuration with a `block` has no pairs");
-        return Err(Exit::Told(Stop::Usage));
+        return Err(Exit::Printed(Stop::Usage));
     }
     if !streams.output {
         return Err(Exit::NoOutput);

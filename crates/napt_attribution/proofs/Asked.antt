@@ -41,7 +41,8 @@ pub one_more : (asked : List HolderRequest) (i : ℕ) (d : HolderRequest) → i 
     (address, number)) true old → new ≡ list_any (names address number) (take (i + 1) asked)
 one_more asked i d less old new address number was is =
     let one : HolderRequest = get_or asked i d in
-    is ∙ (ap₂ (λ (a b : Bool). cond a true b) (party_at address one.request.party.address one.request.party.number number) was
+    is ∙ (ap₂ (λ (a b : Bool). cond a true b)
+    (party_at address one.request.party.address one.request.party.number number) was
     ∙ (or_flip (names address number one) (list_any (names address number) (take i asked))
     ∙ sym (list_any_more (names address number) asked i d less)))
 

@@ -20,8 +20,8 @@ RowsTellTheLog = (rules : Rules) → RulesInvariant rules → (inputs : List Arr
 abbrev pub without_counts : Entry → Entry
 without_counts entry = unused_entry entry.binding entry.made entry.end
 
--- So the holders that a request finds among the entries that are asked about are those that it finds in the log of the run:
--- the same ones, and none where there are none.
+-- So the holders that a request finds among the entries that are asked about are those that it finds in the log of the
+-- run: the same ones, and none where there are none.
 abbrev pub RowsNameTheHolders : Type 0
 RowsNameTheHolders = (rules : Rules) → RulesInvariant rules → (inputs : List Arrival) →
     (asked : List HolderRequest) (one : HolderRequest) → Has asked one →

@@ -80,7 +80,7 @@ pub fn answer_by_blocks<R: Print + AllocGlobal>(
         config: Some(config),
         basis: Basis::Blocks,
     };
-    tell_answers(rt, asked, known)
+    print_answers(rt, asked, known)
 }
 
 /// Answers requests from the log whose pieces have these paths, under a configuration if it is known. Prints why a
@@ -107,12 +107,12 @@ pub fn answer_by_log<R: Files + Input + Print + Eprint + AllocGlobal>(
         config,
         basis: Basis::Log(first),
     };
-    tell_answers(rt, asked, known)
+    print_answers(rt, asked, known)
 }
 
 /// Prints for each request the hosts whose blocks contain it and a line for each binding that had the endpoint, in the
 /// order in which they were made, or that nobody had it. Fails with `Nobody` if a request has no answer.
-pub fn tell_answers<R: Print + AllocGlobal>(
+pub fn print_answers<R: Print + AllocGlobal>(
     rt: &R,
     asked: &[HolderRequest],
     known: AnswerBasis<'_>,
@@ -130,7 +130,7 @@ pub fn tell_answers<R: Print + AllocGlobal>(
             _ => known.entries,
         };
         let known = AnswerBasis { entries, ..known };
-        is_answered &= tell_answer(rt, &one, known, &mut page)?;
+        is_answered &= print_answer(rt, &one, known, &mut page)?;
     }
     page.end(rt)?;
     if is_answered {
@@ -141,7 +141,7 @@ pub fn tell_answers<R: Print + AllocGlobal>(
 }
 
 /// Prints the lines of a request, and returns whether somebody had the endpoint.
-fn tell_answer<R: Print + AllocGlobal>(
+fn print_answer<R: Print + AllocGlobal>(
     rt: &R,
     asked: &HolderRequest,
     known: AnswerBasis<'_>,

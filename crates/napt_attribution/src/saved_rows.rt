@@ -136,7 +136,7 @@ impl SavedRows {
         }
         let made = self.times.made(row.time, binding.fixed)?;
         self.close_replaced(replaced, made)?;
-        let number = self.times.number_behind(self.made, row.number)?;
+        let number = self.times.number_after(self.made, row.number)?;
         self.kept.insert(number, unused_entry(binding, made))?;
         self.made = number;
         Ok(binding)

@@ -69,7 +69,7 @@ pub(crate) fn measured<
             return println!(rt; "packets {}", inputs.len()).map_err(|_| CallFault::File);
         }
     };
-    tell(rt, &run).map_err(|_| CallFault::File)
+    print_counts(rt, &run).map_err(|_| CallFault::File)
 }
 
 /// Returns what a word names.
@@ -129,7 +129,7 @@ fn over_workers<
 }
 
 /// Prints the line of counts.
-fn tell<R: Print>(rt: &R, run: &Run) -> io::Result<()> {
+fn print_counts<R: Print>(rt: &R, run: &Run) -> io::Result<()> {
     macro_rules! count {
         ($end:ident) => {
             run.outcomes.iter().filter(|it| matches!(it, Outcome::$end(_))).count()

@@ -75,7 +75,7 @@ impl Remotes {
 
     /// Prints that the captured gateway used other numbers than the run, which therefore says nothing about it, and
     /// returns how the program stops.
-    pub fn tell_astray<R: Eprint>(&self, rt: &R) -> Exit {
+    pub fn print_astray<R: Eprint>(&self, rt: &R) -> Exit {
         let (astray, answers, first) = (self.astray, self.answers, self.first_astray);
         let _ = eprintln!(rt;
             "explain: the captured gateway used other numbers: {astray} of {answers} answers from outside, the first of them packet \

@@ -20,7 +20,7 @@ use Rattle.napt_run.specs.{OutputSinks.{FailsToBegin, SinkTakes, TimedOutcomes},
 use Rattle.napt_run.specs.LoggedOutputSinks.{AreSettled, FailsEither, FailsLog, FailsOutput, IsSameSinkPlace, TakesBoth, legs_in, outcomes_in}
 use Rattle.napt_run.specs.CaptureRuns.{EntersBy, EntersFirst, EntersOr, EntersTo, FailsAfter, FailsFirst, PassesBy, PassesOr, RunPassesHalted, RunPassesTo}
 use Rattle.napt_run.specs.{Posts.IsBeforeReport, Runs.{IfHeld, run_left_of}, declared.{capture_run.Totals.Totals, output_sinks.Leaving.Leaving, logged_output_sinks.LeavingWithLog.LeavingWithLog}}
-use Rattle.napt_run.proofs.{Behind.{Refuses, fault_of, front, refused_held, taken_of, whole_is}, Ends.none_held, Fronts.outcomes_of, TraceFronts.{TraceFront, trace_front}}
+use Rattle.napt_run.proofs.{AfterHeaders.{Refuses, fault_of, front, refused_held, taken_of, whole_is}, Ends.none_held, Fronts.outcomes_of, TraceFronts.{TraceFront, trace_front}}
 
 -- WHAT LEAVES
 
@@ -149,7 +149,8 @@ module _ {P A F W V K : Type 0} {S : sink.Ghosts W} {T : sink.Ghosts V} (tells :
       log_failed : FailsLog fails f.middle f.others fault after →
           RunPassesHalted origin hands ends from before.leaving left after.leaving × FailedFirst fault
       log_failed l =
-          let g : TraceFront (legs_of tells) origin inputs (legs_in went) = legs_front tells origin inputs went front in (
+          let g : TraceFront (legs_of tells) origin inputs (legs_in went) =
+          legs_front tells origin inputs went front in (
             record {
               inputs = inputs;
               went = outcomes_in f.first;
@@ -260,13 +261,15 @@ module _ {R Q W V P K : Type 0} {G : source.Ghosts R} {H : source.Ghosts Q} {S :
   By result = EntersBy tells origin HandsOutInputs MergeEndsWith enters fails is_settled from old left new result
 
   abbrev Or : Result Totals Fault → Type 0
-  Or result = EntersOr open_gate tells origin HandsOutInputs MergeEndsWith enters fails is_settled from old left new result
+  Or result = EntersOr open_gate tells origin HandsOutInputs MergeEndsWith enters fails is_settled from old left new
+      result
 
   abbrev Outputs : Result RunSummary (PassFault SideFault Fault) → Type 0
   Outputs result = PassesBy origin HandsOutInputs MergeEndsWith from before left after result
 
   -- an output or the log told this fault
-  pub departed : (fault : Fault) → Outputs (Err (pass_faults.Departure fault)) → By (Err (pass_faults.Departure fault)) →
+  pub departed : (fault : Fault) → Outputs (Err (pass_faults.Departure fault)) →
+      By (Err (pass_faults.Departure fault)) →
       PassesOr origin from before left after (Err fault) × Or (Err fault)
   departed (Write Outside fault) (inl p) (inl e) = (p.1, e.1)
   departed (Write Outside fault) (inl p) (inr e) = absurd e.of_log
@@ -289,7 +292,8 @@ module _ {R Q W V P K : Type 0} {G : source.Ghosts R} {H : source.Ghosts Q} {S :
       (begun : (b o : List ℕ) → bytes ≡ Some b → others ≡ Some o → IsMergerNew from b o) where
     held_front : (first later : List Arrival) → HasCome HandsOutInputs MergeEndsWith from (first ++ later) left →
         IfHeld bytes others (λ all. IsFrontOf first all.arrivals)
-    held_front first later (inl handed) = front from left bytes others begun (first ++ later) first later left refl handed
+    held_front first later (inl handed) = front from left bytes others begun (first ++ later) first later left refl
+        handed
     held_front first later (inr (end, came)) =
         front from left bytes others begun (first ++ later) first later came.last refl came.handed
 

@@ -80,14 +80,16 @@ module _ {D : Type 0} {S : Ghosts D} (texts : LogTexts) (which : Which) (inside 
 
   -- all of the text was written
   pub grown_if : OutputGrows old text new → IfHeld inside outside (Extent (length text)) →
-      (S.failed new.device.now ≡ S.failed old.device.now → Failed) → (IsSettledBy result → S.is_flushed new.device.now) →
+      (S.failed new.device.now ≡ S.failed old.device.now → Failed) →
+      (IsSettledBy result → S.is_flushed new.device.now) →
       OutputEnds texts which inside outside result old new
   grown_if p extent failed flushed =
       ends_if (length text) (omega arith) (subst (λ (l : List ℕ). Appends (S.contents old.device.now)
       (S.contents new.device.now) l) (sym (take_whole text)) p.appended) extent p.same (failed p.kept) flushed
 
   pub grown : OutputGrows old text new → ((all : MergedInputs) → Extent (length text) all) →
-      (S.failed new.device.now ≡ S.failed old.device.now → Failed) → (IsSettledBy result → S.is_flushed new.device.now) →
+      (S.failed new.device.now ≡ S.failed old.device.now → Failed) →
+      (IsSettledBy result → S.is_flushed new.device.now) →
       OutputEnds texts which inside outside result old new
   grown p extent = grown_if p (IfHeld-all (Extent (length text)) inside outside extent)
 
@@ -165,7 +167,8 @@ module _ {D : Type 0} (S : Ghosts D) (origin : OriginModel) (inside outside : Op
   begun_whole inputs = of.begun _ (headed origin (side_of which) inputs)
 
   pub capture_ended : (fault : Fault) → IsEndFault fault → Ended (Ok tt) → Ended (Err fault)
-  capture_ended (Write Report fault) end p = after_success S _ which inside outside old new (Err (Write Report fault)) refl
+  capture_ended (Write Report fault) end p =
+      after_success S _ which inside outside old new (Err (Write Report fault)) refl
       (λ all inputs e. e) (of.report_failed _ _) p
   capture_ended (Write Log fault) end p = after_success S _ which inside outside old new (Err (Write Log fault)) refl
       (λ all inputs e. of.log_extent fault _ _ (begun_whole inputs)) (λ f. of.log_failed _ _ (inl f)) p
@@ -177,7 +180,8 @@ module _ {D : Type 0} (S : Ghosts D) (origin : OriginModel) (inside outside : Op
   capture_ended (Write Outside fault) end p = absurd end
   capture_ended (Write Inside fault) end p = absurd end
 
-  pub post_ended : (is_kept : Bool) (fault : Fault) → IsEndFault fault → CapturePost S is_kept which origin inside outside (Ok tt) old new →
+  pub post_ended : (is_kept : Bool) (fault : Fault) → IsEndFault fault →
+      CapturePost S is_kept which origin inside outside (Ok tt) old new →
       CapturePost S is_kept which origin inside outside (Err fault) old new
   post_ended is_kept fault end (inl p) = inl (capture_ended fault end p)
   post_ended is_kept fault end (inr p) = absurd p.1

@@ -8,7 +8,7 @@ pub mod Entering
 pub mod Fronts
 pub mod TraceFronts
 pub mod Files
-pub mod Behind
+pub mod AfterHeaders
 pub mod BothPassed
 pub mod Begun
 pub mod Headers

@@ -141,7 +141,8 @@ module _ {L : Type 0} {S : Ghosts L} where
   Adds from traces text old (Err other) new = ⊥
 
   -- the same of a text that is made first; where that fails, nothing was written
-  abbrev pub Closes : {T : Type 0} → LoggedOrigin → List Trace → TimeText → Output L S → Result T Fault → LogWriter L S →
+  abbrev pub Closes : {T : Type 0} → LoggedOrigin → List Trace → TimeText → Output L S → Result T Fault →
+      LogWriter L S →
       Type 0
   Closes from traces text old (Ok left) new = LogFlushes from traces text old new
   Closes from traces text old (Err (Write Log fault)) new = Breaks old text fault new.output
@@ -161,7 +162,8 @@ module _ {L : Type 0} {S : Ghosts L} where
     pub tried : old.is_broken ≡ false →
         S.is_flushed new.device.now ⊎ (S.failed new.device.now ≡ S.failed old.device.now + 1)
 
-  -- that is done after a fault of the run, of a worker or of another output; after one of a capture it is flushed already
+  -- that is done after a fault of the run, of a worker or of another output; after one of a capture it is flushed
+  -- already
   abbrev pub IsAfterFault : Fault → LogWriter L S → LogWriter L S → Type 0
   IsAfterFault (Capture side fault) old new = new ≡ old
   IsAfterFault (Write Log fault) old new = new ≡ old

@@ -16,8 +16,8 @@ abbrev pub run_left_of : OriginModel → List Arrival → List TimedOutcomes
 run_left_of origin inputs = timed_results inputs (ran_by origin inputs).outcomes
 
 -- The text of the records that go to a side, after a text that is already there.
-abbrev pub text_behind : List ℕ → OriginModel → Side → List Arrival → List ℕ
-text_behind front origin side inputs = front ++ records_text side (run_left_of origin inputs)
+abbrev pub text_after : List ℕ → OriginModel → Side → List Arrival → List ℕ
+text_after front origin side inputs = front ++ records_text side (run_left_of origin inputs)
 
 -- what the report says of all inputs
 pub record IsToldOf (origin : OriginModel) (inside outside : Option (List ℕ)) (totals : Totals) : Type 0 where

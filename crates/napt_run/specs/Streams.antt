@@ -124,7 +124,7 @@ LeavesInTheEnd origin inside outside passed =
 -- STEPS
 
 -- The header of a capture of these bytes was read, and nothing else.
-pub record IsBehindHeader {R : Type 0} (G : Ghosts R) (records : RecordReader) (bytes : Option (List ℕ)) (source : R)
+pub record IsAfterHeader {R : Type 0} (G : Ghosts R) (records : RecordReader) (bytes : Option (List ℕ)) (source : R)
     : Type
     0 where
   pub header : LeavesBytes bytes (G.remaining source)

@@ -1,3 +1,4 @@
+-- of: the sets have what the requests before this one name.
 use Rattle.std.proofs.Common.{◌≡◌, ℕ, Option, take}
 use Rattle.std.specs.{BTreeSet.contains, List.list_any}
 use Rattle.napt_attribution.specs.Asked.{is_party, party_cmp}

@@ -2,7 +2,7 @@
 use Rattle.std.proofs.{Common.{ℕ, List, Option, add-zero, sym, refl, Err}, lemmas.Result.err_from_is_err_and}
 use Rattle.napt_wire.specs.declared.Side.TheVariants as sides
 use Rattle.napt_records.specs.declared.Fault.TheVariants.{Capture}
-use Rattle.napt_run.{specs.Captures.failed_readings, proofs.{Behind.unread, BothPassed.unread_logs}}
+use Rattle.napt_run.{specs.Captures.failed_readings, proofs.{AfterHeaders.unread, BothPassed.unread_logs}}
 use Rattle.napt_run.proofs.Headers.{header_of, inside_refused, more_after, none_taken, outside_refused}
 use Rattle.napt_run.specs.Origins.{origin_of}
 use Rattle.napt_run.proofs.start.OriginSetting.run_over.Goals as goal

@@ -1,3 +1,4 @@
+-- stream: each output has its part of its text, and the log was closed, or flushed after a fault.
 use Rattle.std.proofs.{Common.{List, ℕ, Option, inl, inr, refl}, lemmas.Result.err_from_is_err_and}
 use Rattle.napt_records.specs.declared.Which.TheVariants.{Outside, Inside}
 use Rattle.napt_run.{specs.Origins.{OriginModel, origin_of}, proofs.{BothPassed.before_report, Ends.{capture_ended, inside_is, of_text, outside_is}}}
@@ -34,7 +35,8 @@ returns-in_err-left-in-Ok g c =
     let text = of_text g.K.StreamLog.is_kept g.G.Gate.is_open inside outside fault closed.text in
     let ran = c.in-Ok.ensures in
     rw (p.1, p.2) (record {
-      to_outside = inl (capture_ended g.W.Sink origin inside outside Outside outside_is _ _ fault text.end ran.to_outside);
+      to_outside = inl (capture_ended g.W.Sink origin inside outside Outside outside_is _ _ fault text.end
+          ran.to_outside);
       to_inside = inl (capture_ended g.V.Sink origin inside outside Inside inside_is _ _ fault text.end ran.to_inside);
       log = closed.post origin inside outside c.args.log.now c.open.new.self c.in-Ok.totals.cuts c.requires.ready
           c.in_ok-open.ensures.ok ran.logs;

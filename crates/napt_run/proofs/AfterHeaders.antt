@@ -77,7 +77,8 @@ module _ {D : Type 0} {S : sink.Ghosts D} (origin : OriginModel) (side : Side) (
   pub broken_behind : (fault : WriteFault) → Breaks mid Left fault new →
       (p : Breaks old (capture_text origin side inputs) fault new) × (length file_header ≤ p.count)
   broken_behind fault p =
-      subst (λ (l : List ℕ). (p : Breaks old l fault new) × (length file_header ≤ p.count)) (capture_is origin side inputs)
+      subst (λ (l : List ℕ). (p : Breaks old l fault new) × (length file_header ≤ p.count))
+      (capture_is origin side inputs)
       (breaks_more old mid new _ _ fault begun p, first_within old mid new _ _ fault begun p)
 
 -- where the run or its log failed an output has its header at least
@@ -101,11 +102,13 @@ module _ {D : Type 0} {S : sink.Ghosts D} (origin : OriginModel) (inside outside
       ⊎ ((fault : WriteFault) × (p : Breaks old (capture_text origin (side_of which) inputs) fault new)
       × (length file_header ≤ p.count)) → OutputEnds (capture_to which origin) which inside outside result old new
   halted_at result never extent failed inputs front (inl p) =
-      grown _ which inside outside result old new inputs _ (same_text origin which (may_have_ended result) inputs) front p
+      grown _ which inside outside result old new inputs _ (same_text origin which (may_have_ended result) inputs)
+      front p
       (λ all. extent all inputs _ (length (capture_text origin (side_of which) inputs))
       (headed origin (side_of which) inputs)) (λ is. failed (inl is)) (λ settled. absurd (never settled))
   halted_at result never extent failed inputs front (inr (fault, p, begun)) =
-      broken _ which inside outside result old new inputs _ (same_text origin which (may_have_ended result) inputs) front
+      broken _ which inside outside result old new inputs _ (same_text origin which (may_have_ended result) inputs)
+      front
       fault p (λ all. extent all inputs p.count (length (capture_text origin (side_of which) inputs)) begun)
       (λ is. failed (inr is)) never
 
@@ -127,7 +130,8 @@ module _ {D : Type 0} {S : sink.Ghosts D} (origin : OriginModel) (inside outside
       output_text_by (capture_to which origin) result inputs ≡ capture_text origin (side_of which) inputs →
       IfHeld inside outside (λ all. IsFrontOf inputs all.arrivals) →
       OutputGrows old (capture_text origin (side_of which) inputs) new → S.is_flushed new.device.now →
-      IfHeld inside outside (λ all. ExtentPost which result all inputs (length (capture_text origin (side_of which) inputs))
+      IfHeld inside outside (λ all. ExtentPost which result all inputs
+      (length (capture_text origin (side_of which) inputs))
       (length (capture_text origin (side_of which) inputs))) →
       (S.failed new.device.now ≡ S.failed old.device.now → FailedPost which result (S.failed old.device.now)
       (S.failed new.device.now)) → OutputEnds (capture_to which origin) which inside outside result old new
@@ -208,7 +212,8 @@ module _ {W V : Type 0} {S : sink.Ghosts W} {T : sink.Ghosts V} (origin : Origin
   to_fault side fault inputs refused ours theirs settled =
       let R : MergedInputs → Type 0 = λ all. Refuses side fault all inputs in
       let first = held R (λ all. IsFrontOf inputs all.arrivals) bytes others (λ all r. r.taken.0) refused in
-      let extent : (size : ℕ) → IfHeld bytes others (λ all. IsReadFault fault (Ended side fault all inputs) × (size ≡ size)) =
+      let extent : (size : ℕ) → IfHeld bytes others
+      (λ all. IsReadFault fault (Ended side fault all inputs) × (size ≡ size)) =
       λ size. held R (λ all. IsReadFault fault (Ended side fault all inputs) × (size ≡ size)) bytes others
       (λ all r. (r.taken.1, refl)) refused in
       record {
@@ -223,7 +228,8 @@ module _ {W V : Type 0} {S : sink.Ghosts W} {T : sink.Ghosts V} (origin : Origin
   pub fails_outside : start.to_outside.written ≡ 0 → (fault : WriteFault) (inputs : List Arrival) →
       IfHeld bytes others (λ all. IsFrontOf inputs all.arrivals) →
       Breaks start.to_outside (capture_text origin sides.Outside inputs) fault new.to_outside →
-      OutputEnds (capture_to Inside origin) Inside bytes others (Err (Write Outside fault)) start.to_inside new.to_inside →
+      OutputEnds (capture_to Inside origin) Inside bytes others (Err (Write Outside fault)) start.to_inside
+      new.to_inside →
       To (Err (Write Outside fault))
   fails_outside none fault inputs first broke kept = record {
     to_outside = broken _ Outside bytes others (Err (Write Outside fault)) start.to_outside new.to_outside inputs _ refl
@@ -236,7 +242,8 @@ module _ {W V : Type 0} {S : sink.Ghosts W} {T : sink.Ghosts V} (origin : Origin
   -- the output to the inside failed
   pub fails_inside : start.to_inside.written ≡ 0 → (fault : WriteFault) (inputs : List Arrival) →
       IfHeld bytes others (λ all. IsFrontOf inputs all.arrivals) → GrownOutside inputs →
-      Breaks start.to_inside (capture_text origin sides.Inside inputs) fault new.to_inside → To (Err (Write Inside fault))
+      Breaks start.to_inside (capture_text origin sides.Inside inputs) fault new.to_inside →
+      To (Err (Write Inside fault))
   fails_inside none fault inputs first ours broke = record {
     to_outside = grown _ Outside bytes others (Err (Write Inside fault)) start.to_outside new.to_outside inputs _ refl
         first ours (λ all. refl) (λ is. is) (λ settled. absurd settled);
@@ -255,7 +262,8 @@ module _ {W V : Type 0} {S : sink.Ghosts W} {T : sink.Ghosts V} (origin : Origin
       new.to_outside) (sym (append-nil file_header) ∙ capture_is origin sides.Outside []) broke)
       (subst (λ (o : Output V T). OutputEnds (capture_to Inside origin) Inside bytes others (Err (Write Outside fault))
       start.to_inside o) (sym same)
-      (ends _ Inside bytes others (Err (Write Outside fault)) start.to_inside start.to_inside [] _ refl none 0 (omega arith)
+      (ends _ Inside bytes others (Err (Write Outside fault)) start.to_inside start.to_inside [] _ refl none 0
+      (omega arith)
       (appends_none _) (λ all. inr (refl, omega (arith, counted, broke.within))) refl refl
       (λ settled. absurd settled)))
   unheaded is_new (Write Inside fault) (wrote, broke) =
@@ -269,7 +277,8 @@ module _ {W V : Type 0} {S : sink.Ghosts W} {T : sink.Ghosts V} (origin : Origin
   unheaded is_new (Capture side fault) p = absurd p
   unheaded is_new (Run fault) p = absurd p
 
-pub none_read : {W V : Type 0} {S : sink.Ghosts W} {T : sink.Ghosts V} (start new : Leaving W V S T) (fault : Fault) → FailsToBegin start fault new →
+pub none_read : {W V : Type 0} {S : sink.Ghosts W} {T : sink.Ghosts V} (start new : Leaving W V S T) (fault : Fault) →
+    FailsToBegin start fault new →
     (let told : Result Totals Fault = Err fault in IsReading told (Ok tt))
 none_read start new (Write Outside fault) p = tt
 none_read start new (Write Inside fault) p = tt
@@ -323,7 +332,8 @@ module _ {R Q W V : Type 0} {G : source.Ghosts R} {H : source.Ghosts Q} {S : sin
       let all = times inputs whole.came.last whole.came.handed in
       let is = whole_is begin end bytes others begun inputs totals.cuts whole.came p.cut_inside p.cut_outside in
       let Is : MergedInputs → Type 0 = λ all. all ≡ record { arrivals = inputs; end = Ok totals.cuts } in
-      let first = held Is (λ all. IsFrontOf inputs all.arrivals) bytes others (λ all same. rw same ([], append-nil inputs))
+      let first = held Is (λ all. IsFrontOf inputs all.arrivals) bytes others
+      (λ all same. rw same ([], append-nil inputs))
       is in
       let extent : (size : ℕ) → IfHeld bytes others (λ all. IsOk all.end × (inputs ≡ all.arrivals) × (size ≡ size)) =
       λ size. held Is (λ all. IsOk all.end × (inputs ≡ all.arrivals) × (size ≡ size)) bytes others
@@ -412,7 +422,8 @@ module _ {R Q W V : Type 0} {G : source.Ghosts R} {H : source.Ghosts Q} {S : sin
   inside_kept : (fault : WriteFault) (e : Early (Write Outside fault)) →
       OutputGrows start.to_inside (capture_text origin sides.Inside e.first_is) new.to_inside
   inside_kept fault e = grown_inside e.first_is e.first e.first_are
-      (subst (λ (l : List ℕ). OutputGrows mid.to_inside l new.to_inside) (append-nil (records_text sides.Inside e.first))
+      (subst (λ (l : List ℕ). OutputGrows mid.to_inside l new.to_inside)
+      (append-nil (records_text sides.Inside e.first))
       (grows_more mid.to_inside e.middle.to_inside new.to_inside _ _ e.took_inside e.failed.1))
 
   outside_wrote : (fault : WriteFault) (e : Early (Write Inside fault)) →
@@ -426,7 +437,8 @@ module _ {R Q W V : Type 0} {G : source.Ghosts R} {H : source.Ghosts Q} {S : sin
       × (length file_header ≤ p.count)
   inside_broke fault e = broken_behind origin sides.Inside e.went_is start.to_inside mid.to_inside new.to_inside
       begins.to_inside fault (subst (λ (l : List ℕ). Breaks mid.to_inside l fault new.to_inside)
-      (text_of_both sides.Inside e.first e.later ∙ ap (λ (l : List TimedOutcomes). records_text sides.Inside l) e.both_are)
+      (text_of_both sides.Inside e.first e.later ∙
+      ap (λ (l : List TimedOutcomes). records_text sides.Inside l) e.both_are)
       (breaks_more mid.to_inside e.middle.to_inside new.to_inside _ _ fault e.took_inside e.failed.1))
 
   -- the run itself failed, or its log; an output may have failed before
@@ -455,12 +467,22 @@ module _ {R Q W V : Type 0} {G : source.Ghosts R} {H : source.Ghosts Q} {S : sin
 
   failed : (fault : Fault) → Early fault → Halts
   failed (Write Outside fault) e = (
-    record { inputs = e.went_is; front = e.front_went; left = inr (fault, (outside_broke fault e).0, (outside_broke fault e).1) },
+    record {
+      inputs = e.went_is;
+      front = e.front_went;
+      left =
+          inr (fault, (outside_broke fault e).0, (outside_broke fault e).1);
+    },
     record { inputs = e.first_is; front = e.front_first; left = inl (inside_kept fault e) },
   )
   failed (Write Inside fault) e = (
     record { inputs = e.went_is; front = e.front_went; left = inl (outside_wrote fault e) },
-    record { inputs = e.went_is; front = e.front_went; left = inr (fault, (inside_broke fault e).0, (inside_broke fault e).1) },
+    record {
+      inputs = e.went_is;
+      front = e.front_went;
+      left =
+          inr (fault, (inside_broke fault e).0, (inside_broke fault e).1);
+    },
   )
   failed (Write Report fault) e = absurd e.failed
   failed (Write Log fault) e = absurd e.failed
@@ -488,11 +510,14 @@ module _ {R Q W V : Type 0} {G : source.Ghosts R} {H : source.Ghosts Q} {S : sin
       let all = times p.inputs p.came.last p.came.handed in
       to_fault origin bytes others start new side fault p.inputs
       (refused_held begin end bytes others begun side fault p.inputs p.came)
-      (grown_outside p.inputs _ refl (p.took.to_outside all)) (grown_inside p.inputs _ refl (p.took.to_inside all)) p.settled
+      (grown_outside p.inputs _ refl (p.took.to_outside all)) (grown_inside p.inputs _ refl (p.took.to_inside all))
+      p.settled
   runs_to (Err (Write Outside fault)) p =
       let e = early (Write Outside fault) p.inputs p.went p.come p.front p.failed in
-      fails_outside origin bytes others start new is_new.none_outside fault e.went_is e.front_went (outside_broke fault e).0
-      (grown _ Inside bytes others (Err (Write Outside fault)) start.to_inside new.to_inside e.first_is _ refl e.front_first
+      fails_outside origin bytes others start new is_new.none_outside fault e.went_is e.front_went
+      (outside_broke fault e).0
+      (grown _ Inside bytes others (Err (Write Outside fault)) start.to_inside new.to_inside e.first_is _ refl
+      e.front_first
       (inside_kept fault e) (λ all. inl refl) (λ is. is) (λ settled. absurd settled))
   runs_to (Err (Write Inside fault)) p =
       let e = early (Write Inside fault) p.inputs p.went p.come p.front p.failed in
@@ -504,14 +529,15 @@ module _ {R Q W V : Type 0} {G : source.Ghosts R} {H : source.Ghosts Q} {S : sin
 
 -- and how many reads failed
 module _ {R Q W V : Type 0} {G : source.Ghosts R} {H : source.Ghosts Q} {S : sink.Ghosts W} {T : sink.Ghosts V}
-    (origin : OriginModel) (begin end : StreamMerger R Q G H) (mid new : Leaving W V S T) (live : IsMergerLive begin) where
-  pub reads_of : (result : Result Totals Fault) → PassesOr origin begin mid end new result →
-      (¬ IsOfRun result) → (read : Result (Unit {0}) Fault) × IsReading result read × ReadBy begin end live read
-  reads_of (Ok totals) p not_run = (Ok tt, refl, read_well begin end live p.well.whole.inputs p.well.whole.came)
-  reads_of (Err (Capture side fault)) p not_run =
-      (told side fault, refl, read_to_fault begin end live p.inputs (record { side = side; fault = fault }) p.came)
-  reads_of (Err (Write Outside fault)) p not_run = read_somehow begin end live p.inputs p.come
-  reads_of (Err (Write Inside fault)) p not_run = read_somehow begin end live p.inputs p.come
-  reads_of (Err (Write Report fault)) p not_run = absurd p
-  reads_of (Err (Write Log fault)) p not_run = absurd (not_run tt)
-  reads_of (Err (Run fault)) p not_run = absurd (not_run tt)
+    (origin : OriginModel) (begin end : StreamMerger R Q G H) (mid new : Leaving W V S T) (live : IsMergerLive begin)
+  where
+    pub reads_of : (result : Result Totals Fault) → PassesOr origin begin mid end new result →
+        (¬ IsOfRun result) → (read : Result (Unit {0}) Fault) × IsReading result read × ReadBy begin end live read
+    reads_of (Ok totals) p not_run = (Ok tt, refl, read_well begin end live p.well.whole.inputs p.well.whole.came)
+    reads_of (Err (Capture side fault)) p not_run =
+        (told side fault, refl, read_to_fault begin end live p.inputs (record { side = side; fault = fault }) p.came)
+    reads_of (Err (Write Outside fault)) p not_run = read_somehow begin end live p.inputs p.come
+    reads_of (Err (Write Inside fault)) p not_run = read_somehow begin end live p.inputs p.come
+    reads_of (Err (Write Report fault)) p not_run = absurd p
+    reads_of (Err (Write Log fault)) p not_run = absurd (not_run tt)
+    reads_of (Err (Run fault)) p not_run = absurd (not_run tt)
