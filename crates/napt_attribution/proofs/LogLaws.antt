@@ -7,8 +7,8 @@ use Rattle.napt_rules.specs.Prelude.{Arrival, Binding, Each, State, Timers, init
 use Rattle.napt_rules.specs.declared.Row.{Row}
 use Rattle.napt_account.specs.{Questions.is_meant, declared.log.{Entry.Entry, LogEntry.LogEntry, Shortage.Shortage}, Log.{LogModel, begun_after, first_entry, log_of, log_on, numbered_from, unnumbered, unused_entry}, LogParts.{IsNumbered, LogDelta, in_order_of_end, is_open, living_at}, OpenEntries.Has, ResumedLogRuns.{left_of, part_of}, WholeLogs.{ArePartsOfLog, PartsAreTheLog, all_parts, origin, parts_joined}}
 use Rattle.napt_account.proofs.{InOrder.{Differ, each_has, has_each}, Numbers.{begun_numbered, differ_moved, log_rises}, Rising.rises_differ, Sorted.{has_back, has_moved}}
-use Rattle.napt_log_text.specs.{LogReaders.{events_after, log_events, part_events}, Logs.log_anew, Requests.{holders, is_asked, is_holder, meets}, declared.{event.LogEvent.{LogEvent, TheVariants.{Made, Ended, Living, Refused}}, request.{Request.Request, TimeSpan.TimeSpan}}}
-use Rattle.napt_attribution.specs.{RequestParties.is_asked_about, LogLaws.{RowsNameTheHolders, RowsTellTheLog, without_counts}, SavedLogs.{asked_entries, bare_entry, row_end_among, end_told, entries_in, made_in}, declared.requests.HolderRequest.HolderRequest}
+use Rattle.napt_log_text.specs.{LogReaders.{events_after, part_events}, Logs.log_anew, Requests.{holders, is_asked, is_holder, meets}, declared.{event.LogEvent.{LogEvent, TheVariants.{Made, Ended, Living, Refused}}, request.{Request.Request, TimeSpan.TimeSpan}}}
+use Rattle.napt_attribution.specs.{RequestParties.is_asked_about, LogLaws.{RowsNameTheHolders, RowsTellTheLog, whole_events, without_counts}, SavedLogs.{asked_entries, bare_entry, row_end_among, end_told, entries_in, made_in}, declared.requests.HolderRequest.HolderRequest}
 
 -- THE ROWS THAT TELL AN END, by their entries
 
@@ -111,27 +111,28 @@ module _ (rules : Rules) (state : State) (log : LogModel) where
       ∙ ap₂ (λ (xs ys : List LogEntry). xs ++ ys) (tellers_of_part (part_of rules state log before input))
       (tellers_after (before ++ input ∷ []) inputs)
 
+  -- what is told before the first input, and then with the inputs and at the end
   abbrev events : List Arrival → List LogEntry → List LogEvent
-  events inputs living = (map Made log.entries ++ events_after rules state log [] inputs) ++ map Living living
+  events inputs living = (map Made log.entries ++ []) ++ (events_after rules state log [] inputs ++ map Living living)
 
   made_of_run : (inputs : List Arrival) (living : List LogEntry) → made_in (events inputs living)
       ≡ log.entries ++ all_parts (λ part. part.made) rules state log inputs
-  made_of_run inputs living = made_joined (map Made log.entries ++ events_after rules state log [] inputs)
-      (map Living living)
-      ∙ (ap₂ (λ (xs ys : List LogEntry). xs ++ ys)
-      (made_joined (map Made log.entries) (events_after rules state log [] inputs)
-      ∙ ap₂ (λ (xs ys : List LogEntry). xs ++ ys) (made_of_made log.entries) (made_after [] inputs))
-      (made_of_living living)
-      ∙ append-nil (log.entries ++ all_parts (λ part. part.made) rules state log inputs))
+  made_of_run inputs living =
+      made_joined (map Made log.entries ++ []) (events_after rules state log [] inputs ++ map Living living)
+      ∙ ap₂ (λ (xs ys : List LogEntry). xs ++ ys)
+      (ap made_in (append-nil (map Made log.entries)) ∙ made_of_made log.entries)
+      (made_joined (events_after rules state log [] inputs) (map Living living)
+      ∙ (ap₂ (λ (xs ys : List LogEntry). xs ++ ys) (made_after [] inputs) (made_of_living living)
+      ∙ append-nil (all_parts (λ part. part.made) rules state log inputs)))
 
   tellers_of_run : (inputs : List Arrival) (living : List LogEntry) → tellers (events inputs living)
       ≡ all_parts (λ part. part.ended) rules state log inputs ++ living
-  tellers_of_run inputs living = tellers_joined (map Made log.entries ++ events_after rules state log [] inputs)
-      (map Living living)
+  tellers_of_run inputs living =
+      tellers_joined (map Made log.entries ++ []) (events_after rules state log [] inputs ++ map Living living)
       ∙ ap₂ (λ (xs ys : List LogEntry). xs ++ ys)
-      (tellers_joined (map Made log.entries) (events_after rules state log [] inputs)
-      ∙ ap₂ (λ (xs ys : List LogEntry). xs ++ ys) (tellers_of_made log.entries) (tellers_after [] inputs))
-      (tellers_of_living living)
+      (ap tellers (append-nil (map Made log.entries)) ∙ tellers_of_made log.entries)
+      (tellers_joined (events_after rules state log [] inputs) (map Living living)
+      ∙ ap₂ (λ (xs ys : List LogEntry). xs ++ ys) (tellers_after [] inputs) (tellers_of_living living))
 
 -- AN END AMONG ENTRIES WHOSE NUMBERS DIFFER
 
@@ -189,7 +190,7 @@ rows_tell parts rules invariant inputs =
     let log : LogModel = (log_anew rules).log in
     let living : List LogEntry = living_at (last_clock state.clock inputs) (log_on rules state log inputs) in
     let ls : List LogEntry = (log_of rules inputs).entries in
-    let es : List LogEvent = log_events rules inputs in
+    let es : List LogEvent = whole_events rules inputs in
     let told : ArePartsOfLog rules state log inputs = parts rules invariant state log (begun_numbered rules state 0)
     (begun_open rules (0 + 1) rules.redirects) inputs in
     let tells : List LogEntry = all_parts (λ part. part.ended) rules state log inputs ++ living in
@@ -273,7 +274,7 @@ holders_bare request (e ∷ es) =
 
 pub rows_name : RowsTellTheLog → RowsNameTheHolders
 rows_name tell rules invariant inputs asked one has =
-    let es : List LogEntry = entries_in (log_events rules inputs) in
+    let es : List LogEntry = entries_in (whole_events rules inputs) in
     let log : List LogEntry = (log_of rules inputs).entries in
     among (is_holder one.request) (λ e. is_asked_about asked e.binding.external)
     (λ e is. asked_of asked one has e (both_first _ _ is)) es
