@@ -56,12 +56,12 @@ returns-in_err-theirs g c =
 
 pub returns-clause-runs : goal.returns-clause-runs
 returns-clause-runs g c begun new begins settled =
-    c.run_behind_headers.ensures.runs (g.R.Source.remaining c.args.inside.now)
+    c.run_after_headers.ensures.runs (g.R.Source.remaining c.args.inside.now)
     (g.Q.Source.remaining c.args.outside.now) begun c.in_ok-ours.ensures.header c.in_ok-theirs.ensures.header new begins
 
 pub returns-clause-readings : goal.returns-clause-readings
 returns-clause-readings g c not_run =
-    let (read, is, ours, theirs) = c.run_behind_headers.ensures.readings not_run in (
+    let (read, is, ours, theirs) = c.run_after_headers.ensures.readings not_run in (
       read,
       is,
       more_after _ _ _ (failed_readings sides.Inside read) c.in_ok-ours.ensures.count ours,
@@ -70,5 +70,5 @@ returns-clause-readings g c not_run =
 
 pub returns-clause-logs : goal.returns-clause-logs
 returns-clause-logs g c =
-    c.run_behind_headers.ensures.logs (g.R.Source.remaining c.args.inside.now)
+    c.run_after_headers.ensures.logs (g.R.Source.remaining c.args.inside.now)
     (g.Q.Source.remaining c.args.outside.now) c.in_ok-ours.ensures.header c.in_ok-theirs.ensures.header
