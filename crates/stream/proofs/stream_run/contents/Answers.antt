@@ -1,0 +1,12 @@
+-- contents: the file of the state gets the state that the run left, with what is kept of its log.
+use Rattle.std.proofs.Common.{◌≡◌, Some, IfSome, subst}
+use Rattle.napt_rules.specs.Prelude.{IsStateInOrder}
+use Rattle.stream.proofs.stream_run.contents.Goals as goal
+
+pub returns-clause-left : goal.returns-clause-left
+returns-clause-left c left order = record {
+  ordered = c.in-Some.state;
+  order = subst (λ state. IfSome state (IsStateInOrder c.args.config.now left)) c.in-Some.is order;
+  log = Some (c.in_ok-saved.saved, c.in-Some-log.end);
+  contents = c.in_ok-of-2.ensures;
+}
