@@ -68,9 +68,9 @@ class Napt(Device):
         subprocess.run(self.call + words, check=True, stderr=subprocess.DEVNULL)
         answer = None
         for name in SIDES:
-            for frame in Capture(str(room / f"out-{name}")).frames():
-                self.kept[name].append((frame.time + 1, frame.data))
-                answer = answer or found and found(name, frame.data)
+            for at, data, *_ in Capture(str(room / f"out-{name}")).frames():
+                self.kept[name].append((at + 1, data))
+                answer = answer or found and found(name, data)
         return answer
 
     def close(self):
