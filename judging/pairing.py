@@ -1,8 +1,9 @@
 """Pairs what arrived at a gateway with what left it, while both captures are read."""
+import bisect
 import collections
 import dataclasses
-import functools
 import itertools
+import operator
 import statistics
 from collections.abc import Callable, Iterator
 from typing import NamedTuple
@@ -26,6 +27,7 @@ KEEPS = 20
 GATEWAY_PORTS = {21, 69, 111, 554, 1720, 1723, 5060, 6667}
 # packets of each side from which the pool and the difference of the clocks are found
 SAMPLE = 10_000
+ORDER = operator.attrgetter("order")
 
 
 class Pair:
@@ -134,24 +136,24 @@ class Given:
         return Plan(set(pool), ahead, depth, doubles, is_ending, self.is_one_file)
 
 
-def merged(first: Iterator[Packet], second: Iterator[Packet]) -> Iterator[Packet]:
-    """Yields the packets of two captures by time (in half of the time of heapq.merge)."""
-    one, other = next(first, None), next(second, None)
-    while one and other:
-        if one.time <= other.time:
-            yield one
-            one = next(first, None)
-        else:
-            yield other
-            other = next(second, None)
-    yield from filter(None, (one, other))
-    yield from first
-    yield from second
+def merged(streams: list[Iterator[list[Packet]]]) -> Iterator[list[Packet]]:
+    """Yields the packets of captures by time, at equal times in the order of the captures, in batches. What is out of
+    its order in a capture comes behind what was before it there."""
+    heads = [next(it, []) for it in streams]
+    while any(heads):
+        end, batch = min(it[-1].order for it in heads if it), []
+        for at, head in enumerate(heads):
+            place = bisect.bisect_right(head, end, key=ORDER)
+            batch += head[:place]
+            heads[at] = head[place:] or next(streams[at], [])
+        batch.sort(key=ORDER)
+        yield batch
 
 
 def sampled(side: Side, begin: int = 0) -> list[Packet]:
     """Returns the first packets of a side from a time on."""
-    return list(itertools.islice((it for it in functools.reduce(merged, side.streams()) if it.time >= begin), SAMPLE))
+    packets = itertools.chain.from_iterable(merged(side.streams()))
+    return list(itertools.islice((it for it in packets if it.time >= begin), SAMPLE))
 
 
 def pool_of(inside: list[Packet], outside: list[Packet], prefixes: Prefixes) -> set[int]:
@@ -235,7 +237,7 @@ class Pairing:
     def run(self, streams: list[Iterator[Packet]]):
         """Pairs the packets of both sides until they end."""
         departures, queue, slack = self.departures, self.queue, TWO_CLOCKS if self.plan.ahead else ONE_CLOCK
-        for packet in functools.reduce(merged, streams):
+        for packet in itertools.chain.from_iterable(merged(streams)):
             now = packet.time
             while departures and departures[0].time + slack <= now:
                 self.depart(departures.popleft())
