@@ -92,6 +92,7 @@ class Replay(Judge):
     def __init__(self, given: Given, plan: Plan, explain: str):
         super().__init__(given, plan, keeps_data=True)
         self.explain, self.sent, self.followed, self.timed_out = explain, [], [], set()
+        self.pairing.take, self.gateway.follow = self.take, self.follow
 
     def tell(self, moment, key: object = None):
         if type(moment) is Incoming and moment.cause in (TIMER, RESET):
@@ -99,11 +100,13 @@ class Replay(Judge):
         super().tell(moment, key)
 
     def follow(self, pair: Pair, mapping: Mapping, is_known: bool):
+        """Takes a packet from outside with the mapping that its number stands for; is_known: something was sent to its
+        remote before."""
         if pair.way is IN and pair.arrival.data:
             self.followed.append(Followed(pair, mapping.inside, rows_of(pair, mapping, is_known)))
 
     def take(self, item: Pair | Departed):
-        super().take(item)
+        self.gateway.take(item)
         if type(item) is Pair and item.way is not IN and item.arrival.data:
             self.sent.append((item.time, item.arrival.data))
 
