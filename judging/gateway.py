@@ -354,8 +354,9 @@ class Gateway:
 
     def __init__(self, prefixes: Prefixes, plan: Plan, judge):
         self.prefixes, self.pool, self.ends_connections = prefixes, plan.pool, plan.ends_connections
-        # what is told of what comes from outside, where somebody asks; and how many are alike of what was told
-        self.tell, self.alike, self.follow = judge.tell, judge.alike, None
+        # how many are alike of what was told, whether enough neighbours with one address were, and who follows what
+        # comes from outside
+        self.judge, self.tell, self.alike, self.has_neighbours, self.follow = judge, judge.tell, judge.alike, False, None
         # mappings by protocol and inside endpoint, and by protocol and external endpoint; and of each host the last
         # mapping by protocol
         self.mappings, self.of_host = collections.defaultdict(dict), {}
@@ -568,6 +569,8 @@ class Gateway:
     def tell_neighbours(self, pair: Pair, inside: Endpoint, address: int):
         """Tells what else lives of a host from which a packet left by a new mapping."""
         found, siblings, cousins = self.of_host.get(inside[0], {}), (), ()
+        if self.has_neighbours and all(it.external[0] == address for it in found.values()):
+            return
         for protocol in PROTOCOLS:
             other = found.get(protocol)
             if not other or not other.must_live(pair.time):
@@ -578,6 +581,7 @@ class Gateway:
                 siblings = (other,)
         if siblings or cousins:
             self.tell(Neighbours(pair, address, siblings, cousins))
+            self.has_neighbours = self.judge.has_shown(Neighbours)
 
     def lose_others(self, it: Departure):
         """A remote that sees another number than before shows that the mapping of that was gone, or that there never

@@ -39,6 +39,10 @@ class Judge:
             self.alike[key] = [1, as_it_was(moment)]
         self.judge(moment)
 
+    def has_shown(self, kind: type) -> bool:
+        """Whether more moments of a kind that meet its requirements show nothing more, where mappings have to live."""
+        return all(len(rule.__self__.shown) >= MOST_KEPT for rule in self.rules[kind, None])
+
     def judge(self, moment):
         kind, protocol = type(moment), moment.protocol
         for rule in self.rules[kind, protocol if protocol in PROTOCOLS else None]:

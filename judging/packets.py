@@ -22,6 +22,8 @@ QUERIES, REPLIES, ERRORS = (8, 13, 17), (0, 14, 18), (3, 11, 12)
 HEADER, ICMP_HEADER = struct.Struct("!BxHHHBBxxII"), struct.Struct("!BBxxHH")
 UDP_HEADER, TCP_HEADER = struct.Struct("!HHHH"), struct.Struct("!HHIIBBxxH")
 DONT_FRAGMENT, MORE_FRAGMENTS, FRAGMENT = 0x4000, 0x2000, 0x3FFF
+# the version, and a header without options
+USUAL_HEADER = 0x45
 # pieces of a datagram come within so long (RFC 1122, section 3.3.2), and copies of a packet at two places of a machine
 MOST_APART, COPY_WITHIN = 30 * SECOND, SECOND // 1000
 MOST_GROUPS, MOST_COPIES, MOST_ADDRESSES = 10_000, 1000, 1_000_000
@@ -159,9 +161,11 @@ def packet_of(
     """Returns the packet of an IPv4 datagram, or None where it is none. Payloads are compared up to a depth, in bytes,
     of the datagram."""
     first, total, identification, fragment, ttl, protocol, source, destination = HEADER.unpack_from(data)
-    header, size = (first & 15) * 4, len(data)
-    if header < 20 or size < header or first >> 4 != 4:
-        return None
+    header, size = 20, len(data)
+    if first != USUAL_HEADER:
+        header = (first & 15) * 4
+        if header < 20 or size < header or first >> 4 != 4:
+            return None
     packet = Packet()
     packet.side, packet.file, packet.number, packet.time = side, file, number, time
     packet.identification, packet.ttl, packet.protocol, packet.is_sent, packet.pieces = identification, ttl, protocol, None, ()
@@ -180,22 +184,19 @@ def packet_of(
 
 def fill(packet: Packet, source: int, destination: int, body: bytes, length: int, depth: int | None = None):
     """Fills in the transport header and what is behind it. The body is shorter than its length where it was cut."""
-    protocol, size, kind, sum_ok = packet.protocol, len(body), OTHER, None
-    begin = sequence = first = second = near = far = 0
-    packet.is_cut, packet.is_offloaded, packet.flags, content = size < length, False, 0, None
+    protocol, size, kind, content = packet.protocol, len(body), OTHER, None
+    packet.is_cut, is_summed, sum_ok, is_offloaded = size < length, False, None, False
+    begin = sequence = first = second = flags = near = far = 0
     if protocol == TCP and size >= 20:
-        near, far, sequence, second, offset, first, checksum = TCP_HEADER.unpack_from(body)
-        kind, begin, packet.flags = OF_TCP, (offset >> 4) * 4, first & 63
-        first &= 63
-        if size == length:
-            sum_ok = packet_sum(packet, body, checksum, source + destination + TCP + length)
+        near, far, sequence, second, offset, flags, checksum = TCP_HEADER.unpack_from(body)
+        kind, begin, is_summed, flags = OF_TCP, (offset >> 4) * 4, size == length, flags & 63
+        first = flags
     elif protocol == UDP and size >= 8:
         near, far, told, checksum = UDP_HEADER.unpack_from(body)
         kind, begin = OF_UDP, 8
         if 8 <= told <= length:
             body, length = body[:told], told
-            if checksum and len(body) == told:
-                sum_ok = packet_sum(packet, body, checksum, source + destination + UDP + told)
+            is_summed = checksum and len(body) == told
     elif protocol == ICMP and size >= 8:
         first, second, identifier, number = ICMP_HEADER.unpack_from(body)
         packet.type, packet.code, begin = first, second, 8
@@ -204,19 +205,16 @@ def fill(packet: Packet, source: int, destination: int, body: bytes, length: int
             kind, packet.quoted, content = ERROR, quoted, (ERROR, quoted.protocol, quoted.identification)
         elif first in QUERIES or first in REPLIES:
             kind, sequence, near, far = QUERY, number, identifier, identifier
-    packet.kind, packet.sum_ok, packet.source, packet.destination = kind, sum_ok, (source, near), (destination, far)
+    if is_summed:
+        pseudo = source + destination + protocol + length
+        if not (sum_ok := is_right(body, pseudo)) and (checksum - pseudo) % 0xFFFF == 0:
+            # it is the sum of the pseudo header alone, and yet to be made by the card: nothing is known of it
+            sum_ok, is_offloaded = None, True
+    packet.kind, packet.sum_ok, packet.is_offloaded = kind, sum_ok, is_offloaded
+    packet.source, packet.destination, packet.flags = (source, near), (destination, far), flags
     packet.sequence, packet.acknowledged, packet.payload = sequence, second, length - begin
     packet.content = content or (
         protocol, first, second, sequence, length - begin, length > begin and zlib.crc32(body[begin:depth]))
-
-
-def packet_sum(packet: Packet, body: bytes, checksum: int, pseudo: int) -> bool | None:
-    """Returns whether a checksum is right. One that is the sum of the pseudo header alone is yet to be made, by the
-    card: nothing is known of it."""
-    if is_right(body, pseudo):
-        return True
-    packet.is_offloaded = (checksum - pseudo) % 0xFFFF == 0
-    return None if packet.is_offloaded else False
 
 
 def quoted_in(data: bytes) -> Quoted | None:
@@ -297,7 +295,7 @@ class Side:
             packet = packet_of(data, name, time - ahead, depth, file, number)
             if packet is None:
                 continue
-            if link in (COOKED, COOKED_2):
+            if link == COOKED or link == COOKED_2:
                 packet.is_sent = frame[1][1 if link == COOKED else 10] == SENT
             if packet.kind is PIECE:
                 if (packet := self.put_together(packet)) is None:

@@ -42,7 +42,7 @@ UNREAD = (OSError, EOFError, zlib.error, lzma.LZMAError)
 # link types (www.tcpdump.org/linktypes.html). Those with an ether type: the length of the header, and where the ether type stands
 COOKED, COOKED_2, RAW_IP = 113, 276, 101
 WITH_ETHER_TYPE = {1: (14, 12), COOKED: (16, 14), COOKED_2: (20, 0)}
-RAW = (12, 14, RAW_IP, 228, 229)
+RAW = (RAW_IP, 12, 14, 228, 229)
 # what a cooked frame tells of a packet that the captured machine sent
 SENT = 4
 # what an IPv4 header has up to its destination (RFC 791), in bytes
@@ -280,14 +280,15 @@ def after_link_header(link, data):
 
 def packet_in(link, data, original):
     """Returns the IPv4 packet of a frame, without link headers, and how long it was before the frame was cut."""
-    at = 0 if link in RAW else after_link_header(link, data)
-    packet = data[at:]
-    size = len(packet)
+    if link not in RAW:
+        at = after_link_header(link, data)
+        data, original = data[at:], original - at
+    size = len(data)
     if size < LEAST_HEADER:
         raise LeftOut("IPv4 packets that end before their addresses do")
-    if packet[0] >> 4 != 4:
-        raise LeftOut("IPv6" if packet[0] >> 4 == 6 else f"of IP version {packet[0] >> 4}")
-    return packet, max(original - at, size)
+    if data[0] >> 4 != 4:
+        raise LeftOut("IPv6" if data[0] >> 4 == 6 else f"of IP version {data[0] >> 4}")
+    return data, original if original > size else size
 
 
 class Copies:
