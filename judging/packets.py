@@ -19,11 +19,10 @@ FIN, SYN, RST, ACK = 1, 2, 4, 16
 FLAGS = ((SYN, "S"), (ACK, "A"), (FIN, "F"), (RST, "R"))
 # types of ICMP messages (RFC 792, 4884)
 QUERIES, REPLIES, ERRORS = (8, 13, 17), (0, 14, 18), (3, 11, 12)
-HEADER, ICMP_HEADER = struct.Struct("!BxHHHBBxxII"), struct.Struct("!BBxxHH")
-UDP_HEADER, TCP_HEADER = struct.Struct("!HHHH"), struct.Struct("!HHIIBBxxH")
+# headers, as the words of 32 bits whose sum is looked at; and what else of them is read
+HEADER, UDP_HEADER, TCP_HEADER = struct.Struct("!5I"), struct.Struct("!2I"), struct.Struct("!5I")
+ICMP_HEADER, QUOTED_HEADER, QUOTED_PORTS = struct.Struct("!BBxxHH"), struct.Struct("!xxHHxxxBxxII"), struct.Struct("!HHxxH")
 DONT_FRAGMENT, MORE_FRAGMENTS, FRAGMENT = 0x4000, 0x2000, 0x3FFF
-# the version, and a header without options
-USUAL_HEADER = 0x45
 # pieces of a datagram come within so long (RFC 1122, section 3.3.2), and copies of a packet at two places of a machine
 MOST_APART, COPY_WITHIN = 30 * SECOND, SECOND // 1000
 MOST_GROUPS, MOST_COPIES, MOST_ADDRESSES = 10_000, 1000, 1_000_000
@@ -160,61 +159,65 @@ def packet_of(
 ) -> Packet | None:
     """Returns the packet of an IPv4 datagram, or None where it is none. Payloads are compared up to a depth, in bytes,
     of the datagram."""
-    first, total, identification, fragment, ttl, protocol, source, destination = HEADER.unpack_from(data)
-    header, size = 20, len(data)
-    if first != USUAL_HEADER:
-        header = (first & 15) * 4
-        if header < 20 or size < header or first >> 4 != 4:
-            return None
+    first, second, third, source, destination = HEADER.unpack_from(data)
+    header, total, size = (first >> 24 & 15) * 4, first & 0xFFFF, len(data)
+    if header < 20 or size < header or first >> 28 != 4:
+        return None
     packet = Packet()
-    packet.side, packet.file, packet.number, packet.time = side, file, number, time
-    packet.identification, packet.ttl, packet.protocol, packet.is_sent, packet.pieces = identification, ttl, protocol, None, ()
-    packet.may_fragment = not fragment & DONT_FRAGMENT
-    packet.header_ok = int.from_bytes(data[:header], "big") % 0xFFFF == 0
+    packet.side, packet.file, packet.number, packet.time, packet.is_sent, packet.pieces = side, file, number, time, None, ()
+    packet.identification, packet.ttl, packet.protocol = second >> 16, third >> 24, third >> 16 & 0xFF
+    packet.may_fragment = not second & DONT_FRAGMENT
     # a length of 0 is left to the network card
     packet.length = total = total if total >= header else size
-    if not fragment & FRAGMENT:
-        fill(packet, source, destination, data[header:total], total - header, depth and depth - header)
+    if header == 20:
+        packet.header_ok = (first + second + third + source + destination) % 0xFFFF == 0
     else:
-        packet.kind, packet.data = PIECE, data[header:total]
+        packet.header_ok = is_right(data[:header])
+        data, total, depth = data[:20] + data[header:], total + 20 - header, depth and depth + 20 - header
+    if not second & FRAGMENT:
+        fill(packet, source, destination, data if size <= total else data[:total], total, depth)
+    else:
+        packet.kind, packet.data = PIECE, data[20:total]
         packet.source, packet.destination = (source, 0), (destination, 0)
-        packet.offset = (fragment & 0x1FFF) * 8, bool(fragment & MORE_FRAGMENTS)
+        packet.offset = (second & 0x1FFF) * 8, bool(second & MORE_FRAGMENTS)
     return packet
 
 
-def fill(packet: Packet, source: int, destination: int, body: bytes, length: int, depth: int | None = None):
-    """Fills in the transport header and what is behind it. The body is shorter than its length where it was cut."""
-    protocol, size, kind, content = packet.protocol, len(body), OTHER, None
-    packet.is_cut, is_summed, sum_ok, is_offloaded = size < length, False, None, False
-    begin = sequence = first = second = flags = near = far = 0
-    if protocol == TCP and size >= 20:
-        near, far, sequence, second, offset, flags, checksum = TCP_HEADER.unpack_from(body)
-        kind, begin, is_summed, flags = OF_TCP, (offset >> 4) * 4, size == length, flags & 63
-        first = flags
-    elif protocol == UDP and size >= 8:
-        near, far, told, checksum = UDP_HEADER.unpack_from(body)
-        kind, begin = OF_UDP, 8
-        if 8 <= told <= length:
-            body, length = body[:told], told
-            is_summed = checksum and len(body) == told
-    elif protocol == ICMP and size >= 8:
-        first, second, identifier, number = ICMP_HEADER.unpack_from(body)
-        packet.type, packet.code, begin = first, second, 8
-        sum_ok = None if size < length else is_right(body)
-        if first in ERRORS and (quoted := quoted_in(body[8:])):
+def fill(packet: Packet, source: int, destination: int, data: bytes, total: int, depth: int | None = None):
+    """Fills in the transport header, which is behind 20 bytes, and what follows. The data is shorter than its total
+    where it was cut."""
+    protocol, size, begin, kind, content = packet.protocol, len(data), 20, OTHER, None
+    packet.is_cut, is_summed, sum_ok, is_offloaded = size < total, False, None, False
+    ports = sequence = first = second = flags = 0
+    if protocol == TCP and size >= 40:
+        ports, sequence, second, fifth, checksum = TCP_HEADER.unpack_from(data, 20)
+        kind, begin, first, is_summed = OF_TCP, 20 + (fifth >> 28) * 4, fifth >> 16 & 63, size == total
+        flags, words, rest, checksum = first, ports + sequence + second + fifth + checksum, 40, checksum >> 16
+    elif protocol == UDP and size >= 28:
+        ports, words = UDP_HEADER.unpack_from(data, 20)
+        kind, begin, rest, told, checksum, words = OF_UDP, 28, 28, words >> 16, words & 0xFFFF, ports + words
+        if 8 <= told <= total - 20:
+            total, data = 20 + told, data[: 20 + told]
+            is_summed = checksum and len(data) == total
+    elif protocol == ICMP and size >= 28:
+        first, second, identifier, number = ICMP_HEADER.unpack_from(data, 20)
+        packet.type, packet.code, begin = first, second, 28
+        sum_ok = None if size < total else is_right(data[20:])
+        if first in ERRORS and (quoted := quoted_in(data[28:])):
             kind, packet.quoted, content = ERROR, quoted, (ERROR, quoted.protocol, quoted.identification)
         elif first in QUERIES or first in REPLIES:
-            kind, sequence, near, far = QUERY, number, identifier, identifier
+            kind, sequence, ports = QUERY, number, identifier << 16 | identifier
     if is_summed:
-        pseudo = source + destination + protocol + length
-        if not (sum_ok := is_right(body, pseudo)) and (checksum - pseudo) % 0xFFFF == 0:
+        pseudo = source + destination + protocol + total - 20
+        sum_ok = is_right(data[rest:], words + pseudo) if total > rest else (words + pseudo) % 0xFFFF == 0
+        if not sum_ok and (checksum - pseudo) % 0xFFFF == 0:
             # it is the sum of the pseudo header alone, and yet to be made by the card: nothing is known of it
             sum_ok, is_offloaded = None, True
-    packet.kind, packet.sum_ok, packet.is_offloaded = kind, sum_ok, is_offloaded
-    packet.source, packet.destination, packet.flags = (source, near), (destination, far), flags
-    packet.sequence, packet.acknowledged, packet.payload = sequence, second, length - begin
+    packet.kind, packet.sum_ok, packet.is_offloaded, packet.flags = kind, sum_ok, is_offloaded, flags
+    packet.source, packet.destination = (source, ports >> 16), (destination, ports & 0xFFFF)
+    packet.sequence, packet.acknowledged, packet.payload = sequence, second, total - begin
     packet.content = content or (
-        protocol, first, second, sequence, length - begin, length > begin and zlib.crc32(body[begin:depth]))
+        protocol, first, second, sequence, total - begin, total > begin and zlib.crc32(data[begin:depth]))
 
 
 def quoted_in(data: bytes) -> Quoted | None:
@@ -222,8 +225,8 @@ def quoted_in(data: bytes) -> Quoted | None:
     header = (data[0] & 15) * 4 if data else 0
     if len(data) < 28 or data[0] >> 4 != 4 or header < 20 or len(data) < header + 8:
         return None
-    _, total, identification, _, _, protocol, source, destination = HEADER.unpack_from(data)
-    near, far, _, checksum = UDP_HEADER.unpack_from(data, header)
+    total, identification, protocol, source, destination = QUOTED_HEADER.unpack_from(data)
+    near, far, checksum = QUOTED_PORTS.unpack_from(data, header)
     body, sum_ok, is_whole = data[header:total], None, len(data) >= total >= header + 8
     if protocol == ICMP:
         near = far = int.from_bytes(data[header + 4 : header + 6], "big")
@@ -335,7 +338,7 @@ class Side:
         whole.pieces, whole.time, whole.is_in_order = tuple(it.name for it in group), piece.time, group == in_place
         whole.kind, whole.length, whole.data = OTHER, len(data) + 20, None
         whole.header_ok = all(it.header_ok for it in group)
-        fill(whole, whole.source[0], whole.destination[0], data, len(data))
+        fill(whole, whole.source[0], whole.destination[0], bytes(20) + data, 20 + len(data))
         return whole
 
 
