@@ -23,6 +23,7 @@ ANSWER_TO_SYN, ANSWER = 12 * SECOND, 3 * SECOND
 # a gateway's timers may be so much longer than they must. Mappings that are over then are looked for each time that
 # the second has passed
 MARGIN, SWEEP = 600 * SECOND, 600 * SECOND
+MOST_LIFE = LONGEST + MARGIN
 # how many refusals are kept whose reason is known at the end, how many endpoints of the gateway itself, and ended
 # mappings of a number
 MOST_UNDECIDED, MOST_ENDS, MOST_ENDED = 256, 10_000, 4
@@ -57,18 +58,18 @@ class Session:
         return self.reset is not None or self.closed_out and self.closed_in
 
     def take(self, pair: Pair, is_out: bool):
-        """Takes a segment that went through."""
-        flags, self.last = pair.arrival.flags, pair.time
-        if flags & (SYN | FIN | RST):
-            opens, closes = bool(flags & SYN), bool(flags & FIN)
+        """Takes the flags of a segment that went through."""
+        flags = pair.arrival.flags
+        if flags & SYN:
             # the SYN of the inside may have left before the captures
-            self.opened_out |= opens and (is_out or bool(flags & ACK))
-            self.opened_in |= opens and not is_out
-            self.closed_out |= closes and is_out
-            self.closed_in |= closes and not is_out
-            self.reset = pair if flags & RST else self.reset
-            is_open = self.opened_out and self.opened_in and not self.is_closing
-            self.kind = ESTABLISHED if is_open else TRANSITORY
+            self.opened_out |= is_out or bool(flags & ACK)
+            self.opened_in |= not is_out
+        if flags & FIN:
+            self.closed_out |= is_out
+            self.closed_in |= not is_out
+        self.reset = pair if flags & RST else self.reset
+        is_open = self.opened_out and self.opened_in and not self.is_closing
+        self.kind = ESTABLISHED if is_open else TRANSITORY
 
 
 class Mapping:
@@ -376,7 +377,7 @@ class Gateway:
             self.end_waits(self.now)
         if type(item) is Departed:
             self.take_alone(item)
-        elif item.how == LIKELY:
+        elif item.how is LIKELY:
             self.doubt(item)
         else:
             if self.now - self.swept > SWEEP:
@@ -393,9 +394,11 @@ class Gateway:
 
     def take_pair(self, pair: Pair):
         came, left, way = pair.arrival, pair.departure, pair.way
-        key = left and alike(pair)
-        if key is None or not self.has_enough(key):
-            self.tell(pair, key)
+        group = left and self.alike.get(key := alike(pair, came, left))
+        if group and group[0] >= MOST_KEPT:
+            group[0] += 1
+        else:
+            self.tell(pair, left and key)
         if came.pieces:
             self.tell(Fragmented(pair))
         if way is OUT:
@@ -409,8 +412,8 @@ class Gateway:
         # one that was cut may have a wrong checksum, for which it was dropped
         if pair.how is ALTERED or came.is_cut and not left:
             return
-        if came.kind in (OF_UDP, OF_TCP, QUERY):
-            (self.take_out if way is OUT else self.take_in if way is IN else self.take_hairpin)(pair)
+        if came.kind in (OF_TCP, OF_UDP, QUERY):
+            (self.take_out if way is OUT else self.take_in if way is IN else self.take_hairpin)(pair, came, left)
         elif came.kind is ERROR:
             self.take_error(pair)
 
@@ -493,12 +496,11 @@ class Gateway:
 
     # OUT
 
-    def take_out(self, pair: Pair):
-        came = pair.arrival
-        if came.kind == QUERY and came.type not in QUERIES:
+    def take_out(self, pair: Pair, came: Packet, left: Packet | None):
+        if came.kind is QUERY and came.type not in QUERIES:
             return
-        if pair.departure:
-            self.leave(pair, (came.destination[0], 0) if came.kind == QUERY else came.destination)
+        if left:
+            self.leave(pair, (came.destination[0], 0) if came.kind is QUERY else came.destination)
         elif came.is_clean and not came.pieces and (came.may_fragment or came.length <= LEAST_MTU):
             if not (came.protocol == TCP and self.ends_connections):
                 self.wait(Unforwarded(pair))
@@ -569,11 +571,9 @@ class Gateway:
     def tell_neighbours(self, pair: Pair, inside: Endpoint, address: int):
         """Tells what else lives of a host from which a packet left by a new mapping."""
         found, siblings, cousins = self.of_host.get(inside[0], {}), (), ()
-        if self.has_neighbours and all(it.external[0] == address for it in found.values()):
-            return
         for protocol in PROTOCOLS:
             other = found.get(protocol)
-            if not other or not other.must_live(pair.time):
+            if not other or self.has_neighbours and other.external[0] == address or not other.must_live(pair.time):
                 continue
             if protocol != pair.protocol:
                 cousins += (other,)
@@ -594,22 +594,23 @@ class Gateway:
                 self.refuse(Incoming(it.pair, o, session, o.kind_to(it.remote), gap, gap))
 
     def session_out(self, mapping: Mapping, pair: Pair, remote: Endpoint):
-        flags, session = pair.arrival.flags, mapping.sessions.get(remote)
+        came, session = pair.arrival, mapping.sessions.get(remote)
+        flags = came.flags
         if session is None or flags & (SYN | ACK) == SYN and session.is_closing:
             session = mapping.sessions[remote] = Session()
         if session.reset and pair.way is OUT and not flags & (SYN | RST):
             self.tell(Incoming(pair, mapping, session, session.kind, is_let_in=True, cause=RESET))
-        session.take(pair, True)
+        session.last = pair.time
+        if flags & (SYN | FIN | RST):
+            session.take(pair, True)
         if flags & ACK:
-            session.acknowledged = pair.arrival.acknowledged
+            session.acknowledged = came.acknowledged
 
     # IN
 
-    def take_in(self, pair: Pair):
-        came = pair.arrival
-        if not (came.kind == QUERY and came.type in QUERIES or came.pieces) and came.is_clean:
-            remote = (came.source[0], 0) if came.kind == QUERY else came.source
-            self.come(pair, remote, pair.departure and pair.departure.destination)
+    def take_in(self, pair: Pair, came: Packet, left: Packet | None):
+        if not (came.kind is QUERY and came.type in QUERIES or came.pieces) and came.is_clean:
+            self.come(pair, (came.source[0], 0) if came.kind is QUERY else came.source, left and left.destination)
 
     def come(self, pair: Pair, remote: Endpoint, target: Endpoint | None):
         """Takes a packet to an external endpoint, from outside or as a hairpin, that went to an inside endpoint or
@@ -678,17 +679,20 @@ class Gateway:
         mapping.use(pair, remote)
         mapping.received += 1
         if protocol == TCP:
-            (session or mapping.sessions.setdefault(remote, Session())).take(pair, False)
+            if not session:
+                session = mapping.sessions[remote] = Session()
+            session.last = time
+            if came.flags & (SYN | FIN | RST):
+                session.take(pair, False)
 
     def note_life(self, pair: Pair, mapping: Mapping, kind: str, gap: int, quiet: int):
         """Notes how long a mapping lived by which a packet of a known remote came in."""
         if kind == OF_UDP and mapping.sent > 1:
             self.tell(Kept(pair, mapping))
-        if gap < LONGEST + MARGIN:
-            if kind == OF_UDP and mapping.sent == 1 and not mapping.received:
-                self.lifetimes.alive_alone = max(self.lifetimes.alive_alone, quiet)
-            if quiet > self.lifetimes.longest(kind):
-                self.lifetimes.alive[kind] = (quiet, mapping.last_pair, pair)
+        elif kind == OF_UDP and not mapping.received and gap < MOST_LIFE:
+            self.lifetimes.alive_alone = max(self.lifetimes.alive_alone, quiet)
+        if gap < MOST_LIFE and quiet > self.lifetimes.longest(kind):
+            self.lifetimes.alive[kind] = (quiet, mapping.last_pair, pair)
 
     def note_filter(self, it: Incoming, remote: Endpoint):
         """Notes whether a stranger was let in by a mapping that must be live."""
@@ -740,8 +744,8 @@ class Gateway:
 
     # HAIRPINS AND ERRORS
 
-    def take_hairpin(self, pair: Pair):
-        came, left, time = pair.arrival, pair.departure, pair.time
+    def take_hairpin(self, pair: Pair, came: Packet, left: Packet | None):
+        time = pair.time
         if came.kind == QUERY or not came.is_clean or came.protocol == TCP and self.ends_connections:
             return
         owner = next((it for it in self.with_end(came.protocol, came.destination) if it.must_live(time)), None)
@@ -797,11 +801,10 @@ class Gateway:
         return senders and it.mapping
 
 
-def alike(pair: Pair) -> tuple:
+def alike(pair: Pair, came: Packet, left: Packet) -> tuple:
     """Returns what all pairs have that no rule about pairs can tell from this one."""
-    came, left = pair.arrival, pair.departure
     return (
-        pair.way, pair.how, pair.protocol, came.kind, came.sum_ok, left.sum_ok, came.is_offloaded, left.is_offloaded,
+        pair.way, pair.how, came.kind, came.protocol, came.sum_ok, left.sum_ok, came.is_offloaded, left.is_offloaded,
         left.header_ok, came.ttl - left.ttl, came.may_fragment == left.may_fragment, came.payload == left.payload,
         came.payload > 0 and came.destination[1] in GATEWAY_PORTS)
 
