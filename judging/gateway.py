@@ -369,20 +369,21 @@ class Gateway:
         # endpoints from which packets left alone, and those of nobody to which packets came
         self.alone, self.nobodys = collections.Counter(), set()
 
-    def take(self, item: Pair | Departed):
-        """Takes a pair, or what departed alone, in order of time."""
-        if item.time > self.now:
-            self.now = item.time
-        if self.waiting and self.waiting[0][0] < self.now:
-            self.end_waits(self.now)
-        if type(item) is Departed:
-            self.take_alone(item)
-        elif item.how is LIKELY:
-            self.doubt(item)
-        else:
-            if self.now - self.swept > SWEEP:
-                self.sweep()
-            self.take_pair(item)
+    def take(self, items: list[Pair | Departed]):
+        """Takes pairs, and what departed alone, in order of time."""
+        for item in items:
+            if item.time > self.now:
+                self.now = item.time
+            if self.waiting and self.waiting[0][0] < self.now:
+                self.end_waits(self.now)
+            if type(item) is Departed:
+                self.take_alone(item)
+            elif item.how is LIKELY:
+                self.doubt(item)
+            else:
+                if self.now - self.swept > SWEEP:
+                    self.sweep()
+                self.take_pair(item)
 
     def has_enough(self, key: object) -> bool:
         """Whether enough of what has a key was told, so that one more is only counted."""

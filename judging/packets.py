@@ -27,7 +27,7 @@ DONT_FRAGMENT, MORE_FRAGMENTS, FRAGMENT = 0x4000, 0x2000, 0x3FFF
 MOST_APART, COPY_WITHIN = 30 * SECOND, SECOND // 1000
 MOST_GROUPS, MOST_COPIES, MOST_ADDRESSES = 10_000, 1000, 1_000_000
 # packets that are handed on together, and bytes of which zlib adds up more at once than can be converted
-BATCH, LONG, EXACT = 256, 512, 256
+BATCH, LONG, EXACT = 128, 512, 256
 
 Endpoint = tuple[int, int]
 
@@ -146,9 +146,9 @@ class Packet:
     def key(self, is_out: bool) -> tuple:
         """Returns the content with the end of the remote, which is the destination of what goes out."""
         far = self.destination if is_out else self.source
-        if self.kind == QUERY:
+        if self.kind is QUERY:
             return self.content, far[0]
-        if self.kind == ERROR:
+        if self.kind is ERROR:
             end = self.quoted.source if is_out else self.quoted.destination
             return self.content, far[0], end[0] if self.quoted.protocol == ICMP else end
         return self.content, far

@@ -105,10 +105,10 @@ class Replay(Judge):
         if pair.way is IN and pair.arrival.data:
             self.followed.append(Followed(pair, mapping.inside, rows_of(pair, mapping, is_known)))
 
-    def take(self, item: Pair | Departed):
-        self.gateway.take(item)
-        if type(item) is Pair and item.way is not IN and item.arrival.data:
-            self.sent.append((item.time, item.arrival.data))
+    def take(self, items: list[Pair | Departed]):
+        self.gateway.take(items)
+        pairs = (it for it in items if type(it) is Pair and it.way is not IN and it.arrival.data)
+        self.sent += ((it.time, it.arrival.data) for it in pairs)
 
     def run(self) -> "Replay":
         super().run()
