@@ -357,7 +357,8 @@ class Gateway:
         self.prefixes, self.pool, self.ends_connections = prefixes, plan.pool, plan.ends_connections
         # how many are alike of what was told, whether enough neighbours with one address were, and who follows what
         # comes from outside
-        self.judge, self.tell, self.alike, self.has_neighbours, self.follow = judge, judge.tell, judge.alike, False, None
+        self.judge, self.tell, self.alike = judge, judge.tell, judge.alike
+        self.has_neighbours, self.follow = False, None
         # mappings by protocol and inside endpoint, and by protocol and external endpoint; and of each host the last
         # mapping by protocol
         self.mappings, self.of_host = collections.defaultdict(dict), {}

@@ -7,8 +7,7 @@ import zlib
 from collections.abc import Iterator
 from typing import NamedTuple
 
-from reading.captures import COOKED, COOKED_2, MOST_CAPTURED, MOST_TIME, RAW_IP, SECOND, SENT, Capture, Copies, Frame
-from reading.captures import LeftOut, packet_in
+from reading.captures import COOKED, COOKED_2, MOST_TIME, SECOND, SENT, Capture, Copies, Frame, LeftOut, packet_in
 
 SIDES = ("inside", "outside")
 ICMP, TCP, UDP = 1, 6, 17
@@ -21,7 +20,8 @@ FLAGS = ((SYN, "S"), (ACK, "A"), (FIN, "F"), (RST, "R"))
 QUERIES, REPLIES, ERRORS = (8, 13, 17), (0, 14, 18), (3, 11, 12)
 # headers, as the words of 32 bits whose sum is looked at; and what else of them is read
 HEADER, UDP_HEADER, TCP_HEADER = struct.Struct("!5I"), struct.Struct("!2I"), struct.Struct("!5I")
-ICMP_HEADER, QUOTED_HEADER, QUOTED_PORTS = struct.Struct("!BBxxHH"), struct.Struct("!xxHHxxxBxxII"), struct.Struct("!HHxxH")
+ICMP_HEADER = struct.Struct("!BBxxHH")
+QUOTED_HEADER, QUOTED_PORTS = struct.Struct("!xxHHxxxBxxII"), struct.Struct("!HHxxH")
 DONT_FRAGMENT, MORE_FRAGMENTS, FRAGMENT = 0x4000, 0x2000, 0x3FFF
 # pieces of a datagram come within so long (RFC 1122, section 3.3.2), and copies of a packet at two places of a machine
 MOST_APART, COPY_WITHIN = 30 * SECOND, SECOND // 1000
@@ -164,7 +164,8 @@ def packet_of(
     if header < 20 or size < header or first >> 28 != 4:
         return None
     packet = Packet()
-    packet.side, packet.file, packet.number, packet.time, packet.is_sent, packet.pieces = side, file, number, time, None, ()
+    packet.side, packet.file, packet.number, packet.time = side, file, number, time
+    packet.is_sent, packet.pieces = None, ()
     packet.identification, packet.ttl, packet.protocol = second >> 16, third >> 24, third >> 16 & 0xFF
     packet.may_fragment = not second & DONT_FRAGMENT
     # a length of 0 is left to the network card
@@ -340,11 +341,3 @@ class Side:
         whole.header_ok = all(it.header_ok for it in group)
         fill(whole, whole.source[0], whole.destination[0], bytes(20) + data, 20 + len(data))
         return whole
-
-
-def write_capture(path, records: list[tuple[int, bytes]]):
-    """Writes a capture of raw IP of times in nanoseconds and packets."""
-    with open(path, "wb") as file:
-        file.write(struct.pack("<IHHIIII", 0xA1B23C4D, 2, 4, 0, 0, MOST_CAPTURED, RAW_IP))
-        for time, data in records:
-            file.write(struct.pack("<IIII", *divmod(time, SECOND), len(data), len(data)) + data)

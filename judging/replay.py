@@ -10,10 +10,10 @@ import tempfile
 from judging.gateway import ADDRESS, ADDRESS_PORT, ESTABLISHED, INDEPENDENT, LEAST, OF_ICMP, RESET, TIMER, TRANSITORY
 from judging.gateway import Incoming, Mapping
 from judging.judge import Judge
-from judging.packets import ERROR, ICMP, OF_UDP, QUERY, TCP, UDP, Endpoint, Packet, Plan, dotted, write_capture
+from judging.packets import ERROR, ICMP, OF_UDP, QUERY, TCP, UDP, Endpoint, Packet, Plan, dotted
 from judging.pairing import IN, Departed, Given, Pair
 from judging.rows import BY_DEFINITION, Row
-from reading.captures import BAD_WORDS, SECOND, Fault
+from reading.captures import BAD_WORDS, SECOND, Fault, write_capture
 
 FILTERS = {INDEPENDENT: "independent", ADDRESS: "address", ADDRESS_PORT: "address-port"}
 TIMERS = {"udp": OF_UDP, "tcp-established": ESTABLISHED, "tcp-transitory": TRANSITORY, "icmp": OF_ICMP}

@@ -43,6 +43,8 @@ UNREAD = (OSError, EOFError, zlib.error, lzma.LZMAError)
 COOKED, COOKED_2, RAW_IP = 113, 276, 101
 WITH_ETHER_TYPE = {1: (14, 12), COOKED: (16, 14), COOKED_2: (20, 0)}
 RAW = (RAW_IP, 12, 14, 228, 229)
+# what a capture of raw IP begins with whose times are in nanoseconds
+RAW_HEADER = struct.pack("<IHHIIII", 0xA1B23C4D, 2, 4, 0, 0, MOST_CAPTURED, RAW_IP)
 # what a cooked frame tells of a packet that the captured machine sent
 SENT = 4
 # what an IPv4 header has up to its destination (RFC 791), in bytes
@@ -319,6 +321,18 @@ class Copies:
         self.seen[key].append({place})
         self.order.append((time, key))
         return False
+
+
+def record(time, packet, original):
+    """Returns the record of a packet for a capture that begins with RAW_HEADER; `original` is its length before it was cut."""
+    return struct.pack("<IIII", *divmod(time, SECOND), len(packet), original) + packet
+
+
+def write_capture(path, packets):
+    """Writes a capture of packets, each with its time."""
+    with open(path, "wb") as file:
+        file.write(RAW_HEADER)
+        file.writelines(record(time, data, len(data)) for time, data in packets)
 
 
 def date(time):

@@ -10,8 +10,8 @@ import subprocess
 import tempfile
 import time
 
-from judging.packets import SIDES, write_capture
-from reading.captures import SECOND, Capture
+from judging.packets import SIDES
+from reading.captures import SECOND, Capture, write_capture
 
 ARP, IPV4, ALL_FRAMES = 0x0806, 0x0800, 3
 ASKS, ANSWERS = 1, 2
