@@ -137,7 +137,8 @@ class Mapping:
 
     def is_over(self, time: int) -> bool:
         """Whether hardly any gateway still has it."""
-        return time - self.last_any > LEAST[self.age(time)[0]] + MARGIN
+        quiet = time - self.last_any - MARGIN
+        return quiet > SHORTEST and quiet > LEAST[self.age(time)[0]]
 
 
 # MOMENTS IN WHICH A REQUIREMENT CAN BE MET OR BROKEN
@@ -490,7 +491,9 @@ class Gateway:
         """Forgets mappings that are over for long."""
         now = self.swept = self.now
         for protocol, found in self.mappings.items():
-            self.mappings[protocol] = {end: it for end, it in found.items() if not all(one.is_over(now) for one in it)}
+            self.mappings[protocol] = {
+                end: them for end, them in found.items()
+                if not (them[-1].is_over(now) and all(it.is_over(now) for it in them))}
         for host, found in list(self.of_host.items()):
             self.of_host[host] = live = {protocol: it for protocol, it in found.items() if not it.is_over(now)}
             if not live:
