@@ -102,6 +102,9 @@ class Mapping:
         if time - self.last_any > self.longest_gap:
             self.longest_gap = time - self.last_any
         self.last_any = time
+        if self.last and self.last[1] == remote:
+            # one that is there already takes no more memory
+            remote = self.last[1]
         self.last = (pair.way, remote, came.flags, time, came.file, came.number, left.file, left.number)
 
     def begin(self, pair: Pair):
@@ -397,11 +400,9 @@ class Gateway:
 
     def take_pair(self, pair: Pair):
         came, left, way = pair.arrival, pair.departure, pair.way
-        group = left and self.alike.get(key := alike(pair, came, left))
-        if group and group[0] >= MOST_KEPT:
-            group[0] += 1
-        else:
-            self.tell(pair, left and key)
+        key = left and alike(pair, came, left)
+        if not self.has_enough(key):
+            self.tell(pair, key)
         if came.pieces:
             self.tell(Fragmented(pair))
         if way is OUT:
@@ -426,12 +427,13 @@ class Gateway:
 
     def add(self, mapping: Mapping):
         """Adds a mapping, in the place of old ones that its number had, of which some are kept."""
-        table = self.mappings[mapping.protocol]
-        table[mapping.inside] = (*table.get(mapping.inside, ()), mapping)
+        # a row that is added to an empty one is itself, and takes no more memory
+        table, alone = self.mappings[mapping.protocol], (mapping,)
+        table[mapping.inside] = table.get(mapping.inside, ()) + alone
         found = table.get(mapping.external, ())
         if len(found) >= MOST_ENDED:
             found = tuple(it for it in found if it.must_live(mapping.first)) or found[-1:]
-        table[mapping.external] = (*found, mapping)
+        table[mapping.external] = found + alone
 
     def doubt(self, pair: Pair):
         """Concludes nothing from mappings whose packet it may be, since several hosts sent the same."""
