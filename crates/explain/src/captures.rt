@@ -96,16 +96,16 @@ impl RefusedRun<'_> {
         fault: CaptureFault,
         failed: Option<io::Error>,
     ) -> Exit {
-        if let Err(stop) = self.tell_reasons(rt, side, head, fault) {
+        if let Err(stop) = self.print_reasons(rt, side, head, fault) {
             return stop;
         }
         if let Some(error) = failed {
             let _ = eprintln!(rt; "  {:<9} {error}", "system");
         }
-        Exit::Told(Stop::Run(Fault::Capture(side, fault)))
+        Exit::Printed(Stop::Run(Fault::Capture(side, fault)))
     }
 
-    fn tell_reasons<R: Eprint + AllocGlobal>(
+    fn print_reasons<R: Eprint + AllocGlobal>(
         self,
         rt: &R,
         side: Side,
@@ -122,7 +122,7 @@ impl RefusedRun<'_> {
             capture: path.map(|path| path.as_str()).filter(|path| *path != "-"),
             inside: self.config.inside(),
         };
-        refusals::tell_capture(rt, name, head, fault, splitting)
+        refusals::print_capture(rt, name, head, fault, splitting)
     }
 }
 

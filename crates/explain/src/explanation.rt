@@ -125,10 +125,10 @@ impl<'a, 'b, O: Drop> Explanation<'a, 'b, O> {
             ..
         } = self;
         page.end(rt)?;
-        progress.tell_end(rt, packets);
-        flaws.tell(rt, options.form)?;
+        progress.print_end(rt, packets);
+        flaws.print(rt, options.form)?;
         if options.is_of_gateway() && remotes.are_astray() {
-            return Err(remotes.tell_astray(rt));
+            return Err(remotes.print_astray(rt));
         }
         print_warning(rt, options.outside, None, &losses);
         let ending = EndedRun {
@@ -136,14 +136,14 @@ impl<'a, 'b, O: Drop> Explanation<'a, 'b, O> {
             packets,
             first,
             last,
-            later: flaws.back.far(),
+            later: flaws.back.length(),
             cuts: flaws.cuts,
             are_answers: remotes.are_answers(&losses),
             losses,
             rows: running.bindings(rt.alloc())?,
             living: running.living(rt.alloc())?,
         };
-        unmatched.tell(rt);
+        unmatched.print(rt);
         output.end(rt, &mut page, &ending)
     }
 }
@@ -174,8 +174,8 @@ impl<R: Print + Eprint + AllocGlobal, O: CommandOutput<R> + Drop> Consumer<R>
         let line = PacketLine::of(passing, self.replies);
         self.unmatched.take(alloc, line, &step.part.made)?;
         self.output.take(rt, config, passing, &mut self.page.text)?;
-        self.page.turn(rt)?;
-        self.progress.tell(rt, number);
+        self.page.write_if_full(rt)?;
+        self.progress.print(rt, number);
         Ok(())
     }
 

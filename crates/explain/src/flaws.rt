@@ -24,8 +24,8 @@ pub struct ConfigAdvice {
 impl ConfigAdvice {
     /// Prints which captures end inside a record, whose last packet is ignored: on standard output if it is for people,
     /// and otherwise on standard error. A step back in time is always printed there.
-    pub fn tell<R: Print + Eprint>(self, rt: &R, form: OutputForm<'_>) -> Result<(), Exit> {
-        self.back.tell(rt, form);
+    pub fn print<R: Print + Eprint>(self, rt: &R, form: OutputForm<'_>) -> Result<(), Exit> {
+        self.back.print(rt, form);
         let CutFlags { inside, outside } = self.cuts;
         for (side, cut) in [("inside", inside), (self.holds.name(), outside)] {
             if cut && form.is_for_people() {
@@ -43,7 +43,7 @@ impl ConfigAdvice {
 pub struct StepBack {
     latest: Stamp,
     /// The length of the step, in ns; 0 if there is none.
-    far: u64,
+    length: u64,
     /// The number of the latest packet before the step, or 0 if that is the state.
     from: u64,
     /// The number of the packet after the step.
@@ -62,7 +62,7 @@ impl StepBack {
     pub fn from_state(time: u64) -> StepBack {
         StepBack {
             latest: Stamp { number: 0, time },
-            far: 0,
+            length: 0,
             from: 0,
             to: 0,
         }
@@ -75,30 +75,30 @@ impl StepBack {
             self.latest = Stamp { number, time };
             return;
         };
-        if far > self.far {
-            self.far = far;
+        if far > self.length {
+            self.length = far;
             self.from = self.latest.number;
             self.to = number;
         }
     }
 
     /// Returns the length of the step, in ns, or 0 if there is none.
-    pub fn far(self) -> u64 {
-        self.far
+    pub fn length(self) -> u64 {
+        self.length
     }
 
     /// Prints a step of more than a second, and any step if the output has times.
-    fn tell<R: Eprint>(self, rt: &R, form: OutputForm<'_>) {
-        if self.far == 0 || (self.far <= SECOND && !form.has_times()) {
+    fn print<R: Eprint>(self, rt: &R, form: OutputForm<'_>) {
+        if self.length == 0 || (self.length <= SECOND && !form.has_times()) {
             return;
         }
-        self.tell_step(rt);
+        self.print_step(rt);
         if form.asks_times() {
             let _ = eprintln!(rt;
                 "  each answer covers this much more time than was asked about, and names everybody who had the endpoint then"
             );
         }
-        if self.far <= SECOND {
+        if self.length <= SECOND {
             return;
         }
         let cause = match self.from {
@@ -111,9 +111,9 @@ impl StepBack {
     }
 
     /// Prints how long the step is, and between which packets.
-    fn tell_step<R: Eprint>(self, rt: &R) {
+    fn print_step<R: Eprint>(self, rt: &R) {
         let (from, to) = (self.from, self.to);
-        let (seconds, rest) = (self.far / SECOND, self.far % SECOND);
+        let (seconds, rest) = (self.length / SECOND, self.length % SECOND);
         let _ = match from {
             0 => eprintln!(rt;
                 "explain: packet {to} is {seconds}.{rest:09} s earlier than the state of --resume"

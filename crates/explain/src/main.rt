@@ -22,12 +22,12 @@ mod run_setting;
 use crate::commands::CommandTexts;
 use crate::manual::{INSTALLED, OWN};
 use crate::options::{ExplainOptions, OutputForm, options_of};
-use crate::pairs::tell_pairs;
+use crate::pairs::print_pairs;
 use crate::reading::{answer, configuration, open_captures, read_given, requests_of, saved_at};
 use crate::run_setting::RunSetting;
 use clap::Error;
 use clap::error::ErrorKind;
-use napt_attribution::{answer_by_blocks, tell_blocks};
+use napt_attribution::{answer_by_blocks, print_blocks};
 use napt_commands::Exit;
 use napt_config::Config;
 use napt_program::{ProgramCall, StandardStreams, Stop, take_verbose};
@@ -69,12 +69,12 @@ fn explained<R: Env + Files + Input + Print + Eprint + AllocGlobal>(
         let _ = eprintln!(rt;
             "explain: {command} is a command of napt-analysis: napt-analysis {command} --help"
         );
-        return Err(Exit::Told(Stop::Usage));
+        return Err(Exit::Printed(Stop::Usage));
     }
     let command_line = words.command_line(rt.alloc(), manual)?;
     let matches = match command_line.try_get_matches_from(&words.list) {
         Ok(matches) => matches,
-        Err(error) => return told(rt, &error),
+        Err(error) => return print_message(rt, &error),
     };
     match matches.subcommand() {
         Some((command, given)) => {
@@ -102,7 +102,7 @@ fn arguments<R: Env + AllocGlobal>(rt: &R) -> Result<Vec<String>, Exit> {
 }
 
 /// Prints the message of `clap`: help and version on standard output, a usage error on standard error.
-fn told<R: Print + Eprint + AllocGlobal>(rt: &R, error: &Error) -> Result<(), Exit> {
+fn print_message<R: Print + Eprint + AllocGlobal>(rt: &R, error: &Error) -> Result<(), Exit> {
     let text = error.to_string(rt.alloc())?;
     match error.kind() {
         ErrorKind::DisplayHelp | ErrorKind::DisplayVersion => {
@@ -112,7 +112,7 @@ fn told<R: Print + Eprint + AllocGlobal>(rt: &R, error: &Error) -> Result<(), Ex
         ErrorKind::OutOfMemory => Err(Exit::As(Stop::LineMemory)),
         _ => {
             let _ = rt.eprint(text);
-            Err(Exit::Told(Stop::Usage))
+            Err(Exit::Printed(Stop::Usage))
         }
     }
 }
@@ -127,13 +127,13 @@ fn explained_under<R: Files + Input + Print + Eprint + AllocGlobal>(
         return answer(rt, streams, options);
     }
     match options.form {
-        OutputForm::Blocks => tell_blocks(rt, streams, &configuration(rt, options)?),
+        OutputForm::Blocks => print_blocks(rt, streams, &configuration(rt, options)?),
         OutputForm::Pairs => {
             let config = configuration(rt, options)?;
-            tell_pairs(rt, streams, &config, &saved_at(rt, options)?)
+            print_pairs(rt, streams, &config, &saved_at(rt, options)?)
         }
         _ if options.is_of_gateway() && !options.shows_outside() => {
-            told_without_outside(rt, streams, options)
+            print_without_outside(rt, streams, options)
         }
         _ => explained_run(rt, streams, options, None),
     }
@@ -141,7 +141,7 @@ fn explained_under<R: Files + Input + Print + Eprint + AllocGlobal>(
 
 /// Answers requests from the blocks of a configuration, and from captures if some are named. Without blocks, and for a
 /// log, prints that packets from outside have to show that the captured gateway used the numbers of the run.
-fn told_without_outside<R: Files + Input + Print + Eprint + AllocGlobal>(
+fn print_without_outside<R: Files + Input + Print + Eprint + AllocGlobal>(
     rt: &R,
     streams: StandardStreams,
     options: &ExplainOptions<'_>,
@@ -154,7 +154,7 @@ fn told_without_outside<R: Files + Input + Print + Eprint + AllocGlobal>(
             "explain: {command} answers from the run that napt makes: give the packets from outside, too (--outside), which show \
 whether the gateway used the same numbers, or give --as-napt"
         );
-        return Err(Exit::Told(Stop::Usage));
+        return Err(Exit::Printed(Stop::Usage));
     }
     if options.is_without_captures() {
         let asked = requests_of(rt, options.form)?;

@@ -47,12 +47,12 @@ impl<'m> ExplainOptions<'m> {
     }
 
     /// Returns the role of the first option whose standard stream another option already uses, the log last.
-    pub fn standard_again(&self) -> Option<FileRole> {
+    pub fn repeated_stream(&self) -> Option<FileRole> {
         let files = &self.files;
         let has_output = files.is_standard(FileRole::ToOutside)
             || files.is_stream(FileRole::ToInside)
             || files.is_stream(FileRole::Report);
-        match files.standard_again() {
+        match files.repeated_stream() {
             None if has_output && self.is_log_stream() => Some(FileRole::Log),
             again => again,
         }
@@ -346,7 +346,7 @@ fn file_of(
 /// Prints what is wrong with an argument, after its name, and returns how the program stops.
 fn wrong<R: Eprint>(rt: &R, name: &str, text: &str, why: &str) -> Exit {
     let _ = eprintln!(rt; "explain: {name}{text}: {why}");
-    Exit::Told(Stop::Usage)
+    Exit::Printed(Stop::Usage)
 }
 
 /// Returns the value of an argument that is present, as its text was parsed. If it is invalid, prints why, after its

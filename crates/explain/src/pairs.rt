@@ -11,9 +11,9 @@ use std::fmt::Write;
 /// The greatest number of pairs of a configuration.
 const MOST_PAIRS: usize = 256;
 
-/// Prints a pair for each host with a live binding in a state that a configuration would give another external address, in the
-/// order of hosts, and says if there are more than a configuration has, or that it can have none.
-pub fn tell_pairs<R: Print + Eprint + AllocGlobal>(
+/// Prints a pair for each host with a live binding in a state that a configuration would give another external
+/// address, in the order of hosts, and says if there are more than a configuration has, or that it can have none.
+pub fn print_pairs<R: Print + Eprint + AllocGlobal>(
     rt: &R,
     streams: StandardStreams,
     config: &Config,
@@ -21,7 +21,7 @@ pub fn tell_pairs<R: Print + Eprint + AllocGlobal>(
 ) -> Result<(), Exit> {
     if config.block().is_some() {
         let _ = eprintln!(rt; "explain: a configuration with a `block` has no pairs");
-        return Err(Exit::Told(Stop::Usage));
+        return Err(Exit::Printed(Stop::Usage));
     }
     if !streams.output {
         return Err(Exit::NoOutput);
@@ -34,7 +34,7 @@ pub fn tell_pairs<R: Print + Eprint + AllocGlobal>(
             page.text,
             "[[pair]]\nhost = \"{host}\"\nexternal = \"{external}\""
         )?;
-        page.turn(rt)?;
+        page.write_if_full(rt)?;
     }
     if moved.len() > MOST_PAIRS {
         let many = moved.len();
@@ -64,8 +64,8 @@ fn moved_hosts(
     Ok(moved)
 }
 
-/// Returns whether a configuration would give an inside host another external address than this one of its pool, and has no pair
-/// for it.
+/// Returns whether a configuration would give an inside host another external address than this one of its pool, and
+/// has no pair for it.
 fn is_moved(config: &Config, host: u32, external: u32) -> bool {
     let by_index = config
         .pool()

@@ -3,25 +3,25 @@
 
 use crate::options::ExplainOptions;
 use napt_commands::{Exit, unwritten};
-use napt_program::{FileRole, Stop, again_text, closed_text, is_same, place_of, shared_text};
+use napt_program::{FileRole, Stop, closed_text, is_same, place_of, same_file_text, shared_text};
 use std::alloc::AllocError;
 use std::fs;
 use std::rt::Files;
 
 /// Prints why the file of a role cannot be used, and returns how `napt` would stop.
-pub fn tell_file<R: Files + Eprint + AllocGlobal>(
+pub fn print_file<R: Files + Eprint + AllocGlobal>(
     rt: &R,
     options: &ExplainOptions<'_>,
     role: FileRole,
 ) -> Exit {
-    match tells(rt, options.named().reason(rt, rt.alloc(), role)) {
-        Ok(_) => Exit::Told(Stop::File(role)),
+    match print_if(rt, options.named().reason(rt, rt.alloc(), role)) {
+        Ok(_) => Exit::Printed(Stop::File(role)),
         Err(refused) => Exit::from(refused),
     }
 }
 
 /// Prints a reason, if there is one, and returns whether there is.
-fn tells<R: Eprint>(
+fn print_if<R: Eprint>(
     rt: &R,
     reason: Result<Option<String>, AllocError>,
 ) -> Result<bool, AllocError> {
@@ -35,32 +35,32 @@ fn tells<R: Eprint>(
 }
 
 /// Prints what else names the file of an output.
-fn tell_again<R: Eprint + AllocGlobal>(
+fn print_again<R: Eprint + AllocGlobal>(
     rt: &R,
     name: &str,
     path: &str,
     other: &str,
 ) -> Result<bool, AllocError> {
-    let text = again_text(rt.alloc(), name, path, other)?;
-    tells(rt, Ok(Some(text)))
+    let text = same_file_text(rt.alloc(), name, path, other)?;
+    print_if(rt, Ok(Some(text)))
 }
 
 /// Prints that the standard stream for a role is closed, and returns how `napt` would stop.
-pub fn tell_closed<R: Eprint + AllocGlobal>(rt: &R, role: FileRole) -> Exit {
-    tell_stopped(rt, closed_text(rt.alloc(), role), role)
+pub fn print_closed<R: Eprint + AllocGlobal>(rt: &R, role: FileRole) -> Exit {
+    print_stopped(rt, closed_text(rt.alloc(), role), role)
 }
 
 /// Prints that a file is `-` although another option uses that standard stream, and returns how `napt` would stop.
 /// `name` is the name of the file's option.
-pub fn tell_shared<R: Eprint + AllocGlobal>(rt: &R, name: &str, role: FileRole) -> Exit {
-    tell_stopped(rt, shared_text(rt.alloc(), name, role), role)
+pub fn print_shared<R: Eprint + AllocGlobal>(rt: &R, name: &str, role: FileRole) -> Exit {
+    print_stopped(rt, shared_text(rt.alloc(), name, role), role)
 }
 
-fn tell_stopped<R: Eprint>(rt: &R, text: Result<String, AllocError>, role: FileRole) -> Exit {
+fn print_stopped<R: Eprint>(rt: &R, text: Result<String, AllocError>, role: FileRole) -> Exit {
     match text {
         Ok(text) => {
             let _ = eprintln!(rt; "explain: {text}");
-            Exit::Told(Stop::File(role))
+            Exit::Printed(Stop::File(role))
         }
         Err(refused) => Exit::from(refused),
     }
@@ -74,7 +74,7 @@ pub fn refuse_written<R: Files + Eprint + AllocGlobal>(
     let written = options.form.written();
     for (name, path) in written {
         if let Some(path) = path
-            && tells_unwritable(rt, options, name, path)?
+            && print_unwritable(rt, options, name, path)?
         {
             return Err(unwritten());
         }
@@ -82,7 +82,7 @@ pub fn refuse_written<R: Files + Eprint + AllocGlobal>(
     match written {
         [(first, Some(one)), (second, Some(other))]
             if is_same(place_of(rt, one), place_of(rt, other)) => {
-            tell_again(rt, second, other, first)?;
+            print_again(rt, second, other, first)?;
             Err(unwritten())
         }
         _ => Ok(()),
@@ -90,16 +90,16 @@ pub fn refuse_written<R: Files + Eprint + AllocGlobal>(
 }
 
 /// Returns whether a file that `explain` is to write cannot be written, and prints why. A log never replaces text.
-fn tells_unwritable<R: Files + Eprint + AllocGlobal>(
+fn print_unwritable<R: Files + Eprint + AllocGlobal>(
     rt: &R,
     options: &ExplainOptions<'_>,
     name: &str,
     path: &str,
 ) -> Result<bool, AllocError> {
     if path == "-" {
-        return tell_again(rt, name, path, "standard output");
+        return print_again(rt, name, path, "standard output");
     }
-    if tells(
+    if print_if(
         rt,
         options.named().output_reason(rt, rt.alloc(), name, path),
     )? {
@@ -124,8 +124,8 @@ pub fn refuse_log<R: Files + Eprint + AllocGlobal>(
     let Some(path) = options.log else {
         return Ok(());
     };
-    match tells(rt, options.named().log_reason(rt, rt.alloc(), path))? {
-        true => Err(Exit::Told(Stop::File(FileRole::Log))),
+    match print_if(rt, options.named().log_reason(rt, rt.alloc(), path))? {
+        true => Err(Exit::Printed(Stop::File(FileRole::Log))),
         false => Ok(()),
     }
 }

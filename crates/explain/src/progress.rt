@@ -9,7 +9,7 @@ const EACH: u64 = 65_536;
 /// The progress of a run.
 #[derive(Clone, Copy)]
 pub struct ExplainProgress {
-    is_told: bool,
+    is_printed: bool,
 }
 
 impl ExplainProgress {
@@ -17,20 +17,20 @@ impl ExplainProgress {
     /// show the progress.
     pub fn of<R: Files + AllocGlobal>(rt: &R) -> ExplainProgress {
         ExplainProgress {
-            is_told: is_terminal(rt, "/proc/self/fd/2") && !is_terminal(rt, "/proc/self/fd/1"),
+            is_printed: is_terminal(rt, "/proc/self/fd/2") && !is_terminal(rt, "/proc/self/fd/1"),
         }
     }
 
     /// Prints how many packets there have been so far, over the last report.
-    pub fn tell<R: Eprint>(self, rt: &R, number: u64) {
-        if self.is_told && number % EACH == 0 {
+    pub fn print<R: Eprint>(self, rt: &R, number: u64) {
+        if self.is_printed && number % EACH == 0 {
             let _ = eprint!(rt; "\rexplain: {number} packets    ");
         }
     }
 
     /// Prints how many packets there were in all, and ends the line, if there was a report.
-    pub fn tell_end<R: Eprint>(self, rt: &R, packets: u64) {
-        if self.is_told && packets >= EACH {
+    pub fn print_end<R: Eprint>(self, rt: &R, packets: u64) {
+        if self.is_printed && packets >= EACH {
             let _ = eprintln!(rt; "\rexplain: {packets} packets    ");
         }
     }

@@ -1,7 +1,7 @@
 //! Reads the configurations and opens the captures as `napt` does, and prints why it refuses them.
 
 use crate::options::{ExplainOptions, OutputForm};
-use crate::places::{refuse_log, refuse_written, tell_closed, tell_file, tell_shared};
+use crate::places::{print_closed, print_file, print_shared, refuse_log, refuse_written};
 use crate::refusals;
 use napt_attribution::{HolderRequest, answer_by_log, requests_at};
 use napt_commands::{Exit, RunStart, print_failed, text_at};
@@ -42,7 +42,7 @@ pub fn read_given<R: Files + Input + Eprint + AllocGlobal>(
     config: Option<Config>,
 ) -> Result<GivenLog, Exit> {
     if let Some(role) = closed_stream(streams, &options.files) {
-        return Err(tell_closed(rt, role));
+        return Err(print_closed(rt, role));
     }
     refuse_shared(rt, options)?;
     let config = match config {
@@ -123,13 +123,13 @@ pub fn saved_at<R: Files + Eprint + AllocGlobal>(
         Ok(file) => file,
         Err(error) => {
             print_failed(rt, "--resume", path, &error);
-            return Err(Exit::Told(Stop::File(FileRole::Resume)));
+            return Err(Exit::Printed(Stop::File(FileRole::Resume)));
         }
     };
     let reader = BufReader::new(alloc, file).map_err(|_| Exit::As(MEMORY))?;
     match read_state(alloc, reader) {
         Ok(saved) => Ok(saved),
-        Err(fault) => Err(refusals::tell_state(rt, path, &fault)),
+        Err(fault) => Err(refusals::print_state(rt, path, &fault)),
     }
 }
 
@@ -145,12 +145,12 @@ fn start_under<'a, R: Eprint + AllocGlobal>(
     match saved.take_up(rt.alloc(), config, options.ends_misfits)? {
         Ok(TakenState { state, log, ended }) => {
             if !log.is_valid(rt.alloc(), &state)? {
-                return Err(refusals::tell_accounts(rt, path));
+                return Err(refusals::print_accounts(rt, path));
             }
             print_ended(rt, "explain", ended);
             Ok(RunStart::new(config, state, log))
         }
-        Err((row, misfit)) => Err(refusals::tell_binding(rt, path, row, misfit)),
+        Err((row, misfit)) => Err(refusals::print_binding(rt, path, row, misfit)),
     }
 }
 
@@ -175,8 +175,8 @@ fn refuse_shared<R: Eprint + AllocGlobal>(
     rt: &R,
     options: &ExplainOptions<'_>,
 ) -> Result<(), Exit> {
-    if let Some(role) = options.standard_again() {
-        return Err(tell_shared(rt, options.named().option_of(role), role));
+    if let Some(role) = options.repeated_stream() {
+        return Err(print_shared(rt, options.named().option_of(role), role));
     }
     refuse_more_input(
         rt,
@@ -196,7 +196,7 @@ fn refuse_more_input<R: Eprint + AllocGlobal>(
 ) -> Result<(), Exit> {
     let most = if is_taken { 0 } else { 1 };
     if options.more_from_input() > most {
-        return Err(tell_shared(rt, name, FileRole::Config));
+        return Err(print_shared(rt, name, FileRole::Config));
     }
     Ok(())
 }
@@ -209,7 +209,7 @@ fn explain_file<R: Files + Eprint + AllocGlobal, T: Drop>(
 ) -> Result<T, Exit> {
     match opened {
         Ok(opened) => Ok(opened),
-        Err(Stop::File(role)) => Err(tell_file(rt, options, role)),
+        Err(Stop::File(role)) => Err(print_file(rt, options, role)),
         Err(stop) => Err(Exit::As(stop)),
     }
 }
@@ -238,7 +238,7 @@ fn configuration_at<R: Files + Input + Eprint + AllocGlobal>(
     let mut place = ConfigPlace::new();
     match Config::read_at(rt.alloc(), &text, &mut place) {
         Ok(config) => Ok(config),
-        Err(fault) => Err(refusals::tell_config(rt, name, path, &place, fault)),
+        Err(fault) => Err(refusals::print_config(rt, name, path, &place, fault)),
     }
 }
 

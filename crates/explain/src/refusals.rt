@@ -13,7 +13,7 @@ use napt_state::StateFault;
 use std::alloc::AllocError;
 
 /// Prints the fault line of a refused configuration as `napt` does, and why, and returns how `napt` would stop.
-pub fn tell_config<R: Eprint>(
+pub fn print_config<R: Eprint>(
     rt: &R,
     name: &str,
     path: &str,
@@ -23,11 +23,11 @@ pub fn tell_config<R: Eprint>(
     let stop = Stop::Config(fault);
     let _ = eprintln!(rt; "explain: {stop}");
     let _ = eprintln!(rt; "explain: {name} {path}: {place}{fault}");
-    Exit::Told(stop)
+    Exit::Printed(stop)
 }
 
 /// Prints that the capture of a side, which starts with these bytes, is refused for a fault, and why.
-pub fn tell_capture<R: Eprint + AllocGlobal>(
+pub fn print_capture<R: Eprint + AllocGlobal>(
     rt: &R,
     side: &str,
     bytes: &[u8],
@@ -36,33 +36,33 @@ pub fn tell_capture<R: Eprint + AllocGlobal>(
 ) -> Result<(), Exit> {
     let name = CaptureFaultName(fault);
     let _ = eprintln!(rt; "the capture {side} is refused: {name}");
-    tell_reasons(rt, capture_reasons(rt.alloc(), bytes, fault, splitting))
+    print_reasons(rt, capture_reasons(rt.alloc(), bytes, fault, splitting))
 }
 
 /// Prints why the text of the state at a path is refused, and returns how `napt` would stop.
-pub fn tell_state<R: Eprint>(rt: &R, path: &str, fault: &StateFault) -> Exit {
+pub fn print_state<R: Eprint>(rt: &R, path: &str, fault: &StateFault) -> Exit {
     let _ = eprintln!(rt; "the state {path} is refused: {fault}");
-    Exit::Told(stop_of_state(fault))
+    Exit::Printed(stop_of_state(fault))
 }
 
 /// Prints that the accounts of the state at a path are those of no log, and returns how `napt` would stop.
-pub fn tell_accounts<R: Eprint>(rt: &R, path: &str) -> Exit {
+pub fn print_accounts<R: Eprint>(rt: &R, path: &str) -> Exit {
     let _ = eprintln!(rt; "the state {path} is refused: numbers that no log has");
-    Exit::Told(Stop::File(FileRole::Resume))
+    Exit::Printed(Stop::File(FileRole::Resume))
 }
 
 /// Prints which binding of the state at a path the configuration refuses, and why, and returns how `napt` would stop.
-pub fn tell_binding<R: Eprint>(rt: &R, path: &str, row: Row, misfit: Misfit) -> Exit {
+pub fn print_binding<R: Eprint>(rt: &R, path: &str, row: Row, misfit: Misfit) -> Exit {
     let refusal = StateRefusal::Binding(misfit);
     let (name, protocol) = (StateRefusalName(refusal), protocol_name(row.protocol));
     let (inside, external) = (EndpointText(row.inside), EndpointText(row.external));
     let _ = eprintln!(rt; "the state {path} is refused: {name}");
     let _ = eprintln!(rt; "  binding   {protocol} {inside} {external}");
     let _ = eprintln!(rt; "  reason    {}", misfit_reason(misfit));
-    Exit::Told(Stop::State(refusal))
+    Exit::Printed(Stop::State(refusal))
 }
 
-fn tell_reasons<R: Eprint>(rt: &R, reasons: Result<Vec<Reason>, AllocError>) -> Result<(), Exit> {
+fn print_reasons<R: Eprint>(rt: &R, reasons: Result<Vec<Reason>, AllocError>) -> Result<(), Exit> {
     for reason in &reasons? {
         let _ = eprintln!(rt; "  {:<9} {}", reason.title, reason.text);
     }

@@ -119,11 +119,11 @@ impl<'a> RunSetting<'a> {
         } else {
             captures.hand_over(rt, &mut against)?;
         }
-        captures.flaws().tell(rt, options.form)?;
+        captures.flaws().print(rt, options.form)?;
         let path = options.files.config.as_ref();
         let name = path.map_or("the built-in configuration", |path| path.as_str());
         let other = options.other.as_ref().map_or("", |path| path.as_str());
-        against.tell(rt, options.outside, [name, other])
+        against.print(rt, options.outside, [name, other])
     }
 
     /// Explains the packets as they are read, or after all have been read if replies follow the run.
@@ -196,7 +196,7 @@ impl<'a> RunSetting<'a> {
         let inputs = options
             .outside
             .inputs_under(rt.alloc(), start.config(), inputs)?;
-        captures.flaws().tell(rt, options.form)?;
+        captures.flaws().print(rt, options.form)?;
         follow(rt, path, options.outside, start, &inputs)
     }
 }

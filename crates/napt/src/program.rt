@@ -1,16 +1,19 @@
 //! The program reads its arguments and configuration, opens the files in a fixed order, and runs.
 
-ghost use Rattle.std.specs.Prelude.{◌≡◌, IfErr, OnOk, map, string_bytes};
-ghost use Rattle.napt_rules.specs.Prelude.{TakesState};
+ghost use Rattle.std.specs.Prelude.{◌≡◌, IfErr, IfOk, IfSome, OnOk, is_some, map, string_bytes};
+ghost use Rattle.napt_dispatch.specs.RunsThrough.{LeavesState};
+ghost use Rattle.napt_rules.specs.Prelude.{State, TakesState};
+ghost use Rattle.napt_state.specs.Saved.{IsSavedState};
 ghost use Rattle.napt_program.specs.{CommandLine.{files_with_log, line_of_words}, Command.{IsLineStop, IsRunStop, LineIsTaken, IsStopUnderOpenGate}, declared.streams.StandardStreams.StandardStreams as Known};
 
+use napt_config::Config;
 use napt_pool::OpenGate;
 use napt_program::{
     CountedSource, MEMORY, OptionsWithLog, OutputDevices, ProgramCall, ProgramHost,
     RunDevices as OpenedDevices, RunResources, StandardStreams, Stop, StopReason, answer_line,
     open, parse_words, stop_of_run, take_verbose, words,
 };
-use napt_run::{Devices, NoLog, RunEnd, Start, run_captures};
+use napt_run::{Devices, NoLog, RunEnd, RunSummary, Start, run_captures};
 use napt_state::StateFileContents;
 use std::alloc::Global;
 use std::io::{Read, Write};
@@ -93,13 +96,31 @@ fn run<R: ProgramHost>(
     };
     let end = run_over(rt, call, options, start, devices)?;
     let (end, outputs) = end;
-    let state = end.passed.into_state_if(save.is_some(), rt.alloc())?;
-    if let (Some(save), Some(state)) = (save, state) {
-        let contents = StateFileContents::of(rt.alloc(), &config, state, None)?;
+    let saved = saved_state(rt.alloc(), &config, end.passed, save.is_some())?;
+    if let (Some(save), Some(saved)) = (save, saved) {
         outputs.sync()?;
-        save.finish(rt, rt.alloc(), &contents)?;
+        save.finish(rt, rt.alloc(), &saved)?;
     }
     Ok(())
+}
+
+/// Returns what the file of the state gets: the state that the run left, if it is to be saved.
+/// Fails with `MEMORY` if memory is refused.
+fn saved_state(
+    alloc: Global,
+    config: &Config,
+    passed: RunSummary,
+    is_saved: bool,
+) -> Result<Option<StateFileContents>, Stop>
+    ensures saved { IfOk result (λ made. is_some made ≡ is_saved) }
+    ensures left { (state : State) → LeavesState config.now state passed →
+        IfOk result (λ made. IfSome made (IsSavedState config.now state)) }
+    ensures stop { IfErr result (λ stop. stop ≡ MEMORY) }
+{
+    match passed.into_state_if(is_saved, alloc)? {
+        Some(state) => Ok(Some(StateFileContents::of(alloc, config, state, None)?)),
+        None => Ok(None),
+    }
 }
 
 /// Runs over the devices, and prints what the captures show against themselves, at a terminal and

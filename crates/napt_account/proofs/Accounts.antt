@@ -24,7 +24,8 @@ accounted_more (b ∷ list) [] (suc k) d below = refl
 accounted_more (b ∷ list) (o ∷ accounts) zero d below = refl
 accounted_more (b ∷ list) (o ∷ accounts) (suc k) d below =
     ap (with_account b o) (accounted_more list accounts k d (omega (arith, below)))
-    ∙ sym (with_joined b o (accounted (take k list) accounts) (with_account (get_or list k d) (account_in accounts k) []))
+    ∙ sym (with_joined b o (accounted (take k list) accounts)
+    (with_account (get_or list k d) (account_in accounts k) []))
 
 pub seen_next : (list : List Binding) (accounts : List (Option Account)) (k : ℕ) (d : Binding) → k < length list →
     accounted (take (k + 1) list) accounts
@@ -105,7 +106,8 @@ endpoints_more ks k key is old new has updates x =
 
 -- An account is apart from all before it if neither set has its number or endpoint.
 pub any_apart : (k : Kept) (ks : List Kept) → list_any (λ o. not (are_apart k o)) ks
-    ≡ (list_any (λ j. j.1.number == k.1.number) ks || list_any (λ j. external_eq (entry_key j.0.row) (entry_key k.0.row)) ks)
+    ≡ (list_any (λ j. j.1.number == k.1.number) ks || list_any
+    (λ j. external_eq (entry_key j.0.row) (entry_key k.0.row)) ks)
 any_apart k [] = refl
 any_apart k (o ∷ ks) =
     let rest = any_apart k ks in
@@ -159,7 +161,8 @@ module _ (made clock : ℕ) (list : List Binding) (accounts : List (Option Accou
     checked_next : (ks : List Kept) → accounted (take (k + 1) list) accounts ≡ ks →
         are_accounts made clock [] (accounted list accounts) ≡ are_accounts made clock ks rest → IsChecked (k + 1)
     checked_next ks is so_far = so_far ∙ (ap (λ (js : List Kept). are_accounts made clock js rest) (sym is)
-        ∙ ap (λ n. are_accounts made clock (accounted (take (k + 1) list) accounts) (accounted (drop n list) (drop n accounts)))
+        ∙ ap (λ n. are_accounts made clock (accounted (take (k + 1) list) accounts)
+        (accounted (drop n list) (drop n accounts)))
         next_place)
 
     pub checked_none : account_in accounts k ≡ None → IsChecked (k + 1)

@@ -74,7 +74,8 @@ module _ (alike_go_on : AlikeStatesGoOn) (rules : Rules) (keeps : RulesInvariant
 
   -- What lives is what lives of the list that is taken.
   taken_rows : (list : List Binding) →
-      map row (purge timers at (live_and_held timers (last_clock state.clock front) list)) ≡ map row (living timers at list)
+      map row (purge timers at (live_and_held timers (last_clock state.clock front) list)) ≡
+      map row (living timers at list)
   taken_rows list = ap (map row) (purge_purge timers (hold_ago timers (last_clock state.clock front)) at
       (omega (arith, le)) list) ∙ rows_purge timers at list
 

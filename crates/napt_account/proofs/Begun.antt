@@ -53,7 +53,8 @@ module _ (ls : List LogEntry) (keyed : AreKeyed (map (λ l. l.entry.binding) ls)
     free None at = refl
     free (Some o) at =
         let here = open_entry old key o at in
-        absurd (true≢false (sym (external_itself key) ∙ (ap (external_eq key) (under old has.indexed key o.numbered here)
+        absurd (true≢false (sym (external_itself key) ∙
+        (ap (external_eq key) (under old has.indexed key o.numbered here)
         ∙ other o.numbered (has.there key o.numbered here))))
 
     pub but : IsIndexedBut key None old
@@ -110,5 +111,6 @@ has_all log keyed k all past has now most kept numbered rises few =
       there = there;
       unended = λ x l at. (filter_has (is_open now) log.entries l
           (subst (λ (ls : List LogEntry). Has ls l) (sym same) (there x l at))).1;
-      few = λ x l at. each_has (λ l. (l.entry.sent ≤ most) × (l.entry.received ≤ most)) log.entries l few (there x l at);
+      few = λ x l at. each_has (λ l. (l.entry.sent ≤ most) × (l.entry.received ≤ most)) log.entries l few
+          (there x l at);
     }

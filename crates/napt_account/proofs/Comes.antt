@@ -205,21 +205,25 @@ module _ (alike_go_on : AlikeStatesGoOn) (rules : Rules) (keeps : RulesInvariant
       rows = subst (λ (now : ℕ). IsPermutation (map timed_by left.entries)
           (map (timed_row timers) (purge timers now then.list))) (sym clock)
           (IsPermutation-trans _ _ _ rows_left (IsPermutation-map (timed_row timers) _ _
-          (subst (IsPermutation (purge timers was (next_state rules state before).list)) (purge_taken timers was then.list)
+          (subst (IsPermutation (purge timers was (next_state rules state before).list))
+          (purge_taken timers was then.list)
           (subst (λ (now : ℕ). IsPermutation (purge timers was (next_state rules state before).list)
           (purge timers was (live_and_held timers now then.list))) clock alike.live))));
     }
 
 pub effects_come : AlikeStatesGoOn → TakenStatesAreSound → EffectsCome
 effects_come alike_go_on taken_sound rules keeps state takes log is before input effects more =
-    come alike_go_on rules keeps (with_redirects rules state) (taken_sound rules keeps state takes []) log is before input effects
+    come alike_go_on rules keeps (with_redirects rules state) (taken_sound rules keeps state takes []) log is before
+    input effects
     more
 
 pub logs_are_of_their_states : TakenStatesAreSound → AlikeStatesGoOn → SavedRunsGoOn → LogsAreOfTheirStates
 logs_are_of_their_states taken_sound alike_go_on saved_go_on rules keeps state takes log is inputs saved order =
     let went = saved_go_on rules keeps state saved takes inputs [] order in
-    left_is_of alike_go_on rules keeps (with_redirects rules state) (taken_sound rules keeps state takes []) log is inputs
+    left_is_of alike_go_on rules keeps (with_redirects rules state) (taken_sound rules keeps state takes []) log is
+    inputs
     (with_redirects rules saved) order.clock
     (subst (λ (xs : List Arrival). AreAlike rules.timers (last_clock state.clock xs)
-    (next_state rules (with_redirects rules state) xs).list (next_state rules (with_redirects rules saved) []).list) (append-nil inputs)
+    (next_state rules (with_redirects rules state) xs).list (next_state rules (with_redirects rules saved) []).list)
+    (append-nil inputs)
     went.left)

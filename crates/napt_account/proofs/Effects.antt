@@ -20,7 +20,11 @@ use Rattle.napt_account.proofs.Plain.{plain_act}
 
 module _ (rules : Rules) where
   abbrev pub effects_by : ℕ → List LegAct → Trace
-  effects_by now acts = record { now = now; first = first_passage rules.timers acts; second = second_passage rules.timers acts }
+  effects_by now acts = record {
+    now = now;
+    first = first_passage rules.timers acts;
+    second = second_passage rules.timers acts;
+  }
 
   pub step_turn : (number now : ℕ) (input : Arrival) → input.clock ≤ now → (list : List Binding) →
       (let course : RunEffect = step rules number now input list in
@@ -53,7 +57,8 @@ module _ (rules : Rules) where
       (acts_are now list course.acts course.list (step_one rules number now input list).1
       (step_turn number now input (omega arith) list) log)
       ∙ (effects_are (number + 1) now inputs course.list (fold (after_record rules.timers) log course.acts)
-      ∙ sym (fold_joined (after_record rules.timers) course.acts (run_from rules (number + 1) now inputs course.list).acts
+      ∙ sym (fold_joined (after_record rules.timers) course.acts
+      (run_from rules (number + 1) now inputs course.list).acts
       log))
 
 pub effects_are_the_log : EffectsAreTheLog
@@ -71,7 +76,8 @@ none_open now r [] h = refl
 none_open now r (e ∷ es) h = elim (is_open now e) as (λ v.
     Each (λ x. Differ x r) (map binding_of (cond v (e ∷ filter (is_open now) es) (filter (is_open now) es))) →
     ((v && shares r e.binding) || list_any (entry_is_of now r) es) ≡ false) [
-      | true ↦ λ g. ap (λ v. v || list_any (entry_is_of now r) es) (differ_back e.binding r g.0) ∙ none_open now r es g.1
+      | true ↦ λ g. ap (λ v. v || list_any (entry_is_of now r) es) (differ_back e.binding r g.0) ∙
+          none_open now r es g.1
       | false ↦ λ g. none_open now r es g
     ] h
 
@@ -107,7 +113,8 @@ module _ (ends : EndsAreFirst) (rules : Rules) (t : AreTimers rules.timers) (add
       (λ p f b found same keeps. found_comes rules.timers leg.now log leg.way (f b)
       (new_open (f b) (keeps b (find_passes p (IsFresh rules.timers leg.now) own b
       (fresh_purged rules.timers leg.now list) found).1)))
-      (λ new out is others. subst (λ (way : Way). CanCome leg.now log (gone_through way true (timed_row rules.timers new)))
+      (λ new out is others. subst (λ (way : Way). CanCome leg.now log
+      (gone_through way true (timed_row rules.timers new)))
       (sym out) (
         new_open new is,
         sym (any_seen_of (entry_is_of leg.now (row new)) (λ (n : LogEntry). n.entry) log.entries)

@@ -46,7 +46,8 @@ AreThere all xs = (l : LogEntry) → Has xs l → entry_at all (entry_key l.entr
 abbrev pub Apart : List LogEntry → Type 0
 Apart = IsDistinct share
 
-apart_differ : (now most : ℕ) (log : LogModel) (all : OpenEntries) → OpenEntriesShow now most log all → (xs : List LogEntry) →
+apart_differ : (now most : ℕ) (log : LogModel) (all : OpenEntries) → OpenEntriesShow now most log all →
+    (xs : List LogEntry) →
     AreThere all xs → Apart xs → Differ xs
 unfolding IsDistinct
 apart_differ now most log all shows [] there apart = tt
@@ -61,7 +62,8 @@ apart_differ now most log all shows (x ∷ xs) there apart = (
   apart_differ now most log all shows xs (λ l h. there l (inr h)) apart.1,
 )
 
-module _ (now most : ℕ) (log : LogModel) (all : OpenEntries) (shows : OpenEntriesShow now most log all) (xs ys : List LogEntry)
+module _ (now most : ℕ) (log : LogModel) (all : OpenEntries) (shows : OpenEntriesShow now most log all)
+    (xs ys : List LogEntry)
     (moves : IsPermutation xs ys) (there : AreThere all xs) (apart : Apart xs) where
   pub moved_differ : Differ ys
   moved_differ = apart_differ now most log all shows ys (λ l h. there l (has_back xs ys moves l h))
@@ -169,7 +171,8 @@ module _ (now most : ℕ) (log : LogModel) (all : OpenEntries) (shows : OpenEntr
   pub left_is : (xs : List LogEntry) → IsPermutation (kept all) xs → IsSortedByKey (λ l. l.number) nat_cmp xs →
       xs ≡ opens
   left_is xs moves sorted = sorted_rising 1 xs opens sorted
-      (moved_differ now most log all shows (kept all) xs moves kept_there kept_alone) (rises_filter (is_open now) 1 log.entries shows.rises)
+      (moved_differ now most log all shows (kept all) xs moves kept_there kept_alone)
+      (rises_filter (is_open now) 1 log.entries shows.rises)
       (λ l h. kept_open l (has_back (kept all) xs moves l h)) (λ l h. has_moved (kept all) xs moves l (open_kept l h))
 
 -- WHAT IS DUE
@@ -281,7 +284,8 @@ module _ (was now most : ℕ) (log : LogModel) (first all : OpenEntries) (shows 
   pub ended_is : (xs : List LogEntry) → IsPermutation ended xs → IsSortedByKey end_key end_cmp xs →
       xs ≡ in_order_of_end (filter (ends_within was now) log.entries)
   ended_is xs moves sorted = sorted_is was most log first shows ended xs moves parted.there parted.apart sorted
-      (filter (ends_within was now) log.entries) (differ_filter (ends_within was now) log.entries (rises_differ 1 log.entries shows.rises))
+      (filter (ends_within was now) log.entries)
+      (differ_filter (ends_within was now) log.entries (rises_differ 1 log.entries shows.rises))
       (λ l h.
       let key : EntryKey = entry_key l.entry.binding in
       let at : entry_at first key ≡ Some l = parted.there l h in

@@ -70,7 +70,8 @@ place_few r is =
     let number = is.1 in
     omega (arith, at, address, number)
 
-places_few : (rows : List Row) → Each IsNumberedRow rows → (q : ℕ) → list_any (eqb q) (map place rows) ≡ true → q < 2 ^ 50
+places_few : (rows : List Row) → Each IsNumberedRow rows → (q : ℕ) → list_any (eqb q) (map place rows) ≡ true →
+    q < 2 ^ 50
 places_few [] all q h = absurd (true≢false (sym h))
 places_few (r ∷ rows) all q h = elim (eqb q (place r)) as (λ v. eqb q (place r) ≡ v →
     (v || list_any (eqb q) (map place rows)) ≡ true → q < 2 ^ 50) [

@@ -9,13 +9,14 @@ use Rattle.napt_rules.specs.Prelude.{Binding, Each, act, LegAct, Arrival, last_c
 use Rattle.napt_laws.proofs.{OneMoreInput.{clock_on}, Lists.{filter_narrow, each_weaker, each_pushed}, Turns.{InTurn, run_turn}}
 use Rattle.napt_sequential.specs.{declared.passage.Passage.{Passage, TheVariants.{Nothing, Made, Out, In, Dropped}}, Traces.passage_of}
 use Rattle.napt_account.specs.{declared.log.{Entry.Entry, LogEntry.LogEntry, Shortage.Shortage}, Log.{LogModel, counted, made_by, entry_through, use_entry, with_use, shortages_of, after_leg, after_record, log_on}}
-use Rattle.napt_account.specs.LogParts.{IsNumbered, ends_within, in_order_of_end, is_behind, is_open, kept_at, part_between}
+use Rattle.napt_account.specs.LogParts.{IsNumbered, ends_within, in_order_of_end, is_after, is_open, kept_at, part_between}
 use Rattle.napt_account.specs.ResumedLogRuns.{LogGoesOn, LogsGoOn, SavedLogsGoOn, left_of, part_of}
 use Rattle.napt_account.proofs.Lists.{each_mapped, filter_joined, filter_seen}
 
 -- LISTS
 
-pub fold_joined : {S X : Type 0} (f : S → X → S) (xs ys : List X) (s : S) → fold f s (xs ++ ys) ≡ fold f (fold f s xs) ys
+pub fold_joined : {S X : Type 0} (f : S → X → S) (xs ys : List X) (s : S) → fold f s (xs ++ ys) ≡
+    fold f (fold f s xs) ys
 fold_joined f [] ys s = refl
 fold_joined f (x ∷ xs) ys s = fold_joined f xs ys (f s x)
 
@@ -37,11 +38,11 @@ pub filter_twice : {X : Type 0} (p q : X → Bool) (xs : List X) → filter p (f
 filter_twice p q [] = refl
 filter_twice p q (x ∷ xs) = grind (arith, filter_twice p q xs)
 
-pub none_behind : (made : ℕ) (xs : List LogEntry) → Each (λ n. n.number ≤ made) xs → filter (is_behind made) xs ≡ []
+pub none_behind : (made : ℕ) (xs : List LogEntry) → Each (λ n. n.number ≤ made) xs → filter (is_after made) xs ≡ []
 none_behind made [] h = refl
 none_behind made (x ∷ xs) h =
-    let here : is_behind made x ≡ false = (let le = h.0 in grind (arith, nat_tests, le)) in
-    ap (λ v. cond v (x ∷ filter (is_behind made) xs) (filter (is_behind made) xs)) here ∙ none_behind made xs h.1
+    let here : is_after made x ≡ false = (let le = h.0 in grind (arith, nat_tests, le)) in
+    ap (λ v. cond v (x ∷ filter (is_after made) xs) (filter (is_after made) xs)) here ∙ none_behind made xs h.1
 
 -- NUMBERS
 
@@ -73,7 +74,8 @@ few_leg now (In timed) log = omega arith
 few_leg now (Dropped loss) log = omega arith
 
 module _ (timers : Timers) where
-  pub numbered_all : (acts : List LegAct) (log : LogModel) → IsNumbered log → IsNumbered (fold (after_record timers) log acts)
+  pub numbered_all : (acts : List LegAct) (log : LogModel) → IsNumbered log →
+      IsNumbered (fold (after_record timers) log acts)
   numbered_all [] log h = h
   numbered_all (a ∷ acts) log h =
       numbered_all acts (after_record timers log a) (numbered_leg a.leg.now _ log h)
@@ -90,7 +92,7 @@ module _ (timers : Timers) where
 pub record AreSame (now made : ℕ) (front : List Shortage) (one other : LogModel) : Type 0 where
   pub many : one.made ≡ other.made
   pub living : filter (is_open now) one.entries ≡ filter (is_open now) other.entries
-  pub new : filter (is_behind made) one.entries ≡ filter (is_behind made) other.entries
+  pub new : filter (is_after made) one.entries ≡ filter (is_after made) other.entries
   pub shortages : one.shortages ≡ front ++ other.shortages
 
 pub same_later : (now later made : ℕ) (front : List Shortage) → now ≤ later → (one other : LogModel) →
@@ -134,8 +136,8 @@ module _ (now made : ℕ) (front : List Shortage) (one other : LogModel) (same :
       living = changed_among (is_open now) change stays one.entries
           ∙ (ap (λ (l : List LogEntry). filter (is_open now) (map change l)) same.living
           ∙ sym (changed_among (is_open now) change stays other.entries));
-      new = filter_seen (is_behind made) change one.entries
-          ∙ (ap (map change) same.new ∙ sym (filter_seen (is_behind made) change other.entries));
+      new = filter_seen (is_after made) change one.entries
+          ∙ (ap (map change) same.new ∙ sym (filter_seen (is_after made) change other.entries));
       shortages = same.shortages;
     }
 
@@ -144,7 +146,7 @@ module _ (now made : ℕ) (front : List Shortage) (one other : LogModel) (same :
   same_leg (Made timed) = record {
     many = ap (λ (n : ℕ). n + 1) same.many;
     living = pushed (is_open now) one.entries other.entries _ _ (same_made (made_by now timed)) same.living;
-    new = pushed (is_behind made) one.entries other.entries _ _ (same_made (made_by now timed)) same.new;
+    new = pushed (is_after made) one.entries other.entries _ _ (same_made (made_by now timed)) same.new;
     shortages = same.shortages;
   }
   same_leg (Out timed) = same_use Outgoing timed
@@ -195,16 +197,16 @@ module _ (was now made : ℕ) (front : List Shortage) (earlier later other after
   ended_of xs = sym (filter_twice (λ n. not (is_open now n)) (is_open was) xs)
 
   made_of : (xs : List LogEntry) →
-      filter (is_behind earlier.made) xs ≡ filter (is_behind earlier.made) (filter (is_behind made) xs)
-  made_of xs = sym (filter_narrow (is_behind made) (is_behind earlier.made) xs (λ n h. grind (arith, nat_tests, h, more)))
+      filter (is_after earlier.made) xs ≡ filter (is_after earlier.made) (filter (is_after made) xs)
+  made_of xs = sym (filter_narrow (is_after made) (is_after earlier.made) xs (λ n h. grind (arith, nat_tests, h, more)))
 
   pub told_same : part_between was now earlier later ≡ part_between was now other after
   told_same = λ i. record {
     ended = ap in_order_of_end (ended_of earlier.entries
         ∙ (ap (filter (λ n. not (is_open now n))) first.living ∙ sym (ended_of other.entries))) i;
     made = (made_of later.entries
-        ∙ (ap (filter (is_behind earlier.made)) last.new
-        ∙ (sym (made_of after.entries) ∙ ap (λ (m : ℕ). filter (is_behind m) after.entries) first.many))) i;
+        ∙ (ap (filter (is_after earlier.made)) last.new
+        ∙ (sym (made_of after.entries) ∙ ap (λ (m : ℕ). filter (is_after m) after.entries) first.many))) i;
     refused = ((λ j. drop (length (first.shortages j)) (last.shortages j))
         ∙ drop_more front other.shortages after.shortages) i;
   }
@@ -271,7 +273,8 @@ module _ (rules : Rules) (state then : State) (log : LogModel) (numbered : IsNum
         (log_on rules then told (rest ++ input ∷ [])) (log_on rules then kept rest)
         (log_on rules then kept (rest ++ input ∷ [])) (same rest)
         (subst (λ (t : ℕ). AreSame t told.made told.shortages (log_on rules then told (rest ++ input ∷ []))
-        (log_on rules then kept (rest ++ input ∷ []))) (clock_on then.clock rest (input ∷ [])) (same (rest ++ input ∷ [])))
+        (log_on rules then kept (rest ++ input ∷ []))) (clock_on then.clock rest (input ∷ []))
+        (same (rest ++ input ∷ [])))
         (made_more rest)
         ∙ ap (λ (l : LogModel). part_of rules then l rest input) (sym kept_here)));
     left =

@@ -295,7 +295,8 @@ abbrev bound : List Holder → List Binding
 bound hs = map (λ (h : Holder). h.binding) hs
 
 module _ (timers : Timers) where
-  one_like : (e : Entry) (b : Binding) → hold_of timers b ≡ hold e → IsLike timers e (record { made = e.made; binding = b })
+  one_like : (e : Entry) (b : Binding) → hold_of timers b ≡ hold e →
+      IsLike timers e (record { made = e.made; binding = b })
   one_like e b same =
       let is : row b ≡ e.binding = ap (λ (h : Row × Option ℕ). h.0) same in
       record {
@@ -462,7 +463,8 @@ module _ (ends : EndsAreFirst) (carry : PacketsCarryNumbers) (alike_go_on : Alik
       ∙ sym (map_joined hold before entries)
 
   moved : IsPermutation ordered.list (held ++ live)
-  moved = IsPermutation-trans ordered.list (filter (λ b. not (is_live times clock b)) ordered.list ++ live) (held ++ live)
+  moved = IsPermutation-trans ordered.list (filter (λ b. not (is_live times clock b)) ordered.list ++ live)
+      (held ++ live)
       (IsPermutation-filter_both (λ b. not (is_live times clock b)) (is_live times clock)
       (λ b. twice (is_live times clock b)) ordered.list)
       (IsPermutation-append_left live (filter (λ b. not (is_live times clock b)) ordered.list) held
@@ -522,4 +524,5 @@ module _ (ends : EndsAreFirst) (carry : PacketsCarryNumbers) (alike_go_on : Alik
 
 pub held_numbers : EndsAreFirst → PacketsCarryNumbers → TakenStatesAreSound → AlikeStatesGoOn → HeldNumbersHaveOneHolder
 held_numbers ends carry taken_sound alike_go_on rules keeps state takes log is =
-    all_apart ends carry alike_go_on rules keeps (with_redirects rules state) (taken_sound rules keeps state takes []) log is
+    all_apart ends carry alike_go_on rules keeps (with_redirects rules state) (taken_sound rules keeps state takes [])
+    log is

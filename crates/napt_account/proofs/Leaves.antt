@@ -36,6 +36,7 @@ module _ (first : EndsAreFirst) (rules : Rules) (t : AreTimers rules.timers) whe
       (fresh_purged rules.timers leg.now list) found).1))
       (λ new out is others. fresh_open leg.now new is)
 
-  pub turn_leaves : (clock : ℕ) (list : List Binding) (a : LegAct) → IsTurn rules clock list a → (now : ℕ) → a.leg.now ≡ now →
+  pub turn_leaves : (clock : ℕ) (list : List Binding) (a : LegAct) → IsTurn rules clock list a → (now : ℕ) →
+      a.leg.now ≡ now →
       LeavesOpen now (passage_of rules.timers a)
   turn_leaves clock list a turn now same = grind (arith, common_steps, nat_tests, by_leaves, act_opens)

@@ -46,7 +46,8 @@ rises_placed n l (y ∷ ys) rises differ le = elim (nat_lt l.number y.number) as
       )
     ] refl
 
-pub order_rises : (n : ℕ) (xs : List LogEntry) → Differ xs → Each (λ l. n ≤ l.number) xs → Rises n (in_order_of_number xs)
+pub order_rises : (n : ℕ) (xs : List LogEntry) → Differ xs → Each (λ l. n ≤ l.number) xs →
+    Rises n (in_order_of_number xs)
 order_rises n [] differ above = tt
 order_rises n (l ∷ xs) differ above = rises_placed n l (in_order_of_number xs) (order_rises n xs differ.1 above.1)
     (has_each (λ y. l.number ≢ y.number) (in_order_of_number xs) (λ y there.
@@ -318,7 +319,8 @@ module _ (rules : Rules) (t : AreTimers rules.timers) (state : State) where
       Has dynamics (timed_row timers b)
   dynamic_up b h fixed opens =
       let alive : is_live timers now b ≡ true = ends_are_first timers t now b ∙ opens in
-      let same : end_of timers (with_live_flows timers now b) ≡ end_of timers b = end_without_dead timers t now b alive in
+      let same : end_of timers (with_live_flows timers now b) ≡ end_of timers b =
+      end_without_dead timers t now b alive in
       subst (Has dynamics) (λ i. record { row = b.row; end = same i })
       (has_mapped (timed_row timers) (live_of timers now state.list) (with_live_flows timers now b)
       (has_mapped (with_live_flows timers now) (filter (is_live timers now) (filter is_loose state.list)) b
@@ -328,7 +330,8 @@ module _ (rules : Rules) (t : AreTimers rules.timers) (state : State) where
   -- An entry that goes on is that of a live binding.
   row_up : (k : Kept) → Has state.list k.0 → is_open now (resumed_entry rules now k) ≡ true →
       Has live (timed_by (resumed_entry rules now k))
-  row_up k h opens = subst (λ (l : List TimedRow). Has l (timed_by (resumed_entry rules now k))) (sym (live_all rules state))
+  row_up k h opens = subst (λ (l : List TimedRow). Has l (timed_by (resumed_entry rules now k)))
+      (sym (live_all rules state))
       (by_fixed k.0.row.fixed refl)
     where
       by_fixed : (v : Bool) → k.0.row.fixed ≡ v → Has (openings ++ dynamics) (timed_by (resumed_entry rules now k))
@@ -479,11 +482,13 @@ module _ (rules : Rules) (keeps : RulesInvariant rules) (state : State) (takes :
       (IsPermutation-map timed_by continued opens (order_moves opens)))
       (IsPermutation-trans _ _ _ (IsPermutation-append_left others (map timed_by opens) listed moves)
       (IsPermutation-sym alive (listed ++ others)
-      (IsPermutation-filter_both (has_entry continued) (λ timed. not (has_entry continued timed)) (λ timed. refl) alive))))
+      (IsPermutation-filter_both (has_entry continued) (λ timed. not (has_entry continued timed)) (λ timed. refl)
+      alive))))
 
   all_open : Each (λ n. is_open clock n ≡ true) (continued ++ new)
   all_open = has_each (λ n. is_open clock n ≡ true) (continued ++ new) (λ n h.
-      live_opens rules keeps.timers state (timed_by n) (has_moved (map timed_by (continued ++ new)) alive rows (timed_by n)
+      live_opens rules keeps.timers state (timed_by n)
+      (has_moved (map timed_by (continued ++ new)) alive rows (timed_by n)
       (has_mapped timed_by (continued ++ new) n h)))
 
   each_joined : (P : LogEntry → Type 0) (xs ys : List LogEntry) → Each P xs → Each P ys → Each P (xs ++ ys)
@@ -595,8 +600,10 @@ logs_begin_anew rules =
     let rows : new_entries rules empty_state no_saved_log ≡ new =
     ap (λ (ts : List TimedRow). numbered_from 1 (map (λ timed. unused_entry timed.row 0 timed.end) ts))
     (all_unlisted (map (timed_row rules.timers) (purge rules.timers 0 (opening rules ++ [])))
-    ∙ ap (λ (list : List Binding). map (timed_row rules.timers) (purge rules.timers 0 list)) (append-nil (opening rules)))
-    ∙ ap (numbered_from 1) (map_twice (λ (timed : TimedRow). unused_entry timed.row 0 timed.end) (timed_row rules.timers)
+    ∙ ap (λ (list : List Binding). map (timed_row rules.timers) (purge rules.timers 0 list))
+    (append-nil (opening rules)))
+    ∙ ap (numbered_from 1) (map_twice (λ (timed : TimedRow). unused_entry timed.row 0 timed.end)
+    (timed_row rules.timers)
     first) in
     λ i. record {
       made = 0 + (ap length rows ∙ many 1 (map (first_entry rules.timers 0) first)) i;

@@ -28,7 +28,8 @@ module _ (are : EffectsAreTheLog) (rules : Rules) (state : State) (log : LogMode
 
 -- A log takes more inputs than a run does, and the effects of each input of the run.
 pub log_fault : (builder : LogBuilderModel) (many : ℕ) → builder.taken ≡ many → many + 1 < 2 ^ 32 → (effects : Trace) →
-    IsNext builder.clock builder.log effects → (fault : RunFault) → IsBuilderFault builder effects fault → fault ≡ Memory
+    IsNext builder.clock builder.log effects → (fault : RunFault) → IsBuilderFault builder effects fault → fault ≡
+    Memory
 log_fault builder many is few effects next fault j = grind (arith, common_steps, nat_tests)
 
 pub not_many : {T : Type 0} (inputs : List Arrival) → length inputs + 1 < 2 ^ 32 → (fault : RunFault) → fault ≡ Memory →
@@ -36,5 +37,6 @@ pub not_many : {T : Type 0} (inputs : List Arrival) → length inputs + 1 < 2 ^ 
 not_many inputs few fault memory = (λ e. cc (e, memory), λ many. absurd (omega (arith, many, few)))
 
 -- A ghost log of what was taken, with one more value.
-pub taken_more : {X : Type 0} (past : List (ℕ × X)) (n : ℕ) (x : X) → taken_in (past ++ (n, x) ∷ []) ≡ taken_in past ++ x ∷ []
+pub taken_more : {X : Type 0} (past : List (ℕ × X)) (n : ℕ) (x : X) → taken_in (past ++ (n, x) ∷ []) ≡
+    taken_in past ++ x ∷ []
 taken_more past n x = map_joined (λ (taken : ℕ × _). taken.1) past ((n, x) ∷ [])

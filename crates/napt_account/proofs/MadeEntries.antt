@@ -7,7 +7,7 @@ use Rattle.napt_rules.specs.{declared.Row.Row}
 use Rattle.napt_binding.specs.Ends.{is_before}
 use Rattle.napt_table.specs.declared.TimedRow.{TimedRow}
 use Rattle.napt_sequential.specs.declared.passage.{Passage.{Passage, TheVariants.{Nothing, Made, Out, In, Dropped}}}
-use Rattle.napt_account.specs.{declared.log.{Entry.Entry, LogEntry.LogEntry}, BindingTallies.open_of, Effects.CanCome, Log.{LogModel, after_leg, counted, entry_is_of, made_by, shares, use_entry, with_use}, MadeEntries.made_entry, LogParts.{IsNumbered, is_behind}}
+use Rattle.napt_account.specs.{declared.log.{Entry.Entry, LogEntry.LogEntry}, BindingTallies.open_of, Effects.CanCome, Log.{LogModel, after_leg, counted, entry_is_of, made_by, shares, use_entry, with_use}, MadeEntries.made_entry, LogParts.{IsNumbered, is_after}}
 use Rattle.napt_account.proofs.{Entries.{counted_binding, counted_end, shares_itself}, GoingOn.{more_leg, none_behind}, Lists.{filter_joined, filter_seen}}
 
 -- LISTS
@@ -54,20 +54,20 @@ option_mapped g (Some x) = refl
 
 module _ (now made : ℕ) where
   abbrev new : List LogEntry → List LogEntry
-  new ns = filter (is_behind made) ns
+  new ns = filter (is_after made) ns
 
   pushed_new : (x : LogModel) (entry : Entry) → made ≤ x.made →
       (let n : LogEntry = record { number = x.made + 1; entry = entry } in
       new (x.entries ++ n ∷ []) ≡ new x.entries ++ n ∷ [])
   pushed_new x entry le =
       let n : LogEntry = record { number = x.made + 1; entry = entry } in
-      let behind : is_behind made n ≡ true = grind (arith, nat_tests, le) in
-      filter_joined (is_behind made) x.entries (n ∷ [])
+      let behind : is_after made n ≡ true = grind (arith, nat_tests, le) in
+      filter_joined (is_after made) x.entries (n ∷ [])
       ∙ ap (λ v. new x.entries ++ cond v (n ∷ []) []) behind
 
   used_new : (way : Way) (timed : TimedRow) (ns : List LogEntry) →
       new (map (use_entry way now timed) ns) ≡ map (use_entry way now timed) (new ns)
-  used_new way timed ns = filter_seen (is_behind made) (use_entry way now timed) ns
+  used_new way timed ns = filter_seen (is_after made) (use_entry way now timed) ns
 
   -- An entry that a leg makes is open after the leg.
   made_open : (timed : TimedRow) (x : LogModel) → CanCome now x (Made timed) →
@@ -85,7 +85,8 @@ module _ (now made : ℕ) where
       pushed_new x (made_by now timed) le
       ∙ (ap (λ (ns : List LogEntry). ns ++ record { number = x.made + 1; entry = made_by now timed } ∷ []) none
       ∙ sym (ap option_to_list (made_open timed x comes)))
-  first_is (Out timed) x none le comes = used_new Outgoing timed x.entries ∙ ap (map (use_entry Outgoing now timed)) none
+  first_is (Out timed) x none le comes = used_new Outgoing timed x.entries ∙
+      ap (map (use_entry Outgoing now timed)) none
   first_is (In timed) x none le comes = used_new Incoming timed x.entries ∙ ap (map (use_entry Incoming now timed)) none
   first_is (Dropped loss) x none le comes = none
 
@@ -160,8 +161,9 @@ module _ (now made : ℕ) where
 pub made_is : (now : ℕ) (first second : Passage) (log : LogModel) → IsNumbered log → CanCome now log first →
     CanCome now (after_leg now first log) second →
     (let last : LogModel = after_leg now second (after_leg now first log) in
-    made_entry now first last ++ made_entry now second last ≡ filter (is_behind log.made) last.entries)
+    made_entry now first last ++ made_entry now second last ≡ filter (is_after log.made) last.entries)
 made_is now first second log numbered comes then =
     let mid : LogModel = after_leg now first log in
-    sym (second_is now log.made first second mid (more_leg now first log) then (first_there now log.made first log comes)
+    sym (second_is now log.made first second mid (more_leg now first log) then
+    (first_there now log.made first log comes)
     (first_is now log.made first log (none_behind log.made log.entries numbered) (omega arith) comes))

@@ -1,33 +1,23 @@
 -- Entries that begin for live bindings without one.
 use Rattle.std.proofs.lemmas.{List.{take_more}}
-use Rattle.std.proofs.Common.{◌≡◌, ℕ, suc, ◌+◌, ◌<◌, Bool, true, false, not, ◌||◌, cond, List, [], ◌∷◌, ◌++◌, length, get_or, map, filter, take, refl, sym, ◌∙◌, ap, arith, append-nil}
+use Rattle.std.proofs.Common.{◌≡◌, ℕ, suc, ◌+◌, ◌<◌, Bool, true, false, not, cond, List, [], ◌∷◌, ◌++◌, length, get_or, map, filter, take, refl, sym, ◌∙◌, ap, arith, append-nil}
 use Rattle.std.specs.{List.list_any, HashSet.HashSet}
 use Rattle.std.specs.HashSet as hash
 use Rattle.napt_rules.specs.declared.Row.{Row}
 use Rattle.napt_table.specs.declared.TimedRow.{TimedRow}
 use Rattle.napt_account.specs.{declared.{log.{Entry.Entry, LogEntry.LogEntry}, open_entries.EntryKey.EntryKey}, Log.{numbered_from, shares, unused_entry}, LogStarts.has_entry, OpenEntries.{entry_key, external_eq}}
-use Rattle.napt_account.proofs.{Accounts.{any_pushed, as_or}, Lists.{filter_joined, map_joined}, OpenEntries.{external_is, external_itself, key_shares, shares_key}}
+use Rattle.napt_account.proofs.{Lists.{filter_joined, map_joined}, OpenEntries.{external_is, external_itself, key_shares, shares_key}}
 
 -- The endpoints in a set are those of the entries.
 abbrev pub HasRows : {S : Type 0} → List LogEntry → HashSet EntryKey S → Type 0
 HasRows entries all = (x : EntryKey) →
     hash.contains external_eq all x ≡ list_any (λ n. external_eq (entry_key n.entry.binding) x) entries
 
-pub rows_more : {S : Type 0} (entries : List LogEntry) (k : ℕ) (d : LogEntry) → k < length entries →
-    (old new : HashSet EntryKey S) → HasRows (take k entries) old → (key : EntryKey) →
-    key ≡ entry_key (get_or entries k d).entry.binding → ((x : EntryKey) → hash.contains external_eq new x
-    ≡ cond (external_eq key x) true (hash.contains external_eq old x)) → HasRows (take (k + 1) entries) new
-rows_more entries k d below old new has key is updates x =
-    updates x ∙ (ap (λ (y : EntryKey). cond (external_eq y x) true (hash.contains external_eq old x)) is
-    ∙ (as_or (external_eq (entry_key (get_or entries k d).entry.binding) x) (hash.contains external_eq old x)
-    ∙ (ap (λ v. external_eq (entry_key (get_or entries k d).entry.binding) x || v) (has x)
-    ∙ (sym (any_pushed (λ n. external_eq (entry_key n.entry.binding) x) (take k entries) (get_or entries k d))
-    ∙ ap (list_any (λ n. external_eq (entry_key n.entry.binding) x)) (sym (take_more entries k d below))))))
-
 -- The set has the endpoint of a row exactly if the row shares the endpoint of an entry.
 pub share_either : (r s : Row) → external_eq (entry_key s) (entry_key r) ≡ shares r s
 share_either r s = elim (shares r s) as (λ v. shares r s ≡ v → external_eq (entry_key s) (entry_key r) ≡ v) [
-  | true ↦ λ e. ap (λ (k : EntryKey). external_eq k (entry_key r)) (sym (key_shares r s e)) ∙ external_itself (entry_key r)
+  | true ↦ λ e. ap (λ (k : EntryKey). external_eq k (entry_key r)) (sym (key_shares r s e)) ∙
+      external_itself (entry_key r)
   | false ↦ λ e. elim (external_eq (entry_key s) (entry_key r)) as (λ v.
       external_eq (entry_key s) (entry_key r) ≡ v → v ≡ false) [
         | true ↦ λ g. sym (shares_key r s (sym (external_is (entry_key s) (entry_key r) g))) ∙ e

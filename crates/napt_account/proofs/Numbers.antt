@@ -4,7 +4,7 @@ use Rattle.std.proofs.Common.{◌≡◌, ◌≢◌, ℕ, ◌+◌, ◌≤◌, Boo
 use Rattle.std.specs.{Ordering.nat_cmp, List.{AllByRecursion, IsDistinct, Sorted.{IsPermutation, IsSortedByKey}}}
 use Rattle.std.proofs.lemmas.{List.Sorted.{IsPermutation-sym}, Map.Keys.IsDistinct-IsPermutation}
 use Rattle.napt_rules.specs.Prelude.{Arrival, Each, State, initial_state, effect_from, purge, Rules}
-use Rattle.napt_account.specs.{declared.log.{Entry.Entry, LogEntry.LogEntry}, Log.{first_entry, begun_behind, log_of, log_on, numbered_from}, LogParts.{IsNumbered, Rises}}
+use Rattle.napt_account.specs.{declared.log.{Entry.Entry, LogEntry.LogEntry}, Log.{first_entry, begun_after, log_of, log_on, numbered_from}, LogParts.{IsNumbered, Rises}}
 use Rattle.napt_account.proofs.{InOrder.Differ, Rising.{rises_all, rises_differ, rises_from, sorted_rising}, Sorted.{has_back, has_moved}}
 
 -- MOVED, NO TWO HAVE ONE NUMBER
@@ -57,7 +57,7 @@ pub within_from : (n most : ℕ) (es : List Entry) → n + length es ≤ most + 
 within_from n most [] h = tt
 within_from n most (e ∷ es) h = (omega (arith, h), within_from (n + 1) most es (omega (arith, h)))
 
-pub begun_numbered : (rules : Rules) (state : State) (before : ℕ) → IsNumbered (begun_behind before rules state)
+pub begun_numbered : (rules : Rules) (state : State) (before : ℕ) → IsNumbered (begun_after before rules state)
 begun_numbered rules state before =
     let es : List Entry = map (first_entry rules.timers state.clock) (purge rules.timers state.clock state.list) in
     within_from (before + 1) (before + length es) es (omega arith)
@@ -65,5 +65,6 @@ begun_numbered rules state before =
 pub log_rises : (rules : Rules) (inputs : List Arrival) → Rises 1 (log_of rules inputs).entries
 unfolding log_on
 log_rises rules inputs =
-    rises_all rules.timers (effect_from rules (initial_state rules) inputs).acts (begun_behind 0 rules (initial_state rules))
+    rises_all rules.timers (effect_from rules (initial_state rules) inputs).acts
+    (begun_after 0 rules (initial_state rules))
     (begun_numbered rules (initial_state rules) 0) (rises_from (0 + 1) _)

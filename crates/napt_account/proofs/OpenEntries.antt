@@ -139,7 +139,8 @@ module _ (now most : ℕ) (old new : OpenEntries) (log later : LogModel) (shows 
       (x : EntryKey) (m : LogEntry) → entry_at new x ≡ Some m → P x m
   at_key P one rest x m at = grind (arith, common_steps, nat_tests, external_is, same_Some)
 
-  pub written : (more : ℕ) → most ≤ more → l.entry.sent ≤ more → l.entry.received ≤ more → OpenEntriesShow now more later new
+  pub written : (more : ℕ) → most ≤ more → l.entry.sent ≤ more → l.entry.received ≤ more →
+      OpenEntriesShow now more later new
   written more le sent received = record {
     indexed = indexed;
     made = made;
@@ -358,7 +359,8 @@ module _ (way : Way) (now most : ℕ) (old : OpenEntries) (log : LogModel) (show
           (λ p h. subst (IsPlaced key) (same_Some changed p h)
           (its, λ time h. ap (is_before time) end ∙ early time h)) in
           let few = shows.few key l (open_entry old key o at) in
-          let next_is : change l ≡ next = it ∙ ap (λ (f : Entry). let n : LogEntry = record { number = l.number; entry = f } in n) (sym counts)
+          let next_is : change l ≡ next = it ∙ ap (λ (f : Entry). let n : LogEntry =
+          record { number = l.number; entry = f } in n) (sym counts)
           in
           written now most old new log (with_use way now timed log) shows next (made ∙ shows.made)
           (each_mapped log.entries shows.numbered)
@@ -384,14 +386,16 @@ module _ (way : Way) (now most : ℕ) (old : OpenEntries) (log : LogModel) (show
           (cond v (Some changed) (open_at old y)) ≡ cond v (Some next) (entry_at old y))
           [ true ↦ refl | false ↦ refl ]
           ∙ ap (λ (k : EntryKey). cond (external_eq k y) (Some next) (entry_at old y)) its))
-          (most + 1) (omega arith) (let f = few.0 in omega (arith, sent, f)) (let f = few.1 in omega (arith, received, f))
+          (most + 1) (omega arith) (let f = few.0 in omega (arith, sent, f))
+          (let f = few.1 in omega (arith, received, f))
         where
           each_mapped : (ns : List LogEntry) → Each (λ n. n.number ≤ log.made) ns →
               Each (λ n. n.number ≤ log.made) (map change ns)
           each_mapped [] h = tt
           each_mapped (n ∷ ns) h = (h.0, each_mapped ns h.1)
 
-pub shows_more : (now most more : ℕ) → most ≤ more → (log : LogModel) (all : OpenEntries) → OpenEntriesShow now most log all →
+pub shows_more : (now most more : ℕ) → most ≤ more → (log : LogModel) (all : OpenEntries) →
+    OpenEntriesShow now most log all →
     OpenEntriesShow now more log all
 shows_more now most more le log all shows = record {
   indexed = shows.indexed;
@@ -401,5 +405,6 @@ shows_more now most more le log all shows = record {
   has = shows.has;
   there = shows.there;
   unended = shows.unended;
-  few = λ x n at. let f = shows.few x n at in (let a = f.0 in omega (arith, le, a), let a = f.1 in omega (arith, le, a));
+  few = λ x n at. let f = shows.few x n at in
+      (let a = f.0 in omega (arith, le, a), let a = f.1 in omega (arith, le, a));
 }

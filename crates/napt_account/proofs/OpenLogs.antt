@@ -37,7 +37,8 @@ module _ {S : Type 0} (entries : List LogEntry) (k : ℕ) (d : LogEntry) (below 
       ≡ option_or (find (is_under x) (take k entries)) (cond (is_under x it) (Some it) None)
   next x = ap (find (is_under x)) (take_more entries k d below) ∙ find_pushed (is_under x) (take k entries) it
 
-  pub map_same : (key : EntryKey) → key ≡ its → is_some (hash.get external_eq old key) ≡ true → IsMap (take (k + 1) entries) old
+  pub map_same : (key : EntryKey) → key ≡ its → is_some (hash.get external_eq old key) ≡ true →
+      IsMap (take (k + 1) entries) old
   map_same key at there x = is x ∙ sym (ap (option_map account_of_entry) (next x
       ∙ stays (find (is_under x) (take k entries)) (is_under x it) (λ under.
       ap is_some (sym (is x)) ∙ (ap (λ (y : EntryKey). is_some (hash.get external_eq old y))
@@ -51,7 +52,8 @@ module _ {S : Type 0} (entries : List LogEntry) (k : ℕ) (d : LogEntry) (below 
 
   pub map_more : (key : EntryKey) → key ≡ its → is_some (hash.get external_eq old key) ≡ false →
       (new : HashMap EntryKey Account S) → (account : Account) → account ≡ account_of_entry it →
-      ((x : EntryKey) → hash.get external_eq new x ≡ cond (external_eq key x) (Some account) (hash.get external_eq old x)) →
+      ((x : EntryKey) → hash.get external_eq new x ≡
+      cond (external_eq key x) (Some account) (hash.get external_eq old x)) →
       IsMap (take (k + 1) entries) new
   map_more key at none new account account_is updates x =
       updates x
@@ -85,7 +87,8 @@ account_is log all is now kept row = is (entry_key row) ∙ ap (option_map accou
     let opens = (filter_has (is_open now) log.entries n (subst (λ (l : LogModel). Has l.entries n) (sym kept) h)).1 in
     share_either row n.entry.binding ∙ sym (ap (λ v. v && shares row n.entry.binding) opens))))
 
-pub accounts_are : {S : Type 0} (log : LogModel) (all : HashMap EntryKey Account S) → IsMap log.entries all → (now : ℕ) →
+pub accounts_are : {S : Type 0} (log : LogModel) (all : HashMap EntryKey Account S) → IsMap log.entries all →
+    (now : ℕ) →
     kept_at now log ≡ log → (list : List Binding) →
     map (λ b. hash.get external_eq all (entry_key b.row)) list ≡ map (λ b. account_at now log b.row) list
 accounts_are log all is now kept [] = refl

@@ -35,7 +35,8 @@ plain_use way now told log =
 pub plain_through : (timers : Timers) (now : ℕ) (way : Way) (made : Bool) → (made ≡ true → way ≡ Outgoing) →
     (b : Binding) (log : LogModel) → (let change : Entry → Entry = counted way now (end_of timers b) in
     unnumbered (after_leg now (gone_through way made (timed_row timers b)) log)
-    ≡ cond made (unnumbered log ++ change (first_entry timers now b) ∷ []) (map (entry_through now (row b) change) (unnumbered log)))
+    ≡ cond made (unnumbered log ++ change (first_entry timers now b) ∷ [])
+    (map (entry_through now (row b) change) (unnumbered log)))
 plain_through timers now Outgoing true out b log =
     map_joined (λ (n : LogEntry). n.entry) log.entries _
 plain_through timers now Outgoing false out b log = plain_use Outgoing now (timed_row timers b) log
@@ -54,7 +55,8 @@ plain_none now (Some protocol) host (Dropped cause) log = refl
 abbrev pub MadeOut : Way → Option BindingUse → Type 0
 MadeOut way went = (t : BindingUse) → went ≡ Some t → t.made ≡ true → way ≡ Outgoing
 
-pub plain_leg : (timers : Timers) (leg : Leg) (carried : Option Protocol) (host : ℕ) (end : End) (went : Option BindingUse) →
+pub plain_leg : (timers : Timers) (leg : Leg) (carried : Option Protocol) (host : ℕ) (end : End)
+    (went : Option BindingUse) →
     MadeOut leg.way went → (log : LogModel) →
     unnumbered (after_leg leg.now (passage_by timers leg.way carried host end went) log)
     ≡ logged_by timers leg went (unnumbered log)

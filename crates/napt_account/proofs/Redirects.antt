@@ -56,7 +56,8 @@ keys_more rows k d below old new are key is updates x =
     as_or true b = refl
     as_or false b = refl
 
-pub keys_all : {S : Type 0} (rules : Rules) (rows : List TimedRow) → rows ≡ map (timed_row rules.timers) (opening rules) →
+pub keys_all : {S : Type 0} (rules : Rules) (rows : List TimedRow) → rows ≡
+    map (timed_row rules.timers) (opening rules) →
     (keys : HashSet BindingKey S) → AreKeys rows keys → (wanted : Row) →
     hash.contains binding_key_eq keys (binding_key wanted) ≡ has_redirect rules wanted
 keys_all rules rows is keys are wanted =
@@ -68,8 +69,10 @@ keys_all rules rows is keys are wanted =
     (λ b. key_has_ends (row b) wanted)))
 
 -- The entry that is made with them is the one by which the log goes on.
-pub entry_is : (rules : Rules) (redirects : Redirects) → ((wanted : Row) → is_among redirects wanted ≡ has_redirect rules wanted) →
+pub entry_is : (rules : Rules) (redirects : Redirects) →
+    ((wanted : Row) → is_among redirects wanted ≡ has_redirect rules wanted) →
     (timers : Timers) → timers ≡ rules.timers → (now clock : ℕ) → now ≡ clock → (b : Binding) (account : Account) →
     entry_among redirects timers now b account ≡ resumed_entry rules clock (b, account)
 entry_is rules redirects are timers timers_are now clock is b account =
-    λ i. entry_by_account b.row (cond b.row.fixed (cond (are b.row i) None (Some (is i))) (end_of (timers_are i) b)) account
+    λ i. entry_by_account b.row (cond b.row.fixed (cond (are b.row i) None (Some (is i))) (end_of (timers_are i) b))
+    account

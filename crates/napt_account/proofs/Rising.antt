@@ -69,10 +69,13 @@ pub rises_leg : (now : ℕ) (p : Passage) (log : LogModel) → IsNumbered log �
 rises_leg now Nothing log numbered rises = rises
 rises_leg now (Made timed) log numbered rises =
     rises_pushed 1 log.entries (record { number = log.made + 1; entry = made_by now timed }) rises
-    (each_weaker (λ n. n.number ≤ log.made) (λ n. n.number + 1 ≤ log.made + 1) (λ n le. omega arith) log.entries numbered)
+    (each_weaker (λ n. n.number ≤ log.made) (λ n. n.number + 1 ≤ log.made + 1) (λ n le. omega arith) log.entries
+    numbered)
     (omega arith)
-rises_leg now (Out timed) log numbered rises = rises_mapped (use_entry Outgoing now timed) (λ l. refl) 1 log.entries rises
-rises_leg now (In timed) log numbered rises = rises_mapped (use_entry Incoming now timed) (λ l. refl) 1 log.entries rises
+rises_leg now (Out timed) log numbered rises =
+    rises_mapped (use_entry Outgoing now timed) (λ l. refl) 1 log.entries rises
+rises_leg now (In timed) log numbered rises =
+    rises_mapped (use_entry Incoming now timed) (λ l. refl) 1 log.entries rises
 rises_leg now (Dropped loss) log numbered rises = rises
 
 pub rises_all : (timers : Timers) (acts : List LegAct) (log : LogModel) → IsNumbered log → Rises 1 log.entries →
@@ -106,7 +109,8 @@ pub rises_same : (n : ℕ) (xs ys : List LogEntry) → Rises n xs → Rises n ys
 rises_same n xs ys rises other = same_turn before (λ x y h k. grind (arith, nat_tests)) xs ys (rising_turn n xs rises)
     (rising_turn n ys other)
 
-pub sorted_rising : (n : ℕ) (xs zs : List LogEntry) → IsSortedByKey (λ l. l.number) nat_cmp xs → Differ xs → Rises n zs →
+pub sorted_rising : (n : ℕ) (xs zs : List LogEntry) → IsSortedByKey (λ l. l.number) nat_cmp xs → Differ xs →
+    Rises n zs →
     ((l : LogEntry) → Has xs l → Has zs l) → ((l : LogEntry) → Has zs l → Has xs l) → xs ≡ zs
 sorted_rising n xs zs sorted differ rises = same_turn before (λ x y h k. grind (arith, nat_tests)) xs zs
     (sorted_turn (λ (l : LogEntry). l.number) nat_cmp before (λ x y. x.number ≢ y.number)

@@ -95,7 +95,8 @@ module _ (rules : Rules) (keeps : RulesInvariant rules) (saved : State) (left : 
 
   -- Two bindings of the state with one endpoint are the same.
   one_binding : (b d : Binding) → Has saved.list b → Has saved.list d → share b.row d.row ≡ true → b ≡ d
-  one_binding b d h g same = only_one (λ x y. share x.row y.row ≡ false) saved.list (keyed_along row saved.list apart) b d
+  one_binding b d h g same = only_one (λ x y. share x.row y.row ≡ false) saved.list (keyed_along row saved.list apart)
+      b d
       h g (λ apart. true≢false (sym same ∙ apart)) (λ apart. true≢false (sym same ∙ (share_flip b.row d.row ∙ apart)))
 
   ends_itself : (r : Row) → has_ends r.protocol r.inside r.external r ≡ true
@@ -116,7 +117,8 @@ module _ (rules : Rules) (keeps : RulesInvariant rules) (saved : State) (left : 
             (ap (has_ends r.protocol r.inside r.external) its ∙ ends_itself r)
         | inr behind ↦
             let d = mapped_has (timed_row timers) (live_of timers now saved.list) (timed_by n) behind in
-            let y = mapped_has (with_live_flows timers now) (filter (is_live timers now) (filter is_loose saved.list)) d.x
+            let y = mapped_has (with_live_flows timers now) (filter (is_live timers now) (filter is_loose saved.list))
+            d.x
             d.has in
             let loose = (filter_has is_loose saved.list y.x
             (filter_has (is_live timers now) (filter is_loose saved.list) y.x y.has).0).1 in
@@ -248,14 +250,16 @@ module _ (rules : Rules) (keeps : RulesInvariant rules) (saved : State) (left : 
   all_open : Each (λ n. is_open now n ≡ true) entries
   all_open = has_each (λ n. is_open now n ≡ true) entries (λ n h. left_open n (entries_left n h))
 
-  along_kept : (list : List Binding) (accounts : List (Option Account)) → Along (λ x y. share x.row y.row ≡ false) list →
+  along_kept : (list : List Binding) (accounts : List (Option Account)) →
+      Along (λ x y. share x.row y.row ≡ false) list →
       Along (λ j k. share j.0.row k.0.row ≡ false) (accounted list accounts)
   along_kept [] accounts h = tt
   along_kept (b ∷ list) [] h = tt
   along_kept (b ∷ list) (None ∷ accounts) h = along_kept list accounts h.1
   along_kept (b ∷ list) (Some a ∷ accounts) h = (each_kept list accounts h.0, along_kept list accounts h.1)
     where
-      each_kept : (list : List Binding) (accounts : List (Option Account)) → Each (λ y. share b.row y.row ≡ false) list →
+      each_kept : (list : List Binding) (accounts : List (Option Account)) →
+          Each (λ y. share b.row y.row ≡ false) list →
           Each (λ k. share b.row k.0.row ≡ false) (accounted list accounts)
       each_kept [] accounts h = tt
       each_kept (d ∷ list) [] h = tt
@@ -291,7 +295,8 @@ module _ (rules : Rules) (keeps : RulesInvariant rules) (saved : State) (left : 
       has_each (λ timed. has_entry left.entries timed ≡ true) alive (λ timed h.
       let n = mapped_has timed_by left.entries timed (has_back (map timed_by left.entries) alive is.rows timed h) in
       subst (λ (u : TimedRow). has_entry left.entries u ≡ true) n.is
-      (any_has (λ m. shares n.x.entry.binding m.entry.binding) left.entries n.x n.has (shares_itself n.x.entry.binding))) in
+      (any_has (λ m. shares n.x.entry.binding m.entry.binding) left.entries n.x n.has
+      (shares_itself n.x.entry.binding))) in
       ap (λ (ts : List TimedRow). numbers ts)
       (ap (unlisted_rows rules saved) continued_is ∙ filter_none (has_entry left.entries) alive listed)
     where
@@ -346,10 +351,12 @@ saved_logs_are_taken_up taken_sound alike_go_on saved_go_on ordered rules keeps 
     let of_state : IsLogOf rules (with_redirects rules saved) left =
     logs_are_of_their_states taken_sound alike_go_on saved_go_on rules keeps state takes log is inputs saved order in
     let takes_saved : TakesState rules saved = (saved_go_on rules keeps state saved takes inputs [] order).taken in
-    let sound : IsSound (pair_of rules) next.list = purge_stays_sound (pair_of rules) timers (hold_ago timers next.clock) _
+    let sound : IsSound (pair_of rules) next.list =
+    purge_stays_sound (pair_of rules) timers (hold_ago timers next.clock) _
     (taken_sound rules keeps state takes inputs) in
     let alike = ordered rules keeps next saved sound order in
-    let rows : IsPermutation (map timed_by left.entries) (map (timed_row timers) (purge timers saved.clock saved.list)) =
+    let rows : IsPermutation (map timed_by left.entries) (map (timed_row timers) (purge timers saved.clock saved.list))
+    =
     subst (λ (n : ℕ). IsPermutation (map timed_by left.entries) (map (timed_row timers) (purge timers n saved.list)))
     (sym order.clock)
     (IsPermutation-trans _ _ _
@@ -360,11 +367,13 @@ saved_logs_are_taken_up taken_sound alike_go_on saved_go_on ordered rules keeps 
     ∙ (parts_taken timers next.clock order.parts (λ i part at.
     let within = slice_get_within order.parts i part at in
     let many = order.many in
-    (order.each i (get_or rules.pool i 0) part (slice_get-get_or rules.pool i 0 (omega (arith, within, many))) at).taken)
+    (order.each i (get_or rules.pool i 0) part (slice_get-get_or rules.pool i 0 (omega (arith, within, many)))
+    at).taken)
     ∙ sym order.list) in
     let held : AreKeyed (map row (live_and_held timers next.clock next.list)) =
     differ_keyed _ (subst AllDiffer (sym (rows_purge timers (hold_ago timers next.clock) next.list))
-    (differ_kept (is_live timers (hold_ago timers next.clock)) next.list (apart_differ (map row next.list) sound.apart))) in
+    (differ_kept (is_live timers (hold_ago timers next.clock)) next.list
+    (apart_differ (map row next.list) sound.apart))) in
     let apart : AreKeyed (map row saved.list) = subst (λ (list : List Binding). AreKeyed (map row list)) whole
     (keyed_moved (map row (live_and_held timers next.clock saved.list))
     (map row (live_and_held timers next.clock next.list))

@@ -11,7 +11,7 @@ use Rattle.napt_rules.specs.Prelude.{Binding, Each, act, LegAct, Arrival, RunEff
 use Rattle.napt_laws.proofs.{OneMoreInput.{grows, clock_more}, Turns.InTurn}
 use Rattle.napt_sequential.specs.{declared.passage.Passage.{Passage, TheVariants.{Nothing, Made, Out, In, Dropped}}, Traces.passage_of}
 use Rattle.napt_account.specs.{declared.log.{Entry.Entry, LogEntry.LogEntry, Shortage.Shortage}, Log.{LogModel, counted, made_by, use_entry, with_use, shortages_of, after_leg, after_record, log_on}}
-use Rattle.napt_account.specs.LogParts.{IsNumbered, LogDelta, ends_first, ends_within, in_order_of_end, is_behind, is_open, placed}
+use Rattle.napt_account.specs.LogParts.{IsNumbered, LogDelta, ends_first, ends_within, in_order_of_end, is_after, is_open, placed}
 use Rattle.napt_account.specs.{ResumedLogRuns.part_of, WholeLogs.{ArePartsOfLog, PartsAreTheLog, parts_joined, origin}}
 use Rattle.napt_account.proofs.{Effects.step_turn, Entries.{counted_binding, counted_made}, Leaves.{LeavesOpen, turn_leaves}, Lists.{filter_agrees, filter_joined, filter_seen, map_agrees, map_joined, map_twice}}
 use Rattle.napt_account.proofs.GoingOn.{filter_twice, fold_joined, none_behind, numbered_all}
@@ -108,7 +108,8 @@ Origin = ℕ × (Row × ℕ)
 
 -- A later log has the origins of an earlier one, and after them those with later numbers; and likewise its shortages.
 record Grown (one other : LogModel) : Type 0 where
-  pub origins : map origin other.entries ≡ map origin one.entries ++ map origin (filter (is_behind one.made) other.entries)
+  pub origins : map origin other.entries ≡ map origin one.entries ++ map origin
+      (filter (is_after one.made) other.entries)
   pub more : one.made ≤ other.made
   pub lost : List Shortage
   pub shortages : other.shortages ≡ one.shortages ++ lost
@@ -138,8 +139,8 @@ module _ (one log : LogModel) (grown : Grown one log) where
       origins = same_origins log.entries
           ∙ (grown.origins
           ∙ ap (λ (os : List Origin). map origin one.entries ++ os)
-          (sym (same_origins (filter (is_behind one.made) log.entries))
-          ∙ ap (map origin) (sym (filter_seen (is_behind one.made) used log.entries))));
+          (sym (same_origins (filter (is_after one.made) log.entries))
+          ∙ ap (map origin) (sym (filter_seen (is_after one.made) used log.entries))));
       more = grown.more;
       lost = grown.lost;
       shortages = grown.shortages;
@@ -148,10 +149,10 @@ module _ (one log : LogModel) (grown : Grown one log) where
   grown_made : (now : ℕ) (timed : TimedRow) → Grown one (after_leg now (Made timed) log)
   grown_made now timed =
       let new : LogEntry = record { number = log.made + 1; entry = made_by now timed } in
-      let behind : is_behind one.made new ≡ true = (let le = grown.more in grind (arith, nat_tests, le)) in
-      let old : List LogEntry = filter (is_behind one.made) log.entries in
-      let whole : filter (is_behind one.made) (log.entries ++ new ∷ []) ≡ old ++ new ∷ [] =
-      filter_joined (is_behind one.made) log.entries (new ∷ []) ∙ ap (λ v. old ++ cond v (new ∷ []) []) behind in
+      let behind : is_after one.made new ≡ true = (let le = grown.more in grind (arith, nat_tests, le)) in
+      let old : List LogEntry = filter (is_after one.made) log.entries in
+      let whole : filter (is_after one.made) (log.entries ++ new ∷ []) ≡ old ++ new ∷ [] =
+      filter_joined (is_after one.made) log.entries (new ∷ []) ∙ ap (λ v. old ++ cond v (new ∷ []) []) behind in
       record {
         origins = map_joined origin log.entries (new ∷ [])
             ∙ (ap (λ (os : List Origin). os ++ map origin (new ∷ [])) grown.origins
@@ -212,153 +213,156 @@ closed_since was now le xs =
 
 -- ONE INPUT MORE
 
-module _ (rules : Rules) (keeps : RulesInvariant rules) (state : State) (log : LogModel) (numbered : IsNumbered log) where
-  abbrev at : List Arrival → LogModel
-  at inputs = log_on rules state log inputs
+module _ (rules : Rules) (keeps : RulesInvariant rules) (state : State) (log : LogModel) (numbered : IsNumbered log)
+  where
+    abbrev at : List Arrival → LogModel
+    at inputs = log_on rules state log inputs
 
-  abbrev clock : List Arrival → ℕ
-  clock inputs = last_clock state.clock inputs
+    abbrev clock : List Arrival → ℕ
+    clock inputs = last_clock state.clock inputs
 
-  abbrev next : List Arrival → Arrival → RunEffect
-  next before input =
-      step rules (length before) (max (clock before) input.clock) input (effect_from rules state before).list
+    abbrev next : List Arrival → Arrival → RunEffect
+    next before input =
+        step rules (length before) (max (clock before) input.clock) input (effect_from rules state before).list
 
-  log_more : (before : List Arrival) (input : Arrival) →
-      at (before ++ input ∷ []) ≡ fold (after_record rules.timers) (at before) (next before input).acts
-  unfolding log_on
-  log_more before input =
-      ap (λ (c : RunEffect). fold (after_record rules.timers) log c.acts)
-      (grows rules 0 state.clock before input state.list (length before) (omega arith))
-      ∙ fold_joined (after_record rules.timers) (effect_from rules state before).acts (next before input).acts log
-
-  all_numbered : (inputs : List Arrival) → IsNumbered (at inputs)
-  unfolding log_on
-  all_numbered inputs = numbered_all rules.timers (effect_from rules state inputs).acts log numbered
-
-  grown_next : (before : List Arrival) (input : Arrival) → Grown (at before) (at (before ++ input ∷ []))
-  grown_next before input = subst (Grown (at before)) (sym (log_more before input))
-      (grown_acts rules (at before) (next before input).acts (at before)
-      (grown_none (at before) (all_numbered before)))
-
-  -- An entry that has ended by the clock of an input was there before it.
-  closed_next : (before : List Arrival) (input : Arrival) → (let now : ℕ = max (clock before) input.clock in
-      closed now (at (before ++ input ∷ [])).entries ≡ closed now (at before).entries)
-  closed_next before input =
-      let now : ℕ = max (clock before) input.clock in
-      ap (λ (l : LogModel). closed now l.entries) (log_more before input)
-      ∙ acts_closed rules keeps.timers now now (omega arith) (effect_from rules state before).list
-      (next before input).acts (next before input).list
-      (step_turn rules (length before) now input (omega arith) (effect_from rules state before).list) (at before)
-
-  -- ALL
-
-  abbrev part : List Arrival → Arrival → LogDelta
-  part before input = part_of rules state log before input
-
-  abbrev Tells : List Arrival → List LogEntry → Type 0
-  Tells inputs told = IsPermutation told (closed (clock inputs) (at inputs).entries)
-
-  tells_next : (before : List Arrival) (input : Arrival) (told : List LogEntry) → Tells before told →
-      Tells (before ++ input ∷ []) (told ++ (part before input).ended)
-  tells_next before input told tells =
-      let was : ℕ = clock before in
-      let now : ℕ = max was input.clock in
-      let xs : List LogEntry = (at before).entries in
-      let since : List LogEntry = filter (ends_within was now) xs in
-      let old : List LogEntry = filter (is_closed was) xs in
-      let late : List LogEntry = filter (is_closed now) xs in
-      subst (λ (n : ℕ). IsPermutation (told ++ in_order_of_end since) (closed n (at (before ++ input ∷ [])).entries))
-      (sym (clock_more state.clock before input))
-      (subst (IsPermutation (told ++ in_order_of_end since)) (sym (closed_next before input))
-      (IsPermutation-trans (told ++ in_order_of_end since) (told ++ since) late
-      (IsPermutation-append_right told (in_order_of_end since) since
-      (IsPermutation-sym since (in_order_of_end since) (order_moves since)))
-      (IsPermutation-trans (told ++ since) (old ++ since) late
-      (IsPermutation-append_left since told old tells) (closed_since was now (omega arith) xs))))
-
-  tells_all : (before inputs : List Arrival) (told : List LogEntry) → Tells before told →
-      Tells (before ++ inputs) (told ++ parts_joined (λ all one. (part all one).ended) before inputs)
-  tells_all before [] told tells =
-      subst (λ (all : List Arrival). Tells all (told ++ [])) (sym (append-nil before))
-      (subst (Tells before) (sym (append-nil told)) tells)
-  tells_all before (input ∷ inputs) told tells =
-      let ended : List LogEntry = (part before input).ended in
-      let rest : List LogEntry = parts_joined (λ all one. (part all one).ended) (before ++ input ∷ []) inputs in
-      subst (λ (all : List Arrival). Tells all (told ++ (ended ++ rest))) (append_assoc before (input ∷ []) inputs)
-      (subst (Tells ((before ++ input ∷ []) ++ inputs)) (append_assoc told ended rest)
-      (tells_all (before ++ input ∷ []) inputs (told ++ ended) (tells_next before input told tells)))
-
-  -- What each input adds, joined in order, is what the log of all inputs has.
-  joins_all : {X : Type 0} (of_log : LogModel → List X) (of_part : LogDelta → List X) →
-      ((before : List Arrival) (input : Arrival) →
-      of_log (at (before ++ input ∷ [])) ≡ of_log (at before) ++ of_part (part before input)) →
-      (before inputs : List Arrival) →
-      of_log (at before) ++ parts_joined (λ all one. of_part (part all one)) before inputs ≡ of_log (at (before ++ inputs))
-  joins_all of_log of_part more before [] = append-nil (of_log (at before))
-      ∙ ap (λ (all : List Arrival). of_log (at all)) (sym (append-nil before))
-  joins_all of_log of_part more before (input ∷ inputs) =
-      let rest = parts_joined (λ all one. of_part (part all one)) (before ++ input ∷ []) inputs in
-      sym (append_assoc (of_log (at before)) (of_part (part before input)) rest)
-      ∙ (ap (λ (xs : List _). xs ++ rest) (sym (more before input))
-      ∙ (joins_all of_log of_part more (before ++ input ∷ []) inputs
-      ∙ ap (λ (all : List Arrival). of_log (at all)) (append_assoc before (input ∷ []) inputs)))
-
-  refused_next : (before : List Arrival) (input : Arrival) →
-      (at (before ++ input ∷ [])).shortages ≡ (at before).shortages ++ (part before input).refused
-  refused_next before input =
-      let grown = grown_next before input in
-      let was : List Shortage = (at before).shortages in
-      grown.shortages ∙ ap (λ (l : List Shortage). was ++ l)
-      (sym (drop_joined was grown.lost) ∙ ap (drop (length was)) (sym grown.shortages))
-
-  map_all : (before inputs : List Arrival) →
-      map origin (parts_joined (λ all one. (part all one).made) before inputs)
-      ≡ parts_joined (λ all one. map origin (part all one).made) before inputs
-  map_all before [] = refl
-  map_all before (input ∷ inputs) =
-      map_joined origin (part before input).made (parts_joined (λ all one. (part all one).made) (before ++ input ∷ []) inputs)
-      ∙ ap (λ (os : List Origin). map origin (part before input).made ++ os) (map_all (before ++ input ∷ []) inputs)
-
-  module _ (opens : Each (λ n. is_open state.clock n ≡ true) log.entries) where
-    none_closed : (ns : List LogEntry) → Each (λ n. is_open state.clock n ≡ true) ns → closed state.clock ns ≡ []
-    none_closed [] h = refl
-    none_closed (n ∷ ns) h = ap (λ v. cond (not v) (n ∷ closed state.clock ns) (closed state.clock ns)) h.0
-        ∙ none_closed ns h.1
-
-    at_first : at [] ≡ log
+    log_more : (before : List Arrival) (input : Arrival) →
+        at (before ++ input ∷ []) ≡ fold (after_record rules.timers) (at before) (next before input).acts
     unfolding log_on
-    at_first = refl
+    log_more before input =
+        ap (λ (c : RunEffect). fold (after_record rules.timers) log c.acts)
+        (grows rules 0 state.clock before input state.list (length before) (omega arith))
+        ∙ fold_joined (after_record rules.timers) (effect_from rules state before).acts (next before input).acts log
 
-    first_closed : closed state.clock (at []).entries ≡ []
-    first_closed = ap (λ (l : LogModel). closed state.clock l.entries) at_first ∙ none_closed log.entries opens
+    all_numbered : (inputs : List Arrival) → IsNumbered (at inputs)
+    unfolding log_on
+    all_numbered inputs = numbered_all rules.timers (effect_from rules state inputs).acts log numbered
 
-    pub is_told : (inputs : List Arrival) → ArePartsOfLog rules state log inputs
-    is_told inputs =
-        let now : ℕ = clock inputs in
-        let xs : List LogEntry = (at inputs).entries in
-        let told : List LogEntry = parts_joined (λ all one. (part all one).ended) [] inputs in
-        let old : List LogEntry = filter (is_closed now) xs in
-        let left : List LogEntry = filter (is_open now) xs in
-        let made : List LogEntry = parts_joined (λ all one. (part all one).made) [] inputs in
-        let refused : List Shortage = parts_joined (λ all one. (part all one).refused) [] inputs in
-        record {
-          entries = IsPermutation-trans (told ++ in_order_of_end left) (told ++ left) xs
-              (IsPermutation-append_right told (in_order_of_end left) left
-              (IsPermutation-sym left (in_order_of_end left) (order_moves left)))
-              (IsPermutation-trans (told ++ left) (old ++ left) xs
-              (IsPermutation-append_left left told old (tells_all [] inputs []
-              (subst (IsPermutation []) (sym first_closed) (IsPermutation-refl []))))
-              (IsPermutation-sym xs (old ++ left)
-              (IsPermutation-filter_both (is_closed now) (is_open now) (λ l. not_twice (is_open now l)) xs)));
-          made = map_joined origin log.entries made
-              ∙ (ap (λ (os : List Origin). map origin log.entries ++ os) (map_all [] inputs)
-              ∙ (ap (λ (l : LogModel). map origin l.entries
-              ++ parts_joined (λ all one. map origin (part all one).made) [] inputs) (sym at_first)
-              ∙ joins_all (λ l. map origin l.entries) (λ p. map origin p.made)
-              (λ before input. (grown_next before input).origins) [] inputs));
-          refused = ap (λ (l : LogModel). l.shortages ++ refused) (sym at_first)
-              ∙ joins_all (λ l. l.shortages) (λ p. p.refused) refused_next [] inputs;
-        }
+    grown_next : (before : List Arrival) (input : Arrival) → Grown (at before) (at (before ++ input ∷ []))
+    grown_next before input = subst (Grown (at before)) (sym (log_more before input))
+        (grown_acts rules (at before) (next before input).acts (at before)
+        (grown_none (at before) (all_numbered before)))
+
+    -- An entry that has ended by the clock of an input was there before it.
+    closed_next : (before : List Arrival) (input : Arrival) → (let now : ℕ = max (clock before) input.clock in
+        closed now (at (before ++ input ∷ [])).entries ≡ closed now (at before).entries)
+    closed_next before input =
+        let now : ℕ = max (clock before) input.clock in
+        ap (λ (l : LogModel). closed now l.entries) (log_more before input)
+        ∙ acts_closed rules keeps.timers now now (omega arith) (effect_from rules state before).list
+        (next before input).acts (next before input).list
+        (step_turn rules (length before) now input (omega arith) (effect_from rules state before).list) (at before)
+
+    -- ALL
+
+    abbrev part : List Arrival → Arrival → LogDelta
+    part before input = part_of rules state log before input
+
+    abbrev Tells : List Arrival → List LogEntry → Type 0
+    Tells inputs told = IsPermutation told (closed (clock inputs) (at inputs).entries)
+
+    tells_next : (before : List Arrival) (input : Arrival) (told : List LogEntry) → Tells before told →
+        Tells (before ++ input ∷ []) (told ++ (part before input).ended)
+    tells_next before input told tells =
+        let was : ℕ = clock before in
+        let now : ℕ = max was input.clock in
+        let xs : List LogEntry = (at before).entries in
+        let since : List LogEntry = filter (ends_within was now) xs in
+        let old : List LogEntry = filter (is_closed was) xs in
+        let late : List LogEntry = filter (is_closed now) xs in
+        subst (λ (n : ℕ). IsPermutation (told ++ in_order_of_end since) (closed n (at (before ++ input ∷ [])).entries))
+        (sym (clock_more state.clock before input))
+        (subst (IsPermutation (told ++ in_order_of_end since)) (sym (closed_next before input))
+        (IsPermutation-trans (told ++ in_order_of_end since) (told ++ since) late
+        (IsPermutation-append_right told (in_order_of_end since) since
+        (IsPermutation-sym since (in_order_of_end since) (order_moves since)))
+        (IsPermutation-trans (told ++ since) (old ++ since) late
+        (IsPermutation-append_left since told old tells) (closed_since was now (omega arith) xs))))
+
+    tells_all : (before inputs : List Arrival) (told : List LogEntry) → Tells before told →
+        Tells (before ++ inputs) (told ++ parts_joined (λ all one. (part all one).ended) before inputs)
+    tells_all before [] told tells =
+        subst (λ (all : List Arrival). Tells all (told ++ [])) (sym (append-nil before))
+        (subst (Tells before) (sym (append-nil told)) tells)
+    tells_all before (input ∷ inputs) told tells =
+        let ended : List LogEntry = (part before input).ended in
+        let rest : List LogEntry = parts_joined (λ all one. (part all one).ended) (before ++ input ∷ []) inputs in
+        subst (λ (all : List Arrival). Tells all (told ++ (ended ++ rest))) (append_assoc before (input ∷ []) inputs)
+        (subst (Tells ((before ++ input ∷ []) ++ inputs)) (append_assoc told ended rest)
+        (tells_all (before ++ input ∷ []) inputs (told ++ ended) (tells_next before input told tells)))
+
+    -- What each input adds, joined in order, is what the log of all inputs has.
+    joins_all : {X : Type 0} (of_log : LogModel → List X) (of_part : LogDelta → List X) →
+        ((before : List Arrival) (input : Arrival) →
+        of_log (at (before ++ input ∷ [])) ≡ of_log (at before) ++ of_part (part before input)) →
+        (before inputs : List Arrival) →
+        of_log (at before) ++ parts_joined (λ all one. of_part (part all one)) before inputs ≡
+        of_log (at (before ++ inputs))
+    joins_all of_log of_part more before [] = append-nil (of_log (at before))
+        ∙ ap (λ (all : List Arrival). of_log (at all)) (sym (append-nil before))
+    joins_all of_log of_part more before (input ∷ inputs) =
+        let rest = parts_joined (λ all one. of_part (part all one)) (before ++ input ∷ []) inputs in
+        sym (append_assoc (of_log (at before)) (of_part (part before input)) rest)
+        ∙ (ap (λ (xs : List _). xs ++ rest) (sym (more before input))
+        ∙ (joins_all of_log of_part more (before ++ input ∷ []) inputs
+        ∙ ap (λ (all : List Arrival). of_log (at all)) (append_assoc before (input ∷ []) inputs)))
+
+    refused_next : (before : List Arrival) (input : Arrival) →
+        (at (before ++ input ∷ [])).shortages ≡ (at before).shortages ++ (part before input).refused
+    refused_next before input =
+        let grown = grown_next before input in
+        let was : List Shortage = (at before).shortages in
+        grown.shortages ∙ ap (λ (l : List Shortage). was ++ l)
+        (sym (drop_joined was grown.lost) ∙ ap (drop (length was)) (sym grown.shortages))
+
+    map_all : (before inputs : List Arrival) →
+        map origin (parts_joined (λ all one. (part all one).made) before inputs)
+        ≡ parts_joined (λ all one. map origin (part all one).made) before inputs
+    map_all before [] = refl
+    map_all before (input ∷ inputs) =
+        map_joined origin (part before input).made
+        (parts_joined (λ all one. (part all one).made) (before ++ input ∷ []) inputs)
+        ∙ ap (λ (os : List Origin). map origin (part before input).made ++ os) (map_all (before ++ input ∷ []) inputs)
+
+    module _ (opens : Each (λ n. is_open state.clock n ≡ true) log.entries) where
+      none_closed : (ns : List LogEntry) → Each (λ n. is_open state.clock n ≡ true) ns → closed state.clock ns ≡ []
+      none_closed [] h = refl
+      none_closed (n ∷ ns) h = ap (λ v. cond (not v) (n ∷ closed state.clock ns) (closed state.clock ns)) h.0
+          ∙ none_closed ns h.1
+
+      at_first : at [] ≡ log
+      unfolding log_on
+      at_first = refl
+
+      first_closed : closed state.clock (at []).entries ≡ []
+      first_closed = ap (λ (l : LogModel). closed state.clock l.entries) at_first ∙ none_closed log.entries opens
+
+      pub is_told : (inputs : List Arrival) → ArePartsOfLog rules state log inputs
+      is_told inputs =
+          let now : ℕ = clock inputs in
+          let xs : List LogEntry = (at inputs).entries in
+          let told : List LogEntry = parts_joined (λ all one. (part all one).ended) [] inputs in
+          let old : List LogEntry = filter (is_closed now) xs in
+          let left : List LogEntry = filter (is_open now) xs in
+          let made : List LogEntry = parts_joined (λ all one. (part all one).made) [] inputs in
+          let refused : List Shortage = parts_joined (λ all one. (part all one).refused) [] inputs in
+          record {
+            entries = IsPermutation-trans (told ++ in_order_of_end left) (told ++ left) xs
+                (IsPermutation-append_right told (in_order_of_end left) left
+                (IsPermutation-sym left (in_order_of_end left) (order_moves left)))
+                (IsPermutation-trans (told ++ left) (old ++ left) xs
+                (IsPermutation-append_left left told old (tells_all [] inputs []
+                (subst (IsPermutation []) (sym first_closed) (IsPermutation-refl []))))
+                (IsPermutation-sym xs (old ++ left)
+                (IsPermutation-filter_both (is_closed now) (is_open now) (λ l. not_twice (is_open now l)) xs)));
+            made = map_joined origin log.entries made
+                ∙ (ap (λ (os : List Origin). map origin log.entries ++ os) (map_all [] inputs)
+                ∙ (ap (λ (l : LogModel). map origin l.entries
+                ++ parts_joined (λ all one. map origin (part all one).made) [] inputs) (sym at_first)
+                ∙ joins_all (λ l. map origin l.entries) (λ p. map origin p.made)
+                (λ before input. (grown_next before input).origins) [] inputs));
+            refused = ap (λ (l : LogModel). l.shortages ++ refused) (sym at_first)
+                ∙ joins_all (λ l. l.shortages) (λ p. p.refused) refused_next [] inputs;
+          }
 
 pub parts_are_the_log : PartsAreTheLog
 parts_are_the_log rules keeps state log numbered opens inputs = is_told rules keeps state log numbered opens inputs

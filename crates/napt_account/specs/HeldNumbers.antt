@@ -4,8 +4,8 @@ use Rattle.napt_rules.specs.Prelude.{Each, hold_ago, is_live, Arrival, Binding, 
 use Rattle.napt_binding.specs.Ends.{is_before}
 use Rattle.napt_account.specs.{declared.log.Entry.Entry, Log.{LogModel, first_entry, log_on, unnumbered}, ResumedLogRuns.IsLogOf}
 
--- If two bindings of one protocol and external endpoint have different inside endpoints, the later one was made no sooner
--- than the hold after the end of the earlier one.
+-- If two bindings of one protocol and external endpoint have different inside endpoints, the later one was made no
+-- sooner than the hold after the end of the earlier one.
 abbrev pub AreEntriesApart : Timers → Entry → Entry → Type 0
 AreEntriesApart timers earlier later = earlier.binding.protocol ≡ later.binding.protocol →
     earlier.binding.external ≡ later.binding.external → earlier.binding.inside ≢ later.binding.inside →

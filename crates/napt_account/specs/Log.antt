@@ -125,14 +125,14 @@ numbered_from number [] = []
 numbered_from number (entry ∷ entries) = record { number = number; entry = entry } ∷ numbered_from (number + 1) entries
 
 -- A log that has `before` earlier entries and begins with one for each live binding of a state, made at its clock.
-abbrev pub begun_behind : ℕ → Rules → State → LogModel
-begun_behind before rules state =
+abbrev pub begun_after : ℕ → Rules → State → LogModel
+begun_after before rules state =
     let entries : List Entry = map (first_entry rules.timers state.clock) (purge rules.timers state.clock state.list) in
     record { made = before + length entries; entries = numbered_from (before + 1) entries; shortages = [] }
 
 -- The log of a new run, which begins with the redirects.
 abbrev pub log_of : Rules → List Arrival → LogModel
-log_of rules inputs = log_on rules (initial_state rules) (begun_behind 0 rules (initial_state rules)) inputs
+log_of rules inputs = log_on rules (initial_state rules) (begun_after 0 rules (initial_state rules)) inputs
 
 -- Whether the binding of an entry was made by a time and has not ended by then.
 abbrev pub stands_at : ℕ → Entry → Bool

@@ -42,14 +42,14 @@ pub record LogDelta : Type 0 where
   pub refused : List Shortage
 
 -- Whether the number of an entry is above the number of earlier entries.
-abbrev pub is_behind : ℕ → LogEntry → Bool
-is_behind made numbered = nat_lt made numbered.number
+abbrev pub is_after : ℕ → LogEntry → Bool
+is_after made numbered = nat_lt made numbered.number
 
 -- What comes between the log at a time and the log after an input at a later time.
 abbrev pub part_between : ℕ → ℕ → LogModel → LogModel → LogDelta
 part_between was now earlier later = record {
   ended = in_order_of_end (filter (ends_within was now) earlier.entries);
-  made = filter (is_behind earlier.made) later.entries;
+  made = filter (is_after earlier.made) later.entries;
   refused = drop (length earlier.shortages) later.shortages;
 }
 

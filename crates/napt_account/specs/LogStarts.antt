@@ -9,7 +9,7 @@ use Rattle.napt_rules.specs.{Prelude.{Arrival, Binding, Each, IsStateInOrder, St
 use Rattle.napt_binding.specs.Ends.{end_of}
 use Rattle.napt_table.specs.{declared.TimedRow.TimedRow, TimedRows.timed_row}
 use Rattle.napt_account.specs.declared.{account.Account.Account, log.{LogEntry.LogEntry}}
-use Rattle.napt_account.specs.{Attribution.has_ends, BindingTallies.open_of, Log.{LogModel, begun_behind, numbered_from, shares, unused_entry}, LogParts.{LogDelta, Rises, is_open}, OpenEntries.{entry_key, external_eq}, ResumedLogRuns.{IsLogOf, left_of}}
+use Rattle.napt_account.specs.{Attribution.has_ends, BindingTallies.open_of, Log.{LogModel, begun_after, numbered_from, shares, unused_entry}, LogParts.{LogDelta, Rises, is_open}, OpenEntries.{entry_key, external_eq}, ResumedLogRuns.{IsLogOf, left_of}}
 
 -- What a state keeps of a log.
 pub record SavedLogStateModel : Type 0 where
@@ -72,7 +72,8 @@ abbrev pub has_redirect : Rules → Row → Bool
 has_redirect rules wanted =
     list_any (λ b. has_ends wanted.protocol wanted.inside wanted.external (row b)) (opening rules)
 
--- The end of a binding's entry under a configuration. A redirect that the configuration does not have ends at the clock.
+-- The end of a binding's entry under a configuration. A redirect that the configuration does not have ends at the
+-- clock.
 abbrev pub resumed_end : Rules → ℕ → Binding → Option ℕ
 resumed_end rules clock binding =
     cond binding.row.fixed (cond (has_redirect rules binding.row) None (Some clock)) (end_of rules.timers binding)
@@ -198,7 +199,7 @@ StartedLogsAreOfTheirStates = (rules : Rules) → RulesInvariant rules → (stat
 -- The log of a new run has its redirects.
 abbrev pub StartedLogsBeginAnew : Type 0
 StartedLogsBeginAnew = (rules : Rules) →
-    log_started rules empty_state no_saved_log ≡ begun_behind 0 rules (initial_state rules)
+    log_started rules empty_state no_saved_log ≡ begun_after 0 rules (initial_state rules)
 
 -- What a run leaves of its log is what the next run begins with under the same configuration, which adds nothing there.
 abbrev pub SavedLogsAreTakenUp : Type 0

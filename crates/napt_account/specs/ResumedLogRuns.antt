@@ -27,8 +27,10 @@ LogsGoOn = (rules : Rules) (state : State) (log : LogModel) → IsNumbered log �
 
 -- The same from the state as it was saved and taken up.
 abbrev pub SavedLogsGoOn : Type 0
-SavedLogsGoOn = (rules : Rules) → RulesInvariant rules → (state saved : State) → TakesState rules state → (log : LogModel) →
-    IsNumbered log → (first rest : List Arrival) → IsStateInOrder rules (next_state rules (with_redirects rules state) first) saved →
+SavedLogsGoOn = (rules : Rules) → RulesInvariant rules → (state saved : State) → TakesState rules state →
+    (log : LogModel) →
+    IsNumbered log → (first rest : List Arrival) →
+    IsStateInOrder rules (next_state rules (with_redirects rules state) first) saved →
     LogGoesOn rules (with_redirects rules state) (with_redirects rules saved) log first rest
 
 -- THE LOG OF A STATE
@@ -46,7 +48,8 @@ pub record IsLogOf (rules : Rules) (state : State) (log : LogModel) : Type 0 whe
 
 -- LAW: what a run leaves of its log is the log of the state that it leaves, as saved and taken up
 abbrev pub LogsAreOfTheirStates : Type 0
-LogsAreOfTheirStates = (rules : Rules) → RulesInvariant rules → (state : State) → TakesState rules state → (log : LogModel) →
+LogsAreOfTheirStates = (rules : Rules) → RulesInvariant rules → (state : State) → TakesState rules state →
+    (log : LogModel) →
     IsLogOf rules (with_redirects rules state) log → (inputs : List Arrival) (saved : State) →
     IsStateInOrder rules (next_state rules (with_redirects rules state) inputs) saved →
     IsLogOf rules (with_redirects rules saved) (left_of rules (with_redirects rules state) log inputs)

@@ -1,7 +1,7 @@
 //! Records in the log what the legs of an input did.
 
 ghost use Rattle.std.specs.Prelude.{◌≡◌, ◌+◌, ◌<◌, ◌^◌, ◌++◌, ℕ, [], ◌∷◌, List, true, false, filter, length, drop, OnOk, IfOk, IfSome, Ok, None};
-ghost use Rattle.napt_account.specs.{BindingTallies.use_of, Effects.CanCome, Log.{LogModel, after_input, after_leg, shortages_by, shortages_in}, MadeEntries.made_entry, OpenEntries.OpenEntriesShow, LogParts.is_behind};
+ghost use Rattle.napt_account.specs.{BindingTallies.use_of, Effects.CanCome, Log.{LogModel, after_input, after_leg, shortages_by, shortages_in}, MadeEntries.made_entry, OpenEntries.OpenEntriesShow, LogParts.is_after};
 
 use crate::binding_tally::{BindingTally, both_uses};
 use crate::log::{LogEntry, Shortage, is_shortage};
@@ -35,7 +35,7 @@ impl OpenEntries {
             IfOk result (λ legs. IfSome legs (λ l. l.used ≡ use_of log effects)) }
         ensures made { (most : ℕ) (log : LogModel) → OpenEntriesShow effects.now most log self.old →
             IfOk result (λ legs. IfSome legs (λ l. l.made.items
-            ≡ filter (is_behind log.made) (after_input log effects).entries)) }
+            ≡ filter (is_after log.made) (after_input log effects).entries)) }
         ensures refused { IfOk result (λ legs. IfSome legs (λ l.
             l.refused.items ≡ shortages_in effects)) }
         ensures come { (most : ℕ) (log : LogModel) → OpenEntriesShow effects.now most log self.old →

@@ -2,7 +2,7 @@
 
 ghost use Rattle.std.specs.Prelude.{◌≡◌, ◌+◌, ◌≤◌, ◌^◌, not, [], map, filter, length, true, false, IfOk};
 ghost use Rattle.napt_rules.specs.Prelude.{TakesState, initial_state};
-ghost use Rattle.napt_account.specs.Log.{begun_behind, numbered_from, unused_entry};
+ghost use Rattle.napt_account.specs.Log.{begun_after, numbered_from, unused_entry};
 ghost use Rattle.napt_account.specs.LogParts.{LogDelta, is_open};
 ghost use Rattle.napt_account.specs.LogStarts as starts;
 ghost use Rattle.napt_account.specs.OpenEntries.{AreKeyed};
@@ -40,7 +40,7 @@ impl<'a> LogBuilder<'a> {
         ensures { IfOk result (λ builder. builder ≡ record {
           rules = config.now;
           clock = 0;
-          log = begun_behind 0 config.now (initial_state config.now);
+          log = begun_after 0 config.now (initial_state config.now);
           taken = 0;
           is_stopped = false;
         }) }

@@ -3,7 +3,7 @@
 ghost use Rattle.std.specs.Prelude.{◌≡◌, ◌↔◌, ◌+◌, ◌^◌, ◌≤◌, ◌++◌, [], ◌∷◌, length, OnOk, Err, IfErr, IfOk, false, true};
 ghost use Rattle.napt_rules.specs.Sequential as model;
 ghost use Rattle.napt_rules.specs.Prelude.{TakesState, initial_state, last_clock, with_redirects};
-ghost use Rattle.napt_account.specs.{Log.{begun_behind, log_on}, LogParts.{LogDelta, living_at}, LoggedRuns.{IsStepFault, LoggedStepPost}};
+ghost use Rattle.napt_account.specs.{Log.{begun_after, log_on}, LogParts.{LogDelta, living_at}, LoggedRuns.{IsStepFault, LoggedStepPost}};
 ghost use Rattle.napt_account.specs.LogStarts.{is_saved_log_state, log_before, log_started, started_part};
 
 use crate::account::SavedLogState;
@@ -78,7 +78,7 @@ impl<'a> LoggedRun<'a> {
         ensures { IfOk result (λ run. run ≡ record {
           rules = config.now;
           state = initial_state config.now;
-          log = begun_behind 0 config.now (initial_state config.now);
+          log = begun_after 0 config.now (initial_state config.now);
           inputs = [];
           is_stopped = false;
         }) }

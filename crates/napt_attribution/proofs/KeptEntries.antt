@@ -5,7 +5,7 @@ use Rattle.std.specs.{BTreeMap.{BTreeMap, InsertsAll, IsOrdered, get, is_at}, Cm
 use Rattle.napt_rules.specs.Prelude.{Each}
 use Rattle.napt_account.specs.{declared.log.{Entry.Entry, LogEntry.LogEntry}, LogParts.Rises}
 use Rattle.napt_account.proofs.Rising.{rises_above, rises_filter, rises_mapped}
-use Rattle.napt_attribution.specs.{Asked.{is_asked_about, is_wanted}, SavedLogs.{Keeps, asked_entries, entry_of, entry_with_end, has_no_end, is_ended_and_asked, passing}, declared.{requests.HolderRequest.HolderRequest, kept_entries.KeptEntries.KeptEntries, wanted_endpoints.WantedEndpoints.WantedEndpoints}}
+use Rattle.napt_attribution.specs.{RequestParties.{is_asked_about, is_wanted}, SavedLogs.{Keeps, asked_entries, entry_of, entry_with_end, has_no_end, is_ended_and_asked, passing}, declared.{requests.HolderRequest.HolderRequest, kept_entries.KeptEntries.KeptEntries, wanted_endpoints.WantedEndpoints.WantedEndpoints}}
 
 -- ONE MORE
 
@@ -42,7 +42,8 @@ entry_of_ended : (ended : ℕ) (end : Option ℕ) (ls : List LogEntry) (number :
     entry_of (map (entry_with_end ended end) ls) number
     ≡ cond (ended == number) (option_map (with_end end) (entry_of ls number)) (entry_of ls number)
 entry_of_ended ended end [] number = nothing (ended == number)
-entry_of_ended ended end (l ∷ ls) number = let rest = entry_of_ended ended end ls number in grind (arith, nat_tests, rest)
+entry_of_ended ended end (l ∷ ls) number = let rest = entry_of_ended ended end ls number in
+    grind (arith, nat_tests, rest)
 
 ended_rise : (ended : ℕ) (end : Option ℕ) (n : ℕ) (ls : List LogEntry) → Rises n ls →
     Rises n (map (entry_with_end ended end) ls)
@@ -71,8 +72,11 @@ some_of false x e h = cc
 pub found_open : (o : Option Entry) (e : Entry) → passing has_no_end o ≡ Some e → (o ≡ Some e) × (e.end ≡ None)
 found_open None e h = cc
 found_open (Some x) e h =
-    let same : Some x ≡ Some e = some_of (has_no_end x) x e h in
-    (same, sym (ap (λ (o : Option Entry). option_and_then (λ (y : Entry). y.end) o) same) ∙ endless x.end (holds_of (has_no_end x) x e h))
+    let same : Some x ≡ Some e = some_of (has_no_end x) x e h in (
+      same,
+      sym (ap (λ (o : Option Entry). option_and_then (λ (y : Entry). y.end) o) same) ∙
+          endless x.end (holds_of (has_no_end x) x e h),
+    )
 
 module _ (asked : List HolderRequest) where
   abbrev is_told : Entry → Bool
@@ -98,7 +102,8 @@ module _ (asked : List HolderRequest) where
   ended_told : (b : Bool) (end : ℕ) (o : Option Entry) (e : Entry) → (b ≡ true → o ≡ Some e) →
       is_asked_about asked e.binding.external ≡ true → cond b (Some (with_end (Some end) e)) (passing is_told o)
       ≡ passing is_told (cond b (option_map (with_end (Some end)) o) o)
-  ended_told true end o e found is = sym (ap (λ (x : Option Entry). passing is_told (option_map (with_end (Some end)) x)) (found refl)
+  ended_told true end o e found is = sym (ap
+      (λ (x : Option Entry). passing is_told (option_map (with_end (Some end)) x)) (found refl)
       ∙ ap (λ (x : Bool). cond x (Some (with_end (Some end) e)) None) is)
   ended_told false end o e found is = refl
 
@@ -128,7 +133,8 @@ module _ (asked : List HolderRequest) where
           ∙ sym (ap (passing has_no_end) (entry_of_pushed 1 entries l rises q))));
       ended = λ q. keeps.ended q
           ∙ (ended_more (l.number == q) l.entry (entry_of entries q) endless
-          (λ same. subst (λ (k : ℕ). entry_of entries k ≡ None) (same_number l.number q same) (new_number 1 entries l rises))
+          (λ same. subst (λ (k : ℕ). entry_of entries k ≡ None) (same_number l.number q same)
+          (new_number 1 entries l rises))
           ∙ sym (ap (passing is_told) (entry_of_pushed 1 entries l rises q)));
     }
 
@@ -158,7 +164,8 @@ module _ (asked : List HolderRequest) where
         rising = ended_rise number (Some end) 1 entries keeps.rising;
         unended = fewer keeps.unended;
         ended = λ q. gets q
-            ∙ (ap₂ (λ (b : Bool) (o : Option Entry). cond b (Some (with_end (Some end) e)) o) (at_number number q) (keeps.ended q)
+            ∙ (ap₂ (λ (b : Bool) (o : Option Entry). cond b (Some (with_end (Some end) e)) o) (at_number number q)
+            (keeps.ended q)
             ∙ (ended_told (number == q) end (entry_of entries q) e (found_at q) is_asked
             ∙ sym (ap (passing is_told) (entry_of_ended number (Some end) entries q))));
       }
@@ -208,7 +215,8 @@ module _ (asked : List HolderRequest) where
   none_below q n [] less h = refl
   none_below q n (l ∷ ls) less h =
       let first = h.0 in
-      let rest = none_below q (l.number + 1) ls (omega (arith, first, less)) h.1 in grind (arith, nat_tests, first, rest)
+      let rest = none_below q (l.number + 1) ls (omega (arith, first, less)) h.1 in
+      grind (arith, nat_tests, first, rest)
 
   at_flipped : (q m : ℕ) → is_at (nat_cmp q) m ≡ (m == q)
   at_flipped q m = grind (arith, nat_tests)
@@ -235,11 +243,13 @@ module _ (asked : List HolderRequest) where
   look_up q n [] h = refl
   look_up q n (l ∷ ls) h =
       let rest = look_up q (l.number + 1) ls h.1 in
-      elim (is_kept l.entry) as (λ b. is_kept l.entry ≡ b → lookup (is_at (nat_cmp q)) (pairs (cond b (l ∷ kept_of ls) (kept_of ls)))
+      elim (is_kept l.entry) as (λ b. is_kept l.entry ≡ b →
+      lookup (is_at (nat_cmp q)) (pairs (cond b (l ∷ kept_of ls) (kept_of ls)))
       ≡ passing is_kept (cond (l.number == q) (Some l.entry) (entry_of ls q))) [
         | true ↦ λ is. here q l.number l.entry (entry_of ls q) _ is rest
         | false ↦ λ is. there q l.number l.entry (entry_of ls q) _ is
-            (λ same. let e : l.number ≡ q = same_number l.number q same in none_below q (l.number + 1) ls (omega arith) h.1) rest
+            (λ same. let e : l.number ≡ q = same_number l.number q same in
+            none_below q (l.number + 1) ls (omega arith) h.1) rest
       ] refl
 
   abbrev kept_asked : List LogEntry → List LogEntry
@@ -261,11 +271,13 @@ module _ (asked : List HolderRequest) where
       elim (is_kept l.entry) as (λ b. is_kept l.entry ≡ b → filter (λ e. is_asked_about asked e.binding.external)
       (values_of (pairs (cond b (l ∷ kept_of ls) (kept_of ls)))) ≡ asked_entries asked (l ∷ ls)) [
         | true ↦ λ is. of_cond (is_asked_about asked l.entry.binding.external) l _ (kept_asked ls) (values_asked ls)
-        | false ↦ λ is. values_asked ls ∙ ap (λ (b : Bool). map (λ (m : LogEntry). m.entry) (cond b (l ∷ kept_asked ls) (kept_asked ls)))
+        | false ↦ λ is. values_asked ls ∙ ap (λ (b : Bool). map (λ (m : LogEntry). m.entry)
+            (cond b (l ∷ kept_asked ls) (kept_asked ls)))
             (sym (unasked (is_kept l.entry) (is_asked_about asked l.entry.binding.external) (asked_is_kept l.entry) is))
       ] refl
 
-  below : (x : ℕ) (es : List (ℕ × Entry)) → AllByRecursion (λ y. nat_cmp x y ≡ Less) (keys_of es) → below_all nat_cmp x es ≡ true
+  below : (x : ℕ) (es : List (ℕ × Entry)) → AllByRecursion (λ y. nat_cmp x y ≡ Less) (keys_of es) →
+      below_all nat_cmp x es ≡ true
   below x [] h = refl
   below x (e ∷ es) h = ap₂ (λ (a : Ordering) (b : Bool). is_lt a && b) h.0 (below x es h.1)
 
@@ -283,9 +295,12 @@ module _ (asked : List HolderRequest) where
       filter (λ e. is_wanted wanted e.binding.external) (values_of all.entries) ≡ asked_entries asked entries
   all_asked wanted unended ended all entries keeps ordered all_in =
       let rises : Rises 1 (kept_of entries) = rises_filter (λ l. is_kept l.entry) 1 entries keeps.rising in
-      let same : all.entries ≡ pairs (kept_of entries) = same_entries nat_cmp nat_cmp_total exact_unsigned all.entries (pairs (kept_of entries))
-      (truth (in_order all.entries all_in.1)) (truth (in_order (pairs (kept_of entries)) (keys_rise 1 (kept_of entries) rises))) (λ q. all_in.0 q
-      ∙ (update_all_distinct (eq_by_cmp_equiv nat_cmp_total) (eq_by_cmp nat_cmp) (λ x y. refl) (get nat_cmp ended) unended.entries q
+      let same : all.entries ≡ pairs (kept_of entries) =
+      same_entries nat_cmp nat_cmp_total exact_unsigned all.entries (pairs (kept_of entries))
+      (truth (in_order all.entries all_in.1)) (truth
+      (in_order (pairs (kept_of entries)) (keys_rise 1 (kept_of entries) rises))) (λ q. all_in.0 q
+      ∙ (update_all_distinct (eq_by_cmp_equiv nat_cmp_total) (eq_by_cmp nat_cmp) (λ x y. refl) (get nat_cmp ended)
+      unended.entries q
       (IsDistinct-from_sorted nat_cmp (keys_of unended.entries) ordered)
       ∙ (ap₂ option_or (keeps.unended q) (keeps.ended q)
       ∙ (either (entry_of entries q) ∙ sym (look_up q 1 entries keeps.rising))))) in

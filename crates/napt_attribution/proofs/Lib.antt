@@ -1,4 +1,4 @@
-pub mod Asked
+pub mod RequestParties
 pub mod KeptEntries
 pub mod LogLaws
 pub mod Pieces

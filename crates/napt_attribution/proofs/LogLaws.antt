@@ -5,10 +5,10 @@ use Rattle.napt_config.specs.Rules.{Rules, RulesInvariant, pair_of}
 use Rattle.napt_config.specs.declared.settings.Redirect.{Redirect}
 use Rattle.napt_rules.specs.Prelude.{Arrival, Binding, Each, State, Timers, initial_state, is_live, last_clock, opening, redirect_binding, with_live_flows}
 use Rattle.napt_rules.specs.declared.Row.{Row}
-use Rattle.napt_account.specs.{Questions.is_meant, declared.log.{Entry.Entry, LogEntry.LogEntry, Shortage.Shortage}, Log.{LogModel, begun_behind, first_entry, log_of, log_on, numbered_from, unnumbered, unused_entry}, LogParts.{IsNumbered, LogDelta, in_order_of_end, is_open, living_at}, OpenEntries.Has, ResumedLogRuns.{left_of, part_of}, WholeLogs.{ArePartsOfLog, PartsAreTheLog, all_parts, origin, parts_joined}}
+use Rattle.napt_account.specs.{Questions.is_meant, declared.log.{Entry.Entry, LogEntry.LogEntry, Shortage.Shortage}, Log.{LogModel, begun_after, first_entry, log_of, log_on, numbered_from, unnumbered, unused_entry}, LogParts.{IsNumbered, LogDelta, in_order_of_end, is_open, living_at}, OpenEntries.Has, ResumedLogRuns.{left_of, part_of}, WholeLogs.{ArePartsOfLog, PartsAreTheLog, all_parts, origin, parts_joined}}
 use Rattle.napt_account.proofs.{InOrder.{Differ, each_has, has_each}, Numbers.{begun_numbered, differ_moved, log_rises}, Rising.rises_differ, Sorted.{has_back, has_moved}}
-use Rattle.napt_log_text.specs.{LogReaders.{events_after, log_events, part_events}, Logs.log_anew, Requests.{holders, is_asked, is_holder, meets}, declared.{event.LogEvent.{LogEvent, TheVariants.{Made, Ended, Living, Refused}}, request.{Request.Request, TimeSpan.TimeSpan}}}
-use Rattle.napt_attribution.specs.{Asked.is_asked_about, LogLaws.{RowsNameTheHolders, RowsTellTheLog, without_counts}, SavedLogs.{asked_entries, bare_entry, row_end_among, end_told, entries_in, made_in}, declared.requests.HolderRequest.HolderRequest}
+use Rattle.napt_log_text.specs.{LogReaders.{events_after, part_events}, Logs.log_anew, Requests.{holders, is_asked, is_holder, meets}, declared.{event.LogEvent.{LogEvent, TheVariants.{Made, Ended, Living, Refused}}, request.{Request.Request, TimeSpan.TimeSpan}}}
+use Rattle.napt_attribution.specs.{RequestParties.is_asked_about, LogLaws.{RowsNameTheHolders, RowsTellTheLog, whole_events, without_counts}, SavedLogs.{asked_entries, bare_entry, row_end_among, end_told, entries_in, made_in}, declared.requests.HolderRequest.HolderRequest}
 
 -- THE ROWS THAT TELL AN END, by their entries
 
@@ -43,7 +43,7 @@ made_joined (Ended l ∷ es) fs = made_joined es fs
 made_joined (Living l ∷ es) fs = made_joined es fs
 made_joined (Refused s ∷ es) fs = made_joined es fs
 
--- what each kind of rows has
+-- What each kind of row has.
 made_of_made : (ls : List LogEntry) → made_in (map Made ls) ≡ ls
 made_of_made [] = refl
 made_of_made (l ∷ ls) = ap (λ (ms : List LogEntry). l ∷ ms) (made_of_made ls)
@@ -97,7 +97,8 @@ module _ (rules : Rules) (state : State) (log : LogModel) where
       ≡ parts_joined (λ b i. (part_of rules state log b i).made) before inputs
   made_after before [] = refl
   made_after before (input ∷ inputs) =
-      made_joined (part_events (part_of rules state log before input)) (events_after rules state log (before ++ input ∷ []) inputs)
+      made_joined (part_events (part_of rules state log before input))
+      (events_after rules state log (before ++ input ∷ []) inputs)
       ∙ ap₂ (λ (xs ys : List LogEntry). xs ++ ys) (made_of_part (part_of rules state log before input))
       (made_after (before ++ input ∷ []) inputs)
 
@@ -105,27 +106,33 @@ module _ (rules : Rules) (state : State) (log : LogModel) where
       ≡ parts_joined (λ b i. (part_of rules state log b i).ended) before inputs
   tellers_after before [] = refl
   tellers_after before (input ∷ inputs) =
-      tellers_joined (part_events (part_of rules state log before input)) (events_after rules state log (before ++ input ∷ []) inputs)
+      tellers_joined (part_events (part_of rules state log before input))
+      (events_after rules state log (before ++ input ∷ []) inputs)
       ∙ ap₂ (λ (xs ys : List LogEntry). xs ++ ys) (tellers_of_part (part_of rules state log before input))
       (tellers_after (before ++ input ∷ []) inputs)
 
+  -- what is told before the first input, and then with the inputs and at the end
   abbrev events : List Arrival → List LogEntry → List LogEvent
-  events inputs living = (map Made log.entries ++ events_after rules state log [] inputs) ++ map Living living
+  events inputs living = (map Made log.entries ++ []) ++ (events_after rules state log [] inputs ++ map Living living)
 
   made_of_run : (inputs : List Arrival) (living : List LogEntry) → made_in (events inputs living)
       ≡ log.entries ++ all_parts (λ part. part.made) rules state log inputs
-  made_of_run inputs living = made_joined (map Made log.entries ++ events_after rules state log [] inputs) (map Living living)
-      ∙ (ap₂ (λ (xs ys : List LogEntry). xs ++ ys)
-      (made_joined (map Made log.entries) (events_after rules state log [] inputs)
-      ∙ ap₂ (λ (xs ys : List LogEntry). xs ++ ys) (made_of_made log.entries) (made_after [] inputs)) (made_of_living living)
-      ∙ append-nil (log.entries ++ all_parts (λ part. part.made) rules state log inputs))
+  made_of_run inputs living =
+      made_joined (map Made log.entries ++ []) (events_after rules state log [] inputs ++ map Living living)
+      ∙ ap₂ (λ (xs ys : List LogEntry). xs ++ ys)
+      (ap made_in (append-nil (map Made log.entries)) ∙ made_of_made log.entries)
+      (made_joined (events_after rules state log [] inputs) (map Living living)
+      ∙ (ap₂ (λ (xs ys : List LogEntry). xs ++ ys) (made_after [] inputs) (made_of_living living)
+      ∙ append-nil (all_parts (λ part. part.made) rules state log inputs)))
 
   tellers_of_run : (inputs : List Arrival) (living : List LogEntry) → tellers (events inputs living)
       ≡ all_parts (λ part. part.ended) rules state log inputs ++ living
-  tellers_of_run inputs living = tellers_joined (map Made log.entries ++ events_after rules state log [] inputs) (map Living living)
+  tellers_of_run inputs living =
+      tellers_joined (map Made log.entries ++ []) (events_after rules state log [] inputs ++ map Living living)
       ∙ ap₂ (λ (xs ys : List LogEntry). xs ++ ys)
-      (tellers_joined (map Made log.entries) (events_after rules state log [] inputs)
-      ∙ ap₂ (λ (xs ys : List LogEntry). xs ++ ys) (tellers_of_made log.entries) (tellers_after [] inputs)) (tellers_of_living living)
+      (ap tellers (append-nil (map Made log.entries)) ∙ tellers_of_made log.entries)
+      (tellers_joined (events_after rules state log [] inputs) (map Living living)
+      ∙ ap₂ (λ (xs ys : List LogEntry). xs ++ ys) (tellers_after [] inputs) (tellers_of_living living))
 
 -- AN END AMONG ENTRIES WHOSE NUMBERS DIFFER
 
@@ -135,7 +142,8 @@ other_number l number later apart =
 
 none_told : (number : ℕ) (ls : List LogEntry) → Each (λ m. number ≢ m.number) ls → end_by ls number ≡ None
 none_told number [] h = refl
-none_told number (l ∷ ls) h = other_number l number (end_by ls number) (λ same. h.0 (sym same)) ∙ none_told number ls h.1
+none_told number (l ∷ ls) h = other_number l number (end_by ls number) (λ same. h.0 (sym same)) ∙
+    none_told number ls h.1
 
 or_nothing : (a : Option ℕ) → option_or a None ≡ a
 or_nothing None = refl
@@ -169,7 +177,7 @@ with_own_ends end [] h = refl
 with_own_ends end (l ∷ ls) h =
     ap₂ (λ (x : Option ℕ) (ms : List LogEntry). bare_entry x l ∷ ms) h.0 (with_own_ends end ls h.1)
 
--- the redirects never end
+-- The redirects never end.
 begun_open : (rules : Rules) (number : ℕ) (redirects : List Redirect) → Each (λ n. is_open 0 n ≡ true)
     (numbered_from number (map (first_entry rules.timers 0) (map (with_live_flows rules.timers 0)
     (filter (is_live rules.timers 0) (map (redirect_binding (pair_of rules)) redirects)))))
@@ -182,18 +190,20 @@ rows_tell parts rules invariant inputs =
     let log : LogModel = (log_anew rules).log in
     let living : List LogEntry = living_at (last_clock state.clock inputs) (log_on rules state log inputs) in
     let ls : List LogEntry = (log_of rules inputs).entries in
-    let es : List LogEvent = log_events rules inputs in
+    let es : List LogEvent = whole_events rules inputs in
     let told : ArePartsOfLog rules state log inputs = parts rules invariant state log (begun_numbered rules state 0)
     (begun_open rules (0 + 1) rules.redirects) inputs in
     let tells : List LogEntry = all_parts (λ part. part.ended) rules state log inputs ++ living in
     let differ : Differ tells = differ_moved ls tells (IsPermutation-sym tells ls told.entries)
     (rises_differ 1 ls (log_rises rules inputs)) in
-    let ends : Each (λ l. row_end_among es l.number ≡ l.entry.end) ls = has_each (λ l. row_end_among es l.number ≡ l.entry.end) ls (λ l has.
+    let ends : Each (λ l. row_end_among es l.number ≡ l.entry.end) ls =
+    has_each (λ l. row_end_among es l.number ≡ l.entry.end) ls (λ l has.
     end_of_tellers es l.number
     ∙ (ap (λ (ms : List LogEntry). end_by ms l.number) (tellers_of_run rules state log inputs living)
     ∙ end_of tells differ l (has_back tells ls told.entries l has))) in
     by_origin (row_end_among es) (made_in es)
-    ∙ (ap (λ (ms : List LogEntry). map (bare_of (row_end_among es)) (map origin ms)) (made_of_run rules state log inputs living)
+    ∙ (ap (λ (ms : List LogEntry). map (bare_of (row_end_among es)) (map origin ms))
+    (made_of_run rules state log inputs living)
     ∙ (ap (map (bare_of (row_end_among es))) told.made
     ∙ (sym (by_origin (row_end_among es) ls) ∙ with_own_ends (row_end_among es) ls ends)))
 
@@ -215,7 +225,8 @@ asked_of (other ∷ asked) one (inl same) e is =
     subst (λ (x : HolderRequest). is_meant x.request.party e.binding.external ≡ true) (sym same) (both_second _ _ is) in
     ap (λ (b : Bool). b || is_asked_about asked e.binding.external) meant
 asked_of (other ∷ asked) one (inr has) e is =
-    or_true (is_meant other.request.party e.binding.external) (is_asked_about asked e.binding.external) (asked_of asked one has e is)
+    or_true (is_meant other.request.party e.binding.external) (is_asked_about asked e.binding.external)
+    (asked_of asked one has e is)
 
 outside : (h a : Bool) → (h ≡ true → a ≡ true) → a ≡ false → h ≡ false
 outside true a within none = sym (within refl) ∙ none
@@ -226,12 +237,16 @@ both_first true b h = refl
 both_first false b h = h
 
 module _ (h a : Entry → Bool) (within : (e : Entry) → h e ≡ true → a e ≡ true) where
-  among : (ls : List LogEntry) → filter h (map (λ l. l.entry) (filter (λ l. a l.entry) ls)) ≡ filter h (map (λ l. l.entry) ls)
+  among : (ls : List LogEntry) → filter h (map (λ l. l.entry) (filter (λ l. a l.entry) ls)) ≡
+      filter h (map (λ l. l.entry) ls)
   among [] = refl
-  among (l ∷ ls) = elim (a l.entry) as (λ b. a l.entry ≡ b → filter h (map (λ m. m.entry) (cond b (l ∷ filter (λ m. a m.entry) ls)
-      (filter (λ m. a m.entry) ls))) ≡ cond (h l.entry) (l.entry ∷ filter h (map (λ m. m.entry) ls)) (filter h (map (λ m. m.entry) ls))) [
+  among (l ∷ ls) = elim (a l.entry) as (λ b. a l.entry ≡ b →
+      filter h (map (λ m. m.entry) (cond b (l ∷ filter (λ m. a m.entry) ls)
+      (filter (λ m. a m.entry) ls))) ≡ cond (h l.entry) (l.entry ∷ filter h (map (λ m. m.entry) ls))
+      (filter h (map (λ m. m.entry) ls))) [
         | true ↦ λ is. ap (λ (xs : List Entry). cond (h l.entry) (l.entry ∷ xs) xs) (among ls)
-        | false ↦ λ is. among ls ∙ sym (ap (λ (b : Bool). cond b (l.entry ∷ filter h (map (λ m. m.entry) ls)) (filter h (map (λ m. m.entry) ls)))
+        | false ↦ λ is. among ls ∙ sym (ap (λ (b : Bool). cond b (l.entry ∷ filter h (map (λ m. m.entry) ls))
+            (filter h (map (λ m. m.entry) ls)))
             (outside (h l.entry) (a l.entry) (within l.entry) is))
       ] refl
 
@@ -259,7 +274,7 @@ holders_bare request (e ∷ es) =
 
 pub rows_name : RowsTellTheLog → RowsNameTheHolders
 rows_name tell rules invariant inputs asked one has =
-    let es : List LogEntry = entries_in (log_events rules inputs) in
+    let es : List LogEntry = entries_in (whole_events rules inputs) in
     let log : List LogEntry = (log_of rules inputs).entries in
     among (is_holder one.request) (λ e. is_asked_about asked e.binding.external)
     (λ e is. asked_of asked one has e (both_first _ _ is)) es

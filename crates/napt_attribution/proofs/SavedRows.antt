@@ -39,10 +39,11 @@ end_more (Refused s ∷ es) e number = end_more es e number
 abbrev with_ends : (ℕ → Option ℕ) → List LogEntry → List LogEntry
 with_ends end ms = map (λ m. bare_entry (end m.number) m) ms
 
--- a row that tells no end
+-- A row that reports no end.
 same_ends : (es : List LogEvent) (e : LogEvent) → ((number : ℕ) → row_end_among (e ∷ []) number ≡ None) →
     row_end_among (es ++ e ∷ []) ≡ row_end_among es
-same_ends es e none = λ i number. (end_more es e number ∙ (ap (option_or (row_end_among es number)) (none number) ∙ or_none (row_end_among es number))) i
+same_ends es e none = λ i number. (end_more es e number ∙
+    (ap (option_or (row_end_among es number)) (none number) ∙ or_none (row_end_among es number))) i
 
 pub entries_made : (es : List LogEvent) (l : LogEntry) → row_end_among es l.number ≡ None →
     entries_in (es ++ Made l ∷ []) ≡ entries_in es ++ bare_entry None l ∷ []
@@ -59,17 +60,19 @@ one_ended : (b : Bool) (was end : Option ℕ) (m : LogEntry) → (b ≡ true →
     bare_entry (option_or was (cond b (option_or end None) None)) m
     ≡ cond b (record (bare_entry was m) { entry = record (bare_entry was m).entry { end = end } }) (bare_entry was m)
 one_ended true was end m none =
-    ap (λ (x : Option ℕ). bare_entry x m) (ap (λ (x : Option ℕ). option_or x (option_or end None)) (none refl) ∙ or_none end)
+    ap (λ (x : Option ℕ). bare_entry x m) (ap (λ (x : Option ℕ). option_or x (option_or end None)) (none refl) ∙
+    or_none end)
 one_ended false was end m none = ap (λ (x : Option ℕ). bare_entry x m) (or_none was)
 
-mapped : (f g h : LogEntry → LogEntry) → ((m : LogEntry) → f m ≡ g (h m)) → (ms : List LogEntry) → map f ms ≡ map g (map h ms)
+mapped : (f g h : LogEntry → LogEntry) → ((m : LogEntry) → f m ≡ g (h m)) → (ms : List LogEntry) → map f ms ≡
+    map g (map h ms)
 mapped f g h same [] = refl
 mapped f g h same (m ∷ ms) = ap₂ (λ (x : LogEntry) (xs : List LogEntry). x ∷ xs) (same m) (mapped f g h same ms)
 
 number_same : (n q : ℕ) → (n == q) ≡ true → n ≡ q
 number_same n q h = grind (arith, nat_tests)
 
--- a row that tells this end of this number
+-- A row that reports this end of the entry of this number.
 pub entries_ended : (es : List LogEvent) (e : LogEvent) (l : LogEntry) → made_in (e ∷ []) ≡ [] →
     ((number : ℕ) → row_end_among (e ∷ []) number ≡ end_told l number None) → row_end_among es l.number ≡ None →
     entries_in (es ++ e ∷ []) ≡ map (entry_with_end l.number l.entry.end) (entries_in es)
@@ -100,7 +103,8 @@ no_end end (m ∷ ms) n binding h =
 pub open_no_end : (es : List LogEvent) (l : LogEntry) → HasOpen (entries_in es) l → row_end_among es l.number ≡ None
 open_no_end es l h = no_end (row_end_among es) (made_in es) l.number l.entry.binding h
 
-pub open_made : (made : ℕ) (ls : List LogEntry) (l : LogEntry) → Each (λ m. m.number ≤ made) ls → HasOpen ls l → l.number ≤ made
+pub open_made : (made : ℕ) (ls : List LogEntry) (l : LogEntry) → Each (λ m. m.number ≤ made) ls → HasOpen ls l →
+    l.number ≤ made
 open_made made [] l each h = absurd h
 open_made made (m ∷ ls) l each h =
     elim (m.number == l.number) as (λ b. (m.number == l.number) ≡ b → HasBinding l.entry.binding (passing has_no_end
@@ -123,17 +127,22 @@ each_ended made ended end (l ∷ ls) h = (
 each_pushed : (made number : ℕ) (ls : List LogEntry) (l : LogEntry) → Each (λ m. m.number ≤ made) ls → made < number →
     l.number ≡ number → Each (λ m. m.number ≤ number) (ls ++ l ∷ [])
 each_pushed made number [] l h less is = (omega (arith, is), tt)
-each_pushed made number (m ∷ ls) l h less is = (let first = h.0 in omega (arith, first, less), each_pushed made number ls l h.1 less is)
+each_pushed made number (m ∷ ls) l h less is =
+    (let first = h.0 in omega (arith, first, less), each_pushed made number ls l h.1 less is)
 
 each_below : (made number : ℕ) (ls : List LogEntry) → Each (λ m. m.number ≤ made) ls → made < number →
     Each (λ m. m.number < number) ls
 each_below made number [] h less = tt
-each_below made number (m ∷ ls) h less = (let first = h.0 in omega (arith, first, less), each_below made number ls h.1 less)
+each_below made number (m ∷ ls) h less = (
+  let first = h.0 in omega (arith, first, less),
+  each_below made number ls h.1 less,
+)
 
 each_before : (made number : ℕ) (ls : List LogEntry) → Each (λ m. m.number ≤ made) ls → made < number →
     Each (λ m. m.number + 1 ≤ number) ls
 each_before made number [] h less = tt
-each_before made number (m ∷ ls) h less = (let first = h.0 in omega (arith, first, less), each_before made number ls h.1 less)
+each_before made number (m ∷ ls) h less =
+    (let first = h.0 in omega (arith, first, less), each_before made number ls h.1 less)
 
 pub rises_more : (made : ℕ) (ls : List LogEntry) (l : LogEntry) → Rises 1 ls → Each (λ m. m.number ≤ made) ls →
     made < l.number → Rises 1 (ls ++ l ∷ [])
@@ -213,7 +222,8 @@ module _ (row : LogRow) (P : LogEvent → Type 0) where
   only_made is h (Made l) same = h l same
   only_made is h (Ended l) same = let other = ap (λ (r : LogRow). r.event) same in absurd (cc (is, other))
   only_made is h (Living l) same = let other = ap (λ (r : LogRow). r.event) same in absurd (cc (is, other))
-  only_made is h (Refused s) same = let e : shortage_number s.cause ≡ 8 = number_of (sym (ap (λ (r : LogRow). r.event) same) ∙ is) in
+  only_made is h (Refused s) same = let e : shortage_number s.cause ≡ 8 =
+      number_of (sym (ap (λ (r : LogRow). r.event) same) ∙ is) in
       let least = shortage_at_least s in absurd (omega (arith, e, least))
 
   pub only_ended : row.event ≡ Number 9 → ((l : LogEntry) → row ≡ saved_row (Ended l) → P (Ended l)) → (e : LogEvent) →
@@ -221,7 +231,8 @@ module _ (row : LogRow) (P : LogEvent → Type 0) where
   only_ended is h (Made l) same = let other = ap (λ (r : LogRow). r.event) same in absurd (cc (is, other))
   only_ended is h (Ended l) same = h l same
   only_ended is h (Living l) same = let other = ap (λ (r : LogRow). r.event) same in absurd (cc (is, other))
-  only_ended is h (Refused s) same = let e : shortage_number s.cause ≡ 9 = number_of (sym (ap (λ (r : LogRow). r.event) same) ∙ is) in
+  only_ended is h (Refused s) same = let e : shortage_number s.cause ≡ 9 =
+      number_of (sym (ap (λ (r : LogRow). r.event) same) ∙ is) in
       let least = shortage_at_least s in absurd (omega (arith, e, least))
 
   pub only_living : row.event ≡ Empty → ((l : LogEntry) → row ≡ saved_row (Living l) → P (Living l)) → (e : LogEvent) →
@@ -252,7 +263,8 @@ time_none (Some n) h = cc
 
 pub no_end_told : (l : LogEntry) → l.entry.end ≡ None → (number : ℕ) → end_told l number None ≡ None
 no_end_told l none number = ap (λ (x : Option ℕ). cond (l.number == number) (option_or x None) None) none
-    ∙ elim (l.number == number) as (λ b. (let none : Option ℕ = None in cond b none none ≡ none)) [ true ↦ refl | false ↦ refl ]
+    ∙ elim (l.number == number) as (λ b. (let none : Option ℕ = None in cond b none none ≡ none))
+    [ true ↦ refl | false ↦ refl ]
 
 pub is_open : (ls : List LogEntry) (l : LogEntry) (n : ℕ) (e : Entry) → n ≡ l.number →
     passing has_no_end (entry_of ls n) ≡ Some e → e.binding ≡ l.entry.binding → HasOpen ls l

@@ -1,3 +1,3 @@
-pub mod Asked
+pub mod RequestParties
 pub mod LogLaws
 pub mod SavedLogs

@@ -3,7 +3,7 @@ use Rattle.std.specs.{Prelude.{◌≡◌, ℕ, ◌==◌, ◌<◌, ◌≤◌, Boo
 use Rattle.napt_rules.specs.{Prelude.Each, declared.Row.Row}
 use Rattle.napt_account.specs.{declared.log.{Entry.Entry, LogEntry.LogEntry}, Log.unused_entry, LogParts.Rises}
 use Rattle.napt_log_text.specs.declared.event.LogEvent.{LogEvent, TheVariants.{Made, Ended, Living, Refused}}
-use Rattle.napt_attribution.specs.{Asked.{Wants, is_asked_about}, declared.{requests.HolderRequest.HolderRequest, kept_entries.KeptEntries.KeptEntries, saved_rows.SavedRows.SavedRows}}
+use Rattle.napt_attribution.specs.{RequestParties.{Wants, is_asked_about}, declared.{requests.HolderRequest.HolderRequest, kept_entries.KeptEntries.KeptEntries, saved_rows.SavedRows.SavedRows}}
 
 -- The entries of the bindings that rows make, in their order.
 abbrev pub made_in : List LogEvent → List LogEntry
@@ -57,7 +57,8 @@ pub record Keeps (asked : List HolderRequest) (kept : KeptEntries) (entries : Li
   pub wanted : Wants asked kept.wanted
   pub rising : Rises 1 entries
   pub unended : (number : ℕ) → get nat_cmp kept.unended number ≡ passing has_no_end (entry_of entries number)
-  pub ended : (number : ℕ) → get nat_cmp kept.ended number ≡ passing (is_ended_and_asked asked) (entry_of entries number)
+  pub ended : (number : ℕ) → get nat_cmp kept.ended number ≡
+      passing (is_ended_and_asked asked) (entry_of entries number)
 
 -- The entry of this number gets an end.
 abbrev pub entry_with_end : ℕ → Option ℕ → LogEntry → LogEntry
@@ -75,8 +76,8 @@ pub record Tells (asked : List HolderRequest) (rows : SavedRows) (events : List 
   pub keeps : KeepsAll asked rows (entries_in events)
   pub ends : (number : ℕ) → rows.made < number → row_end_among events number ≡ None
 
--- WHICH ROWS MAY FOLLOW: a new binding has a greater number than those before it, and a binding that ends, or is live at the
--- end of the log, was made before and has not ended.
+-- WHICH ROWS MAY FOLLOW: a new binding has a greater number than those before it, and a binding that ends, or is live
+-- at the end of the log, was made before and has not ended.
 
 abbrev pub HasBinding : Row → Option Entry → Type 0
 HasBinding binding None = ⊥

@@ -43,7 +43,7 @@ pub enum Basis {
 impl AnswerBasis<'_> {
     /// Returns when the run begins, or when the log begins and ends, if that is after the time that a request asks
     /// about, or if the log ends before it.
-    fn beside(self, request: &Request) -> Option<OutsideTime> {
+    fn uncovered_time(self, request: &Request) -> Option<OutsideTime> {
         let span = request.at?;
         let (what, first, last) = match self.basis {
             Basis::Blocks => return None,
@@ -80,7 +80,7 @@ pub fn answer_by_blocks<R: Print + AllocGlobal>(
         config: Some(config),
         basis: Basis::Blocks,
     };
-    tell_answers(rt, asked, known)
+    print_answers(rt, asked, known)
 }
 
 /// Answers requests from the log whose pieces have these paths, under a configuration if it is known. Prints why a
@@ -107,12 +107,12 @@ pub fn answer_by_log<R: Files + Input + Print + Eprint + AllocGlobal>(
         config,
         basis: Basis::Log(first),
     };
-    tell_answers(rt, asked, known)
+    print_answers(rt, asked, known)
 }
 
 /// Prints for each request the hosts whose blocks contain it and a line for each binding that had the endpoint, in the
 /// order in which they were made, or that nobody had it. Fails with `Nobody` if a request has no answer.
-pub fn tell_answers<R: Print + AllocGlobal>(
+pub fn print_answers<R: Print + AllocGlobal>(
     rt: &R,
     asked: &[HolderRequest],
     known: AnswerBasis<'_>,
@@ -130,7 +130,7 @@ pub fn tell_answers<R: Print + AllocGlobal>(
             _ => known.entries,
         };
         let known = AnswerBasis { entries, ..known };
-        is_answered &= tell_answer(rt, &one, known, &mut page)?;
+        is_answered &= print_answer(rt, &one, known, &mut page)?;
     }
     page.end(rt)?;
     if is_answered {
@@ -141,14 +141,14 @@ pub fn tell_answers<R: Print + AllocGlobal>(
 }
 
 /// Prints the lines of a request, and returns whether somebody had the endpoint.
-fn tell_answer<R: Print + AllocGlobal>(
+fn print_answer<R: Print + AllocGlobal>(
     rt: &R,
     asked: &HolderRequest,
     known: AnswerBasis<'_>,
     page: &mut Page,
 ) -> Result<bool, Exit> {
     let is_owned = add_owners(asked, known, page)?;
-    page.turn(rt)?;
+    page.write_if_full(rt)?;
     if known.basis == Basis::Blocks {
         return Ok(is_owned);
     }
@@ -156,25 +156,29 @@ fn tell_answer<R: Print + AllocGlobal>(
     for entry in &holders {
         mark(asked, &mut page.text)?;
         add_holder(entry, known.last, &mut page.text)?;
-        page.turn(rt)?;
+        page.write_if_full(rt)?;
     }
     if !holders.is_empty() {
         return Ok(true);
     }
     mark(asked, &mut page.text)?;
     let (request, text) = (&asked.request, &mut page.text);
-    if let Some(beside) = known.beside(request) {
-        add_beside(request, beside, text)?;
+    if let Some(beside) = known.uncovered_time(request) {
+        add_uncovered_time(request, beside, text)?;
     } else {
         let nearest = request.nearest_among(known.entries);
         add_nobody(request, &nearest, known.config, known.last, text)?;
     }
-    page.turn(rt)?;
+    page.write_if_full(rt)?;
     Ok(is_owned)
 }
 
 /// Ends the line that says that nobody is known at the time of a request.
-fn add_beside(request: &Request, beside: OutsideTime, text: &mut String) -> Result<(), AllocError> {
+fn add_uncovered_time(
+    request: &Request,
+    beside: OutsideTime,
+    text: &mut String,
+) -> Result<(), AllocError> {
     let OutsideTime { what, first, last } = beside;
     text.push_str("nobody is known at ")?;
     if let Some(protocol) = request.protocol {

@@ -18,14 +18,14 @@ pub const MOST_BLOCKS: u32 = 1008;
 const HEADER: &str = "host,address,first,last\n";
 
 /// Prints the table of all blocks, by the index of the host, or that the configuration has no blocks.
-pub fn tell_blocks<R: Print + Eprint + AllocGlobal>(
+pub fn print_blocks<R: Print + Eprint + AllocGlobal>(
     rt: &R,
     streams: StandardStreams,
     config: &Config,
 ) -> Result<(), Exit> {
     let Some(size) = config.block() else {
         let _ = eprintln!(rt; "explain: the configuration has no `block`");
-        return Err(Exit::Told(Stop::Usage));
+        return Err(Exit::Printed(Stop::Usage));
     };
     if !streams.output {
         return Err(Exit::NoOutput);
@@ -38,7 +38,7 @@ pub fn tell_blocks<R: Print + Eprint + AllocGlobal>(
                 return page.end(rt);
             };
             add_block(&mut page.text, config, host)?;
-            page.turn(rt)?;
+            page.write_if_full(rt)?;
         }
     }
     page.end(rt)
@@ -70,7 +70,7 @@ pub fn host_of_block(config: &Config, size: u16, address: u32, nth: u32) -> Opti
 }
 
 /// Prints that no log is needed to find who had an external endpoint, if each host has a block.
-pub fn tell_needless<R: Eprint>(rt: &R, config: &Config) {
+pub fn print_needless<R: Eprint>(rt: &R, config: &Config) {
     if config.block().is_some() {
         let _ = eprintln!(rt;
             "explain: each host has a block of its own, so no log is needed to find who had an endpoint (explain who, explain blocks)"

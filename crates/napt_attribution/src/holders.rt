@@ -1,6 +1,6 @@
 //! The holders of the external endpoints that requests name, collected during a run.
 
-use crate::answers::{AnswerBasis, Basis, tell_answers};
+use crate::answers::{AnswerBasis, Basis, print_answers};
 use crate::requests::HolderRequest;
 use crate::wanted_endpoints::WantedEndpoints;
 use napt_account::{LogEntry, in_order_of_making};
@@ -62,6 +62,6 @@ impl<R: Print + AllocGlobal> CommandOutput<R> for Holders<'_> {
             config: Some(ending.config),
             basis: Basis::Run(ending.first),
         };
-        tell_answers(rt, holders.asked, known)
+        print_answers(rt, holders.asked, known)
     }
 }

@@ -22,7 +22,7 @@ mod spans;
 mod wanted_endpoints;
 
 pub use crate::answers::{answer_by_blocks, answer_by_log};
-pub use crate::blocks::tell_blocks;
+pub use crate::blocks::print_blocks;
 pub use crate::holders::Holders;
 pub use crate::laws::saved_logs_name_the_holders;
 pub use crate::log_file::LogOpening;

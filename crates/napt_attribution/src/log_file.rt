@@ -18,7 +18,8 @@ pub struct LogFile<'a, W> {
     pub rows: RowFile<'a, W>,
 }
 
-/// How a log begins: with the log as it was saved, the entries that end where the run begins, and those that begin there.
+/// How a log begins: with the log as it was saved, the entries that end where the run begins, and those that begin
+/// there.
 #[derive(Clone, Copy)]
 pub struct LogOpening<'a> {
     pub before: &'a OpenLog,
@@ -38,7 +39,7 @@ pub fn begin_log<'a, R: Files + Print + Eprint + AllocGlobal>(
     let mut rows = create_rows(rt, "--to", path, is_held)?;
     add_opening(config, opening.before, &mut rows.text)?;
     add_first(config, opening.ended, opening.made, &mut rows.text)?;
-    rows.turn(rt)?;
+    rows.write_if_full(rt)?;
     Ok(LogFile { rows })
 }
 
@@ -51,7 +52,7 @@ impl<'a, W: Write + Drop> LogFile<'a, W> {
         passing: RunPacket<'_>,
     ) -> Result<(), Exit> {
         add_part(config, &passing.step.part, &mut self.rows.text)?;
-        self.rows.turn(rt)
+        self.rows.write_if_full(rt)
     }
 
     /// Writes the rows of the bindings that are live at the end, and everything that has not been written yet.
@@ -63,7 +64,7 @@ impl<'a, W: Write + Drop> LogFile<'a, W> {
     ) -> Result<(), Exit> {
         for part in living.chunks(LIVING) {
             add_living(config, part, &mut self.rows.text)?;
-            self.rows.turn(rt)?;
+            self.rows.write_if_full(rt)?;
         }
         self.rows.finish(rt)
     }

@@ -13,7 +13,7 @@ pub struct LogTimes {
     /// The time at which the first binding other than a redirect was made.
     first: u64,
     /// The time of the first event other than the making of a binding.
-    behind_opening: Option<u64>,
+    after_opening: Option<u64>,
     /// The time of the last event.
     last: u64,
     /// Whether bindings are missing that ended before the log began, as in a new file of a log that goes on.
@@ -27,17 +27,17 @@ impl LogTimes {
     pub fn new() -> LogTimes {
         LogTimes {
             first: u64::MAX,
-            behind_opening: None,
+            after_opening: None,
             last: 0,
             lacks: false,
             may_lack: true,
         }
     }
 
-    /// Returns the time from which on the log has every binding, and that of its last event. If bindings are missing, it has
-    /// every binding only from the first event other than a making on.
+    /// Returns the time from which on the log has every binding, and that of its last event. If bindings are missing,
+    /// it has every binding only from the first event other than a making on.
     pub fn covered(&self) -> (u64, u64) {
-        let first = match self.behind_opening {
+        let first = match self.after_opening {
             _ if !self.lacks => self.first.min(self.last),
             Some(at) => at,
             None => self.last,
@@ -61,12 +61,12 @@ impl LogTimes {
         ensures { IfOk result (λ at. time ≡ LogField.Number at) }
     {
         let at = self.next(time)?;
-        self.behind_opening = self.behind_opening.or(Some(at));
+        self.after_opening = self.after_opening.or(Some(at));
         Ok(at)
     }
 
     /// Returns the number of a new binding: the next one or, where bindings may be missing, a later one.
-    pub fn number_behind(&mut self, made: u64, number: LogField) -> Result<u64, RowFault>
+    pub fn number_after(&mut self, made: u64, number: LogField) -> Result<u64, RowFault>
         ensures { IfOk result (λ given. (number ≡ LogField.Number given) × (made < given)) }
     {
         let next = made.saturating_add(1);
@@ -78,7 +78,7 @@ impl LogTimes {
             return Err(RowFault::Number { next, given });
         }
         self.lacks |= given > next;
-        self.may_lack &= self.behind_opening.is_none();
+        self.may_lack &= self.after_opening.is_none();
         Ok(given)
     }
 

@@ -38,7 +38,7 @@ impl<'a, W: Write + Drop> PacketFile<'a, W> {
         passing: RunPacket<'_>,
     ) -> Result<(), Exit> {
         add_packet_row(passing, &mut self.rows.text)?;
-        self.rows.turn(rt)
+        self.rows.write_if_full(rt)
     }
 }
 

@@ -61,7 +61,7 @@ pub fn requests_at<R: Files + Input + Eprint + AllocGlobal>(
         Ok(lines) => lines,
         Err(error) => {
             let line = line_at(&text, error.valid_up_to());
-            return Err(tell_wrong(rt, path, line, WANTED));
+            return Err(print_wrong(rt, path, line, WANTED));
         }
     };
     let mut asked = Vec::new(rt.alloc());
@@ -76,16 +76,16 @@ pub fn requests_at<R: Files + Input + Eprint + AllocGlobal>(
                 line: Some(number),
                 request,
             })?,
-            Err(no_time) => return Err(tell_wrong(rt, path, number, no_time.words(WANTED))),
+            Err(no_time) => return Err(print_wrong(rt, path, number, no_time.words(WANTED))),
         }
     }
     Ok(asked)
 }
 
 /// Prints which line of a file is not a request, and why, and returns how the program stops.
-fn tell_wrong<R: Eprint>(rt: &R, path: &str, line: u64, why: &str) -> Exit {
+fn print_wrong<R: Eprint>(rt: &R, path: &str, line: u64, why: &str) -> Exit {
     let _ = eprintln!(rt; "explain: --requests {path}: line {line}: {why}");
-    Exit::Told(Stop::Usage)
+    Exit::Printed(Stop::Usage)
 }
 
 /// Returns the number of the line, from 1, that contains the byte at this index of a text.

@@ -55,7 +55,7 @@ pub fn create_rows<'a, R: Files + Eprint + AllocGlobal>(
 
 impl<'a, W: Write + Drop> RowFile<'a, W> {
     /// Writes the rows if they have at least `BUFFERED` bytes.
-    pub fn turn<R: Files + Print + Eprint>(&mut self, rt: &R) -> Result<(), Exit> {
+    pub fn write_if_full<R: Files + Print + Eprint>(&mut self, rt: &R) -> Result<(), Exit> {
         if self.text.len() < BUFFERED {
             return Ok(());
         }

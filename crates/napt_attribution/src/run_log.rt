@@ -1,6 +1,6 @@
 //! The files that `explain log` writes about a run: its log and, if they are requested, its packets and its report.
 
-use crate::blocks::tell_needless;
+use crate::blocks::print_needless;
 use crate::log_file::{LogFile, LogOpening, begin_log};
 use crate::packet_file::{PacketFile, begin_packets};
 use napt_commands::{CommandOutput, Coverage, EndedRun, Exit, Page, RunPacket, print_unwritten};
@@ -72,8 +72,8 @@ impl<'a> RunReport<'a> {
         rt: &R,
         ending: &EndedRun<'_>,
     ) -> Result<(), Exit> {
-        self.coverage.tell(rt);
-        self.coverage.tell_living(rt, &ending.living);
+        self.coverage.print(rt);
+        self.coverage.print_living(rt, &ending.living);
         let cuts = ending.cuts;
         let text = report_of(
             rt.alloc(),
@@ -129,7 +129,7 @@ impl<R: Files + Print + Eprint + AllocGlobal, W: Write + Drop> CommandOutput<R> 
         match &report {
             Some(report) => report.write(rt, ending),
             None => {
-                tell_needless(rt, ending.config);
+                print_needless(rt, ending.config);
                 Ok(())
             }
         }

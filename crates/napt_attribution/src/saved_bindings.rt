@@ -27,7 +27,7 @@ pub fn read_saved<R: Files + Input + Eprint + AllocGlobal>(
             config,
         };
         if let Err(refused) = piece.add_to(&mut rows, rt.alloc(), device) {
-            tell_refused(rt, path, previous, &refused)?;
+            print_refused(rt, path, previous, &refused)?;
         }
         previous = Some(path.as_str());
     }
@@ -35,7 +35,7 @@ pub fn read_saved<R: Files + Input + Eprint + AllocGlobal>(
 }
 
 /// Prints why a piece is refused, or its last row left out. Of the former it returns how the program stops.
-fn tell_refused<R: Eprint>(
+fn print_refused<R: Eprint>(
     rt: &R,
     path: &str,
     previous: Option<&str>,

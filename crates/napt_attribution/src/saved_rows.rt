@@ -121,8 +121,8 @@ impl SavedRows {
         Ok(None)
     }
 
-    /// Begins the entry of a binding, unless the piece repeats it. One that it replaces, of the same external endpoint, ends:
-    /// of a log that begins new entries in a new file, no row ends the ones before.
+    /// Begins the entry of a binding, unless the piece repeats it. One that it replaces, of the same external
+    /// endpoint, ends: of a log that begins new entries in a new file, no row ends the ones before.
     fn make(&mut self, row: &LogRow) -> Result<Row, RowFault>
         ensures { (asked : List Asked) (events : List Told) (listed : Listed) →
             logs.Tells asked self.old events → row.now ≡ rows.saved_row (Made listed) →
@@ -136,7 +136,7 @@ impl SavedRows {
         }
         let made = self.times.made(row.time, binding.fixed)?;
         self.close_replaced(replaced, made)?;
-        let number = self.times.number_behind(self.made, row.number)?;
+        let number = self.times.number_after(self.made, row.number)?;
         self.kept.insert(number, unused_entry(binding, made))?;
         self.made = number;
         Ok(binding)

@@ -1,7 +1,7 @@
 //! The external addresses and endpoints that requests name.
 
 ghost use Rattle.std.specs.{BTreeMap.values, Prelude.{◌≡◌, IfOk, filter}};
-ghost use Rattle.napt_attribution.specs.Asked.{Wants, is_wanted};
+ghost use Rattle.napt_attribution.specs.RequestParties.{Wants, is_wanted};
 
 use crate::requests::HolderRequest;
 use napt_account::Entry;

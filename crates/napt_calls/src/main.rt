@@ -47,7 +47,7 @@ fn main(rt: HostRuntime) -> ExitCode {
         Err(stop) => return ExitCode::from(stop.status()),
     };
     let done = match words.get(1).map(String::as_str) {
-        Some("refused") => return refused::told(&rt, words.get(2)),
+        Some("refused") => return refused::print_call(&rt, words.get(2)),
         Some("play") => play::played(&rt),
         _ => runs::measured(&rt, &words),
     };

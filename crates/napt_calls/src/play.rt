@@ -4,9 +4,9 @@
 //! separated by blanks, the first of which names the call. All numbers are decimal: bytes one by one, times in ns, an
 //! address as one number, an endpoint as its address and its number. An answer is what `{:?}` prints of it.
 //!
-//! [`packets`] reads and changes the current packet, [`table`] calls the current table, [`translators`] the current translators,
-//! over the current packet, [`captures`] reads and writes captures, [`merging`] merges two, [`settings`] reads configurations, and
-//! [`logs`] logs runs.
+//! [`packets`] reads and changes the current packet, [`table`] calls the current table, [`translators`] the current
+//! translators, over the current packet, [`captures`] reads and writes captures, [`merging`] merges two, [`settings`]
+//! reads configurations, and [`logs`] logs runs.
 
 mod captures;
 mod line;
@@ -63,16 +63,16 @@ impl Player {
             "read" => self.packet = packets::read(line)?,
             "table" => self.table = Some(table::begun(line)?),
             "translators" => self.translators = Some(translators::begun(line)?),
-            "fix_check" | "fix_check_udp" => packets::tell_check(line, call)?,
-            "read_capture" => captures::tell_read(line)?,
-            "write_capture" => captures::tell_written(line)?,
-            "merge" => merging::tell_merged(line)?,
-            "streams" => merging::tell_read(line)?,
-            "stream" => merging::tell_alone(line)?,
+            "fix_check" | "fix_check_udp" => packets::print_check(line, call)?,
+            "read_capture" => captures::print_read(line)?,
+            "write_capture" => captures::print_written(line)?,
+            "merge" => merging::print_merged(line)?,
+            "streams" => merging::print_read(line)?,
+            "stream" => merging::print_alone(line)?,
             "translate" | "route" | "onward" | "rows" => self.translated(line, call)?,
             "settings" | "built_in" | "copy" => self.configure(line, call)?,
             "input" => logs::take_input(line, &mut self.inputs)?,
-            "logged" => logs::tell_log(line, self.config.as_ref(), &self.inputs)?,
+            "logged" => logs::print_log(line, self.config.as_ref(), &self.inputs)?,
             "bytes"
             | "local_end"
             | "remote_end"
@@ -113,12 +113,12 @@ impl Player {
     ) -> Result<(), CallFault> {
         let translators = self.translators.as_mut().ok_or(CallFault::Usage)?;
         if call == "rows" {
-            return translators.tell_rows(line);
+            return translators.print_rows(line);
         }
         let packet = self.packet.take().ok_or(CallFault::Usage)?;
         match call {
-            "route" => translators.tell_route(line, &packet)?,
-            "onward" => translators.tell_onward(line, &packet)?,
+            "route" => translators.print_route(line, &packet)?,
+            "onward" => translators.print_onward(line, &packet)?,
             _ => {
                 self.packet = translators.translate(line, packet)?;
                 return Ok(());

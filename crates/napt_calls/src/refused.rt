@@ -49,7 +49,7 @@ pub(crate) enum CallResult {
 
 impl CallResult {
     /// Returns the line and the status.
-    fn told(self) -> (&'static str, u8) {
+    fn line_and_status(self) -> (&'static str, u8) {
         match self {
             CallResult::Memory => ("memory", 5),
             CallResult::NoThread => ("no-thread", 5),
@@ -68,10 +68,10 @@ impl From<AllocError> for CallResult {
 }
 
 /// Makes the call that the word names, prints the line, and returns the status.
-pub(crate) fn told<R: System + Print>(rt: &R, call: Option<&String>) -> ExitCode {
+pub(crate) fn print_call<R: System + Print>(rt: &R, call: Option<&String>) -> ExitCode {
     let (line, status) = match ended(rt, call) {
         Ok(()) => ("done", 0),
-        Err(end) => end.told(),
+        Err(end) => end.line_and_status(),
     };
     match println!(rt; "{line}") {
         Ok(()) => ExitCode::from(status),

@@ -24,7 +24,7 @@ const BUFFERED: usize = 65_536;
 
 /// What to do with the capture.
 #[derive(Clone, Copy)]
-enum How {
+enum Measurement {
     Copy,
     Plain,
     Workers,
@@ -55,31 +55,31 @@ impl<R: Clock> Gate for SlowStart<R> {
 pub(crate) fn measured<
     R: Files + Input + Print + AllocGlobal + Clock + Threads + Wait + Copy + Send + Sync + 'static,
 >(rt: &R, words: &[String]) -> Result<(), CallFault> {
-    let how = how_of(words.get(1))?;
-    if let How::Copy = how {
+    let how = measurement_of(words.get(1))?;
+    if let Measurement::Copy = how {
         return copied(rt);
     }
     let config = configuration(rt, words.get(2))?;
     let inputs = merged(rt)?;
     let run = match how {
-        How::Plain => run_plain(rt.alloc(), &config, &inputs).map_err(|_| CallFault::Call)?,
-        How::Workers => over_workers(rt, &config, &inputs, OpenGate)?,
-        How::Slow => over_workers(rt, &config, &inputs, SlowStart { rt: *rt })?,
-        How::Copy | How::Merged => {
+        Measurement::Plain => run_plain(rt.alloc(), &config, &inputs).map_err(|_| CallFault::Call)?,
+        Measurement::Workers => over_workers(rt, &config, &inputs, OpenGate)?,
+        Measurement::Slow => over_workers(rt, &config, &inputs, SlowStart { rt: *rt })?,
+        Measurement::Copy | Measurement::Merged => {
             return println!(rt; "packets {}", inputs.len()).map_err(|_| CallFault::File);
         }
     };
-    tell(rt, &run).map_err(|_| CallFault::File)
+    print_counts(rt, &run).map_err(|_| CallFault::File)
 }
 
 /// Returns what a word names.
-fn how_of(word: Option<&String>) -> Result<How, CallFault> {
+fn measurement_of(word: Option<&String>) -> Result<Measurement, CallFault> {
     match word.ok_or(CallFault::Usage)?.as_str() {
-        "copy" => Ok(How::Copy),
-        "plain" => Ok(How::Plain),
-        "workers" => Ok(How::Workers),
-        "slow" => Ok(How::Slow),
-        "merged" => Ok(How::Merged),
+        "copy" => Ok(Measurement::Copy),
+        "plain" => Ok(Measurement::Plain),
+        "workers" => Ok(Measurement::Workers),
+        "slow" => Ok(Measurement::Slow),
+        "merged" => Ok(Measurement::Merged),
         _ => Err(CallFault::Usage),
     }
 }
@@ -129,7 +129,7 @@ fn over_workers<
 }
 
 /// Prints the line of counts.
-fn tell<R: Print>(rt: &R, run: &Run) -> io::Result<()> {
+fn print_counts<R: Print>(rt: &R, run: &Run) -> io::Result<()> {
     macro_rules! count {
         ($end:ident) => {
             run.outcomes.iter().filter(|it| matches!(it, Outcome::$end(_))).count()

@@ -6,7 +6,7 @@ use Rattle.napt_account.specs.LogStarts.{SavedLogStateModel, is_saved_log_state}
 pub record RunStartModel : Type 0 where
   pub rules : Rules
   pub state : State
-  -- what it keeps of a log
+  -- What it keeps of a log.
   pub saved : SavedLogStateModel
 
 -- A run can start here: its configuration takes the state, and the saved counts of the log are small enough.

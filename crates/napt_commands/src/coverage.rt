@@ -41,7 +41,7 @@ impl Coverage {
     }
 
     /// Prints what the captures lack under any configuration.
-    pub fn tell<R: Eprint>(self, rt: &R) {
+    pub fn print<R: Eprint>(self, rt: &R) {
         if self.from_inside == 0 {
             let _ = eprintln!(rt;
                 "explain: no packet comes from inside: figures of bindings mean nothing"
@@ -70,7 +70,7 @@ impl Coverage {
 
     /// Takes the bindings that are live at the end, and prints a warning if more than half of all bindings are, or if
     /// the captures span less time than the longest time to an end.
-    pub fn tell_living<R: Eprint>(mut self, rt: &R, entries: &[LogEntry]) {
+    pub fn print_living<R: Eprint>(mut self, rt: &R, entries: &[LogEntry]) {
         self.end(entries);
         let (living, made) = (self.made.saturating_sub(self.ended), self.made);
         let span = self.last.saturating_sub(self.first.unwrap_or(0));

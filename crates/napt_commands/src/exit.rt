@@ -11,7 +11,7 @@ use std::io::ErrorKind;
 #[derive(Drop)]
 pub enum Exit {
     /// A stop of `napt` whose reason has already been printed.
-    Told(Stop),
+    Printed(Stop),
     /// A stop of `napt` whose fault line is to be printed.
     As(Stop),
     /// Standard output was closed at startup.
@@ -33,7 +33,7 @@ impl Exit {
     /// capture; 7 if the captured gateway used other numbers; 1 if packets differ or nobody had the endpoint.
     pub fn status(&self) -> u8 {
         match self {
-            Exit::Told(stop) | Exit::As(stop) => stop_status(stop),
+            Exit::Printed(stop) | Exit::As(stop) => stop_status(stop),
             Exit::NoOutput | Exit::Output(_) => 6,
             Exit::Log => 4,
             Exit::Others => 7,

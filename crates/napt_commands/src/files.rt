@@ -25,7 +25,7 @@ pub fn unexplained<R: Eprint>(rt: &R, name: &str, path: &str) -> Exit {
 
 /// Returns how the program stops if a file cannot be written, which is how `napt` stops for an output.
 pub fn unwritten() -> Exit {
-    Exit::Told(Stop::File(FileRole::Report))
+    Exit::Printed(Stop::File(FileRole::Report))
 }
 
 /// Opens a file for reading, or standard input for `-`, and prints the reason if that fails. `name` names its option.
@@ -65,7 +65,7 @@ fn print_unread<R: Files + Eprint + AllocGlobal>(
     match input_reason(rt, rt.alloc(), name, path) {
         Ok(text) => {
             let _ = eprintln!(rt; "explain: {text}");
-            Exit::Told(stop)
+            Exit::Printed(stop)
         }
         Err(refused) => Exit::from(refused),
     }

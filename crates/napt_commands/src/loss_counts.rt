@@ -80,12 +80,12 @@ impl LossCounts {
     }
 
     /// Whether more than a fifth, and more than one, found no binding or were not for the gateway.
-    pub fn is_fifth_unmet(&self) -> bool {
+    pub fn exceeds_fifth_unmet(&self) -> bool {
         self.unmet() > self.all / 5 && self.unmet() > 1
     }
 
     /// Whether more than a fifth, and more than one, found no binding.
-    pub fn is_fifth_unbound(&self) -> bool
+    pub fn exceeds_fifth_unbound(&self) -> bool
         ensures { (result ≡ true)
             ↔ ((self.now.all / 5 < self.now.no_binding) × (1 < self.now.no_binding)) }
     {
@@ -98,7 +98,7 @@ impl LossCounts {
     }
 
     /// Whether more than half were not for the gateway.
-    pub fn is_half_not_ours(&self) -> bool
+    pub fn exceeds_half_not_ours(&self) -> bool
         ensures { (result ≡ true) ↔ (self.now.all / 2 < self.now.not_ours) }
     {
         self.not_ours > self.all / 2

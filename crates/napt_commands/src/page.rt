@@ -20,7 +20,7 @@ impl Page {
     }
 
     /// Writes the lines if they have at least `BUFFERED` bytes.
-    pub fn turn<R: Print>(&mut self, rt: &R) -> Result<(), Exit> {
+    pub fn write_if_full<R: Print>(&mut self, rt: &R) -> Result<(), Exit> {
         if self.text.len() < BUFFERED {
             return Ok(());
         }

@@ -13,8 +13,8 @@ pub fn print_warning<R: Eprint>(
 ) {
     let is_swapped = losses.are_swapped();
     let is_lost = match outside {
-        OutsideCapture::Packets => losses.is_fifth_unmet(),
-        OutsideCapture::Replies => losses.is_half_not_ours() || losses.is_fifth_unbound(),
+        OutsideCapture::Packets => losses.exceeds_fifth_unmet(),
+        OutsideCapture::Replies => losses.exceeds_half_not_ours() || losses.exceeds_fifth_unbound(),
     };
     if !is_swapped && !is_lost {
         return;
@@ -42,7 +42,7 @@ fn print_losses<R: Eprint>(rt: &R, outside: OutsideCapture, losses: &LossCounts)
   the captured gateway seems to have chosen other numbers or addresses: connections count as never answered here,
   and figures of bindings are wrong. Give what inside hosts got as --replies, in place of --outside"
         ),
-        OutsideCapture::Replies if losses.is_half_not_ours() => eprintln!(rt;
+        OutsideCapture::Replies if losses.exceeds_half_not_ours() => eprintln!(rt;
             "{} of {all} replies are not to an inside host: is this an outside capture? (--outside)",
             losses.not_ours
         ),

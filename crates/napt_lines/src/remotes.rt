@@ -62,20 +62,22 @@ impl Remotes {
         }
     }
 
-    /// Whether at least half of the packets from outside that found no binding, or were not for the gateway, are answers.
+    /// Whether at least half of the packets from outside that found no binding, or were not for the gateway, are
+    /// answers.
     pub fn are_answers(&self, losses: &LossCounts) -> bool {
         let others = losses.unmet().saturating_sub(self.unmet_answers);
         self.unmet_answers > 0 && self.unmet_answers >= others
     }
 
-    /// Whether more than one in a thousand answers, and more than one, go astray: the captured gateway had other numbers.
+    /// Whether more than one in a thousand answers, and more than one, go astray: the captured gateway had other
+    /// numbers.
     pub fn are_astray(&self) -> bool {
         self.astray > 1 && self.astray > self.answers / 1_000
     }
 
     /// Prints that the captured gateway used other numbers than the run, which therefore says nothing about it, and
     /// returns how the program stops.
-    pub fn tell_astray<R: Eprint>(&self, rt: &R) -> Exit {
+    pub fn print_astray<R: Eprint>(&self, rt: &R) -> Exit {
         let (astray, answers, first) = (self.astray, self.answers, self.first_astray);
         let _ = eprintln!(rt;
             "explain: the captured gateway used other numbers: {astray} of {answers} answers from outside, the first of them packet \
@@ -97,7 +99,7 @@ impl Remotes {
         match (input.side, &step.outcome) {
             (Side::Inside, Outcome::ToOutside(_)) => self.send(passing),
             (Side::Outside, outcome) if step.part.used.note != LogNote::Redirect => {
-                self.come(passing, outcome);
+                self.count_from_outside(passing, outcome);
                 Ok(())
             }
             _ => Ok(()),
@@ -162,7 +164,7 @@ impl Remotes {
     }
 
     /// Counts a packet from outside, which is an answer if a packet left for its remote just before.
-    fn come(&mut self, passing: RunPacket<'_>, outcome: &Outcome) {
+    fn count_from_outside(&mut self, passing: RunPacket<'_>, outcome: &Outcome) {
         let input = passing.input;
         let (bytes, now) = (&input.bytes, input.clock);
         if matches!(outcome, Outcome::Dropped(Cause::NoBinding | Cause::NotOurs))

@@ -86,12 +86,12 @@ impl<'a> RunComparison<'a> {
             return Ok(());
         }
         self.different = self.different.saturating_add(1);
-        pair.tell(rt, self.choice)
+        pair.print(rt, self.choice)
     }
 
     /// Prints the warnings and the counts of both runs; `names` are the paths of their configurations. Fails with
     /// `Differ` if the outcomes of any packet, selected or not, differ.
-    pub fn tell<R: Print + Eprint>(
+    pub fn print<R: Print + Eprint>(
         &self,
         rt: &R,
         outside: OutsideCapture,
@@ -100,7 +100,7 @@ impl<'a> RunComparison<'a> {
         let [first, second] = names;
         print_warning(rt, outside, Some(first), &self.first.losses);
         print_warning(rt, outside, Some(second), &self.second.losses);
-        self.tell_counts(rt)?;
+        self.print_counts(rt)?;
         if self.different > 0 {
             return Err(Exit::Differ);
         }
@@ -108,7 +108,7 @@ impl<'a> RunComparison<'a> {
     }
 
     /// Prints how many packets differ, and the counts under each configuration.
-    fn tell_counts<R: Print>(&self, rt: &R) -> Result<(), Exit> {
+    fn print_counts<R: Print>(&self, rt: &R) -> Result<(), Exit> {
         let (first, second) = (&self.first.counts, &self.second.counts);
         let (packets, different) = (first.packets(), self.different);
         println!(rt; "packets: {packets}, of which {different} differ")?;
@@ -116,7 +116,7 @@ impl<'a> RunComparison<'a> {
         println!(rt; "  {one} and {other} to the outside")?;
         let (one, other) = (first.to_inside(), second.to_inside());
         println!(rt; "  {one} and {other} to the inside")?;
-        tell_drops(rt, first, second)
+        print_drops(rt, first, second)
     }
 }
 
@@ -127,7 +127,11 @@ impl<R: Print + AllocGlobal> Consumer<R> for RunComparison<'_> {
 }
 
 /// Prints for each cause how many packets were dropped for it under each configuration, if any were.
-fn tell_drops<R: Print>(rt: &R, first: &OutcomeCounts, second: &OutcomeCounts) -> Result<(), Exit> {
+fn print_drops<R: Print>(
+    rt: &R,
+    first: &OutcomeCounts,
+    second: &OutcomeCounts,
+) -> Result<(), Exit> {
     for cause in Cause::ALL {
         let (one, other) = (first.dropped(cause), second.dropped(cause));
         if one > 0 || other > 0 {
@@ -149,7 +153,7 @@ impl<'a> Pair<'a> {
     }
 
     /// Prints the line of the packet, if it is selected.
-    fn tell<R: Print + AllocGlobal>(self, rt: &R, choice: PacketSelection) -> Result<(), Exit> {
+    fn print<R: Print + AllocGlobal>(self, rt: &R, choice: PacketSelection) -> Result<(), Exit> {
         if self.is_chosen(rt.alloc(), choice)? {
             let text = self.text(rt.alloc())?;
             println!(rt; "{text}")?;

@@ -117,7 +117,7 @@ impl<R: Print + Eprint + AllocGlobal> CommandOutput<R> for SinglePacket<'_> {
         if !self.is_found {
             let (number, packets) = (self.number, ending.packets);
             let _ = eprintln!(rt; "explain: --only {number}: there are {packets} packets");
-            return Err(Exit::Told(Stop::Usage));
+            return Err(Exit::Printed(Stop::Usage));
         }
         if !self.is_chosen {
             let number = self.number;

@@ -48,7 +48,7 @@ impl<'a> PacketLines<'a> {
 
     /// Prints the bindings that are live at the last packet's time, with their ages; if a host or endpoint is selected,
     /// only its bindings.
-    fn tell_bindings<R: Print + AllocGlobal>(
+    fn print_bindings<R: Print + AllocGlobal>(
         &self,
         rt: &R,
         page: &mut Page,
@@ -64,7 +64,7 @@ impl<'a> PacketLines<'a> {
                 let entry = living.entry_of(row.protocol, row.external);
                 add_row(&mut page.text, row, entry, ending.last)?;
             }
-            page.turn(rt)?;
+            page.write_if_full(rt)?;
         }
         Ok(())
     }
@@ -160,7 +160,7 @@ impl<R: Print + AllocGlobal> CommandOutput<R> for PacketLines<'_> {
 
     /// Prints the live bindings and the counts of outcomes.
     fn end(self, rt: &R, page: &mut Page, ending: &EndedRun<'_>) -> Result<(), Exit> {
-        self.tell_bindings(rt, page, ending)?;
+        self.print_bindings(rt, page, ending)?;
         self.add_counts(&mut page.text, ending)?;
         page.end(rt)
     }

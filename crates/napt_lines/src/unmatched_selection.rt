@@ -46,7 +46,7 @@ impl UnmatchedSelection {
     }
 
     /// Prints that the selected host or endpoint has no packet and no binding, if that is so.
-    pub fn tell<R: Eprint>(self, rt: &R) {
+    pub fn print<R: Eprint>(self, rt: &R) {
         let Some(host) = self.host else {
             return;
         };

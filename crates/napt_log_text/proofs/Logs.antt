@@ -9,7 +9,7 @@ use Rattle.napt_account.specs.{declared.log.LogEntry.LogEntry, Effects.{EffectsA
 use Rattle.napt_account.specs.{ResumedLogRuns.{LogGoesOn, LogsGoOn, SavedLogsGoOn, left_of, part_of}, LogParts.{LogDelta, in_order_of_end, kept_at, part_between}}
 use Rattle.napt_account.proofs.GoingOn.{fold_joined}
 use Rattle.napt_laws.proofs.OneMoreInput.{clock_more, clock_on, grows as run_grows}
-use Rattle.napt_log_text.specs.Logs.{EffectsHaveTheRows, Join, LogGrows, LogOrigin, LogsJoin, PiecesStandAlone, SavedLogsJoin, log_added, begins_piece, clock_behind, first_text, living_rows, log_behind, log_so_far}
+use Rattle.napt_log_text.specs.Logs.{EffectsHaveTheRows, Join, LogGrows, LogOrigin, LogsJoin, PiecesStandAlone, SavedLogsJoin, log_added, begins_piece, clock_after, first_text, living_rows, grown_log, log_so_far}
 use Rattle.napt_log_text.specs.{Logs.{log_text, opening_text, part_rows, piece_opening, rows_by, rows_from, text_of}, Times.TimeText}
 
 module _ {X : Type 0} where
@@ -47,7 +47,7 @@ none_first rules None now log = refl
 none_first rules (Some seconds) now log = refl
 
 some_behind : (clock : ℕ) (before : List Arrival) (input : Arrival) (more : List Arrival) →
-    clock_behind clock (before ++ input ∷ more) ≡ Some (last_clock clock (before ++ input ∷ more))
+    clock_after clock (before ++ input ∷ more) ≡ Some (last_clock clock (before ++ input ∷ more))
 some_behind clock [] input more = refl
 some_behind clock (x ∷ before) input more = refl
 
@@ -81,7 +81,7 @@ module _ (rules : Rules) (state later : State) (origin : LogOrigin) (first : Lis
       (log_added (adds_later None) [] rest) (ending goes_on (left_of rules later left rest))
 
   module _ (clock : later.clock ≡ last_clock state.clock first) (each : Option ℕ) (input : Arrival)
-      (begins : begins_piece each (clock_behind state.clock first) (max (last_clock state.clock first) input.clock)
+      (begins : begins_piece each (clock_after state.clock first) (max (last_clock state.clock first) input.clock)
       ≡ true) where
     opens : adds each first input ≡ opening_text rules left ++ adds_later each [] input
     opens =
@@ -120,7 +120,7 @@ module _ (rules : Rules) (state later : State) (origin : LogOrigin) (first : Lis
     alone : (rest : List Arrival) (goes_on : Bool) →
         log_text rules state origin each goes_on (first ++ input ∷ rest)
         ≡ log_text rules state origin each true first ++ log_text rules later
-        (record (log_behind rules state origin first) { is_new = true }) each goes_on (input ∷ rest)
+        (record (grown_log rules state origin first) { is_new = true }) each goes_on (input ∷ rest)
     unfolding log_so_far log_text rows_from
     alone rest goes_on =
         ap₂ (λ (x y : TimeText). (first_text rules origin ++ x) ++ y) (rows_alone rest)
@@ -139,7 +139,8 @@ logs_join on rules state origin numbered first =
 
 pub pieces_stand_alone : LogsGoOn → PiecesStandAlone
 pieces_stand_alone on rules state origin numbered each first input rest begins =
-    alone rules state (next_state rules state first) origin first (on rules state origin.log numbered first) refl each input
+    alone rules state (next_state rules state first) origin first (on rules state origin.log numbered first) refl each
+    input
     begins rest
 
 pub saved_logs_join : SavedLogsGoOn → SavedLogsJoin
@@ -173,7 +174,8 @@ module _ (are : EffectsAreTheLog) (rules : Rules) (state : State) (log : LogMode
     log_next =
         ap (λ (l : LogModel). after_input l effects) (sym (are rules state log before))
         ∙ (sym (fold_joined after_input (traces_of rules state before) (effects ∷ []) log)
-        ∙ (ap (log_after log) (sym (traces_grow rules 0 state.clock before input state.list (length before) (omega arith)))
+        ∙ (ap (log_after log) (sym (traces_grow rules 0 state.clock before input state.list (length before)
+        (omega arith)))
         ∙ are rules state log (before ++ input ∷ [])))
 
     list_next : (effect_from rules state (before ++ input ∷ [])).list ≡ course.list
@@ -187,14 +189,14 @@ module _ (are : EffectsAreTheLog) (rules : Rules) (state : State) (log : LogMode
     length_next = length-append before (input ∷ [])
 
   abbrev by_rest : List Arrival → List Arrival → TimeText
-  by_rest before more = rows_by rules each (clock_behind state.clock before) (last_clock state.clock before) (at before)
+  by_rest before more = rows_by rules each (clock_after state.clock before) (last_clock state.clock before) (at before)
       (traces_from rules (length before) (last_clock state.clock before) more (effect_from rules state before).list)
 
   rows_same : (before more : List Arrival) → by_rest before more ≡ log_added text_at before more
   rows_same before [] = refl
   rows_same before (input ∷ more) =
       ap₂ (λ (x y : TimeText). x ++ y)
-      (ap (λ (l : LogModel). piece_opening rules each (clock_behind state.clock before) (now before input)
+      (ap (λ (l : LogModel). piece_opening rules each (clock_after state.clock before) (now before input)
       (kept_at (was before input) (at before))
       ++ part_rows rules (part_between (was before input) (now before input) (at before) l)) (log_next before input))
       ((λ i. rows_by rules each (sym (some_behind state.clock before input [] ∙ ap Some (clock_next before input)) i)

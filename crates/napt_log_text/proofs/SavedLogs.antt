@@ -38,5 +38,7 @@ has_rows rules state origin goes_on inputs =
     let living : List LogEntry = in_order_of_end (left_of rules state origin.log inputs).entries in
     (λ i. (((opened rules origin.before origin.is_new i) ++ part_text rules origin.told i)
     ++ sym (rows_after-events rules state origin.log [] inputs) i) ++ ended rules living goes_on i)
-    ∙ in_turn rules (if origin.is_new then csv_header else []) (if origin.is_new then map Made origin.before.entries else [])
-    (part_events origin.told) (events_after rules state origin.log [] inputs) (if goes_on then [] else map Living living)
+    ∙ in_turn rules (if origin.is_new then csv_header else [])
+    (if origin.is_new then map Made origin.before.entries else [])
+    (part_events origin.told) (events_after rules state origin.log [] inputs)
+    (if goes_on then [] else map Living living)

@@ -15,8 +15,8 @@ events_after rules state log before [] = []
 events_after rules state log before (input ∷ inputs) =
     part_events (part_of rules state log before input) ++ events_after rules state log (before ++ input ∷ []) inputs
 
--- The events of the log of a run from a state: where its text begins there, the makings of what lived before; what is told
--- before the first input, and with the inputs; and where no run goes on, the bindings that are live at its end.
+-- The events of the log of a run from a state: where its text begins there, the makings of what lived before; what is
+-- told before the first input, and with the inputs; and where no run goes on, the bindings that are live at its end.
 abbrev pub log_events : Rules → State → LogOrigin → Bool → List Arrival → List LogEvent
 log_events rules state origin goes_on inputs =
     (if origin.is_new then map Made origin.before.entries else [])

@@ -4,7 +4,7 @@
 use Rattle.std.specs.Prelude.{◌≡◌, ℕ, ◌*◌, ◌/◌, ◌^◌, nat_lt, max, Bool, true, false, if◌then◌else◌, List, [], ◌∷◌, ◌++◌, flat_map, Option, Some, None}
 use Rattle.napt_config.specs.Rules.{Rules, RulesInvariant}
 use Rattle.napt_rules.specs.Prelude.{Arrival, IsStateInOrder, State, TakesState, initial_state, last_clock, next_state, with_redirects}
-use Rattle.napt_account.specs.{declared.log.{LogEntry.LogEntry, Shortage.Shortage}, Log.{LogModel, after_input, begun_behind}}
+use Rattle.napt_account.specs.{declared.log.{LogEntry.LogEntry, Shortage.Shortage}, Log.{LogModel, after_input, begun_after}}
 use Rattle.napt_account.specs.{ResumedLogRuns.{left_of, part_of}, LogParts.{IsNumbered, LogDelta, in_order_of_end, kept_at, part_between}}
 use Rattle.napt_sequential.specs.{Traces.traces_of, declared.passage.Trace.Trace}
 use Rattle.napt_log_text.specs.{declared.event.LogEvent.TheVariants.{Made, Ended, Living, Refused}, Rows.{csv_row, csv_header}, Times.TimeText}
@@ -62,13 +62,13 @@ log_added adds before [] = []
 log_added adds before (next ∷ more) = adds before next ++ log_added adds (before ++ next ∷ []) more
 
 -- The clock after these inputs, if there are any.
-abbrev pub clock_behind : ℕ → List Arrival → Option ℕ
-clock_behind clock [] = None
-clock_behind clock (input ∷ inputs) = Some (last_clock clock (input ∷ inputs))
+abbrev pub clock_after : ℕ → List Arrival → Option ℕ
+clock_after clock [] = None
+clock_after clock (input ∷ inputs) = Some (last_clock clock (input ∷ inputs))
 
 -- What an input adds after those before it, to a log in pieces of this many seconds, or in one piece.
 abbrev pub text_of : Rules → State → Option ℕ → LogModel → List Arrival → Arrival → TimeText
-text_of rules state each log before input = piece_opening rules each (clock_behind state.clock before)
+text_of rules state each log before input = piece_opening rules each (clock_after state.clock before)
     (max (last_clock state.clock before) input.clock) (left_of rules state log before)
     ++ part_rows rules (part_of rules state log before input)
 
@@ -91,13 +91,13 @@ empty_part = record { ended = []; made = []; refused = [] }
 -- A new log of a configuration before any input.
 abbrev pub log_anew : Rules → LogOrigin
 log_anew rules =
-    let log : LogModel = begun_behind 0 rules (initial_state rules) in
+    let log : LogModel = begun_after 0 rules (initial_state rules) in
     let none : LogModel = record { made = 0; entries = []; shortages = [] } in
     record { before = none; log = log; told = first_part [] log.entries; is_new = true }
 
 -- A log that goes on where a run left it.
-abbrev pub log_behind : Rules → State → LogOrigin → List Arrival → LogOrigin
-log_behind rules state origin inputs =
+abbrev pub grown_log : Rules → State → LogOrigin → List Arrival → LogOrigin
+grown_log rules state origin inputs =
     let log : LogModel = left_of rules state origin.log inputs in
     record { before = log; log = log; told = empty_part; is_new = false }
 
@@ -114,14 +114,15 @@ abbrev pub Join : Rules → State → State → LogOrigin → List Arrival → L
 Join rules state later origin first rest = (goes_on : Bool) →
     log_text rules state origin None goes_on (first ++ rest)
     ≡ log_text rules state origin None true first
-    ++ log_text rules later (log_behind rules state origin first) None goes_on rest
+    ++ log_text rules later (grown_log rules state origin first) None goes_on rest
 
 abbrev pub LogsJoin : Type 0
 LogsJoin = (rules : Rules) (state : State) (origin : LogOrigin) → IsNumbered origin.log → (first rest : List Arrival) →
     Join rules state (next_state rules state first) origin first rest
 
 abbrev pub SavedLogsJoin : Type 0
-SavedLogsJoin = (rules : Rules) → RulesInvariant rules → (state saved : State) → TakesState rules state → (origin : LogOrigin) →
+SavedLogsJoin = (rules : Rules) → RulesInvariant rules → (state saved : State) → TakesState rules state →
+    (origin : LogOrigin) →
     IsNumbered origin.log → (first rest : List Arrival) →
     IsStateInOrder rules (next_state rules (with_redirects rules state) first) saved →
     Join rules (with_redirects rules state) (with_redirects rules saved) origin first rest
@@ -130,11 +131,11 @@ SavedLogsJoin = (rules : Rules) → RulesInvariant rules → (state saved : Stat
 abbrev pub PiecesStandAlone : Type 0
 PiecesStandAlone = (rules : Rules) (state : State) (origin : LogOrigin) → IsNumbered origin.log → (each : Option ℕ)
     (first : List Arrival) (input : Arrival) (rest : List Arrival) →
-    begins_piece each (clock_behind state.clock first) (max (last_clock state.clock first) input.clock) ≡ true →
+    begins_piece each (clock_after state.clock first) (max (last_clock state.clock first) input.clock) ≡ true →
     (goes_on : Bool) →
     log_text rules state origin each goes_on (first ++ input ∷ rest)
     ≡ log_text rules state origin each true first ++ log_text rules (next_state rules state first)
-    (record (log_behind rules state origin first) { is_new = true }) each goes_on (input ∷ rest)
+    (record (grown_log rules state origin first) { is_new = true }) each goes_on (input ∷ rest)
 
 -- BY THE EFFECTS, as the code writes it: from a log and a time, which is that of the last input if there was one
 

@@ -16,13 +16,13 @@ is_asked request entry =
     holder_is_of request.protocol entry.binding.protocol && is_meant request.party entry.binding.external
 
 -- Without an end, the binding never ends.
-abbrev pub ends_behind : ℕ → Option ℕ → Bool
-ends_behind time None = true
-ends_behind time (Some end) = nat_lt time end
+abbrev pub ends_after : ℕ → Option ℕ → Bool
+ends_after time None = true
+ends_after time (Some end) = nat_lt time end
 
 -- Whether a binding, from its making until its end, has a moment in common with a span.
 abbrev pub has_moment_of : TimeSpan → Entry → Bool
-has_moment_of span entry = nat_lt entry.made span.until && ends_behind span.first entry.end
+has_moment_of span entry = nat_lt entry.made span.until && ends_after span.first entry.end
 
 -- Without a span, every time counts.
 abbrev pub meets : Option TimeSpan → Entry → Bool

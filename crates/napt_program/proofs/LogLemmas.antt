@@ -2,7 +2,7 @@
 use native.Mathlib.Omega.{arith}
 use Rattle.std.proofs.lemmas.{Grind.common_steps, Bool.Decides.nat_tests}
 use Rattle.std.proofs.Common.{◌≡◌, ◌&&◌, ◌||◌, ℕ, List, option_map, Bool, true, false, not, is_some, Option, Some, None, if◌then◌else◌}
-use Rattle.napt_program.specs.{CommandLine.{CommandLineFiles, files_of, files_with_log}, Standard.{is_log_again, is_standard, is_stream, standard_again}}
+use Rattle.napt_program.specs.{CommandLine.{CommandLineFiles, files_of, files_with_log}, Standard.{is_log_again, is_standard, is_stream, repeated_stream}}
 use Rattle.napt_program.specs.{Streams.closed_stream, declared.{options_with_log.OptionsWithLog.OptionsWithLog, role.FileRole.FileRole, streams.StandardStreams.StandardStreams}}
 use Rattle.napt_program.specs.declared.role.FileRole.TheVariants as role
 
@@ -24,7 +24,7 @@ pub first_behind : (a b c d e f : Bool) (j k l m n o : FileRole) (behind : Optio
     → first_role a b c d e f j k l m n o None ≡ None → first_role a b c d e f j k l m n o behind ≡ behind
 first_behind a b c d e f j k l m n o behind is = grind (arith, common_steps, nat_tests)
 
--- The conditions of `standard_again`, in their order.
+-- The conditions of `repeated_stream`, in their order.
 abbrev config_by_default : CommandLineFiles → Bool
 config_by_default n = is_stream n role.Config && not (is_some n.inside)
 
@@ -44,8 +44,8 @@ abbrev log_if : Bool → Option FileRole
 log_if asked = if asked then Some role.Log else None
 
 -- An option before the log whose standard stream another one already uses is the first.
-pub again_kept : (o : OptionsWithLog) (found : FileRole) → standard_again (files_of o.files) ≡ Some found
-    → standard_again (files_with_log o) ≡ Some found
+pub again_kept : (o : OptionsWithLog) (found : FileRole) → repeated_stream (files_of o.files) ≡ Some found
+    → repeated_stream (files_with_log o) ≡ Some found
 again_kept o found is =
     let n = files_of o.files in
     first_kept false (config_by_default n) (config_and_inside n) (outside_too n) (to_inside_too n) (report_too n)
@@ -53,8 +53,8 @@ again_kept o found is =
     (log_if (is_log_again (files_with_log o))) is
 
 -- If there is no such option, the log is the first if its stream is already in use.
-pub again_behind : (o : OptionsWithLog) → standard_again (files_of o.files) ≡ None
-    → is_log_again (files_with_log o) ≡ true → standard_again (files_with_log o) ≡ Some role.Log
+pub again_behind : (o : OptionsWithLog) → repeated_stream (files_of o.files) ≡ None
+    → is_log_again (files_with_log o) ≡ true → repeated_stream (files_with_log o) ≡ Some role.Log
 again_behind o none wants = grind (arith, common_steps, nat_tests, first_behind)
 
 -- A closed stream that an option before the log needs is the first.

@@ -126,7 +126,7 @@ misuses_pieces (Some path) (Some seconds) = seconds == 0 || is_dash path
 abbrev pub is_misused : CommandLineFiles → Bool
 is_misused named = misuses_state named || misuses_pieces named.log named.log_each
 
--- clap finds no fault in arguments that it accepts, and reports help and the version as faults of those kinds.
+-- Clap finds no fault in arguments that it accepts, and reports help and the version as faults of those kinds.
 abbrev pub line_by : Kinds → CommandLineFiles → CommandLineMeaning
 line_by [] named = if is_misused named then mistake else files named
 line_by (DisplayHelp ∷ more) named = help

@@ -15,9 +15,9 @@ is_input p file =
     || is_there file p.config || is_there file p.inside || is_there file p.outside
 
 -- There is a file, and it is an input, a state, a standard stream or one of two other outputs.
-abbrev pub is_again : FileLocations → Option FileLocation → Option FileLocation → Option FileLocation → Bool
-is_again p None first second = false
-is_again p (Some file) first second =
+abbrev pub is_named_elsewhere : FileLocations → Option FileLocation → Option FileLocation → Option FileLocation → Bool
+is_named_elsewhere p None first second = false
+is_named_elsewhere p (Some file) first second =
     is_input p file || is_there file p.resume || is_there file first || is_there file second
 
 -- The file is read or written by the run, apart from the states.
@@ -25,23 +25,23 @@ abbrev pub is_taken : FileLocations → FileLocation → Bool
 is_taken p file = is_input p file || is_there file p.to_outside || is_there file p.to_inside || is_there file p.report
 
 -- The location is a device, a pipe or a folder.
-abbrev pub is_aside : FileLocation → Bool
-is_aside Aside = true
-is_aside _ = false
+abbrev pub is_special_file : FileLocation → Bool
+is_special_file Aside = true
+is_special_file _ = false
 
 -- The state's file or new file is no regular file or is another option's, or the new file is the state that is read.
 abbrev pub is_save_lost : FileLocations → Option SaveLocations → Bool
 is_save_lost p None = false
 is_save_lost p (Some save) =
-    is_aside save.file || is_aside save.new || is_taken p save.file || is_taken p save.new
+    is_special_file save.file || is_special_file save.new || is_taken p save.file || is_taken p save.new
     || is_there save.new p.resume
 
 -- The first output that is a file of an earlier option.
 abbrev pub output_named_again : FileLocations → Option FileRole
 output_named_again p =
-    if is_again p p.to_outside None None then Some role.ToOutside
-    else (if is_again p p.to_inside p.to_outside None then Some role.ToInside
-    else (if is_again p p.report p.to_outside p.to_inside then Some role.Report
+    if is_named_elsewhere p p.to_outside None None then Some role.ToOutside
+    else (if is_named_elsewhere p p.to_inside p.to_outside None then Some role.ToInside
+    else (if is_named_elsewhere p p.report p.to_outside p.to_inside then Some role.Report
     else (if is_save_lost p p.save then Some role.Save
     else None)))
 
@@ -54,7 +54,7 @@ is_saved_there file (Some save) = is_same file save.file || is_same file save.ne
 abbrev pub is_log_named_again : FileLocations → Option FileLocation → Bool
 is_log_named_again p None = false
 is_log_named_again p (Some log) =
-    is_again p (Some log) p.to_outside p.to_inside || is_there log p.report || is_saved_there log p.save
+    is_named_elsewhere p (Some log) p.to_outside p.to_inside || is_there log p.report || is_saved_there log p.save
 
 -- The role is that of an output that has a location.
 abbrev pub is_placed : FileLocations → FileRole → Bool

@@ -38,8 +38,8 @@ is_log_again named =
     || is_standard named role.ToOutside)
 
 -- The first output whose standard output is already in use. The log is the last.
-abbrev pub output_again : CommandLineFiles → Option FileRole
-output_again named =
+abbrev pub repeated_output : CommandLineFiles → Option FileRole
+repeated_output named =
     if is_stream named role.ToInside && is_standard named role.ToOutside then Some role.ToInside
     else (if is_stream named role.Report && (is_stream named role.ToInside || is_standard named role.ToOutside)
     then Some role.Report
@@ -47,10 +47,10 @@ output_again named =
 
 -- The first option whose standard stream another one already uses. It is that of the configuration if the inside
 -- capture is standard input by default.
-abbrev pub standard_again : CommandLineFiles → Option FileRole
-standard_again named =
+abbrev pub repeated_stream : CommandLineFiles → Option FileRole
+repeated_stream named =
     if is_stream named role.Config && not (is_some named.inside) then Some role.Config
     else (if is_stream named role.Config && is_stream named role.Inside then Some role.Inside
     else (if is_stream named role.Outside && (is_stream named role.Config || is_standard named role.Inside)
     then Some role.Outside
-    else output_again named))
+    else repeated_output named))

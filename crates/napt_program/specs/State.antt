@@ -18,8 +18,8 @@ IsAnew it = (it.state ≡ record { clock = 0; list = [] }) × (it.saved ≡ no_s
 abbrev pub taken_start : ResumedState → TakenState
 taken_start it = record { state = it.state; log = it.saved; ended = it.ended }
 
--- It is what the text says, under the rules: the text of these contents, unless an earlier version wrote its log. Misfits end
--- if they are to.
+-- It is what the text says, under the rules: the text of these contents, unless an earlier version wrote its log.
+-- Misfits end if they are to.
 abbrev pub IsStateOf : Bool → Rules → List ℕ → ResumedState → Type 0
 IsStateOf ends rules text it = (told : StateFileModel) × IsReadAs text told
     × (taken_start it ≡ taken_of ends rules told) × (it.log ≡ log_end told.log)

@@ -2,7 +2,7 @@
 
 ghost use Rattle.std.specs.{Prelude.{◌≡◌, ◌≢◌, ◌⊎◌, [], Err, IfErr, IfOk, IfSome, None, false, is_some, true}, IoError.error_kind};
 ghost use Rattle.napt_program.specs.{CommandLine.files_with_log, Command.{IsOfLog, IsRunStop, stop_after}};
-ghost use Rattle.napt_program.specs.{Standard.standard_again, Streams.closed_stream};
+ghost use Rattle.napt_program.specs.{Standard.repeated_stream, Streams.closed_stream};
 ghost use Rattle.napt_records.specs.Faults.{is_shut_gate_fault};
 ghost use Rattle.napt_account.specs.LogStarts.{is_saved_log_state};
 ghost use Rattle.napt_rules.specs.Prelude.{TakesState};
@@ -89,13 +89,13 @@ pub fn open<'r, R: Files + Input + Print + AllocGlobal>(
     ensures closed { IfSome (closed_stream streams (files_with_log options.now)) (λ role.
         result ≡ Err (Stop.File role)) }
     ensures again { closed_stream streams (files_with_log options.now) ≡ None →
-        IfSome (standard_again (files_with_log options.now)) (λ role.
+        IfSome (repeated_stream (files_with_log options.now)) (λ role.
         result ≡ Err (Stop.File role)) }
 {
     if let Some(role) = closed_stream_with_log(streams, options) {
         return Err(Stop::File(role));
     }
-    if let Some(role) = options.standard_again() {
+    if let Some(role) = options.repeated_stream() {
         return Err(Stop::File(role));
     }
     let config = configuration(rt, options.files.config.as_ref(), place)?;

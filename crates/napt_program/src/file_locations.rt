@@ -1,7 +1,7 @@
 //! Finds an output that would overwrite another file of the run.
 ghost use Rattle.std.specs.Prelude.{◌≡◌, IfErr, IfOk, IfSome, is_some, not, true};
 ghost use Rattle.napt_program.specs.CommandLine.{files_of};
-ghost use Rattle.napt_program.specs.{FileLocations.{AreLocationsOf, is_again, is_aside, is_input, is_log_named_again, is_placed, is_save_lost, is_saved_there, is_taken, is_there, output_named_again}, Standard.names_file};
+ghost use Rattle.napt_program.specs.{FileLocations.{AreLocationsOf, is_named_elsewhere, is_special_file, is_input, is_log_named_again, is_placed, is_save_lost, is_saved_there, is_taken, is_there, output_named_again}, Standard.names_file};
 
 use crate::file_location::{FileLocation, is_same, place_of};
 use crate::options::{RunOptions, is_dash};
@@ -51,7 +51,7 @@ pub fn lost_file<R: Files>(
     ensures memory { IfErr result (λ _. names_file (files_of options.now) FileRole.Save ≡ true) }
 {
     let new = path_of_new(alloc, options)?;
-    Ok(lost_beside(rt, options, new.as_ref()))
+    Ok(lost_file_with_new(rt, options, new.as_ref()))
 }
 
 /// Returns the path of the new file of a state, if one is saved. Fails if memory is refused.
@@ -66,7 +66,11 @@ fn path_of_new(alloc: Global, options: &RunOptions) -> Result<Option<String>, Al
 }
 
 /// Returns the same as `lost_file`, given the path of the new file if a state is saved.
-fn lost_beside<R: Files>(rt: &R, options: &RunOptions, new: Option<&String>) -> Option<FileRole>
+fn lost_file_with_new<R: Files>(
+    rt: &R,
+    options: &RunOptions,
+    new: Option<&String>,
+) -> Option<FileRole>
     ensures { IfSome result (λ role. names_file (files_of options.now) role ≡ true) }
 {
     output_named_again(&places_of(rt, options, new))
@@ -150,11 +154,11 @@ fn output_named_again(places: &FileLocations<'_>) -> Option<FileRole>
     ensures named { IfSome result (λ role. is_placed places.now role ≡ true) }
 {
     let (to_outside, to_inside) = (places.to_outside, places.to_inside);
-    if is_again(places, to_outside, None, None) {
+    if is_named_elsewhere(places, to_outside, None, None) {
         Some(FileRole::ToOutside)
-    } else if is_again(places, to_inside, to_outside, None) {
+    } else if is_named_elsewhere(places, to_inside, to_outside, None) {
         Some(FileRole::ToInside)
-    } else if is_again(places, places.report, to_outside, to_inside) {
+    } else if is_named_elsewhere(places, places.report, to_outside, to_inside) {
         Some(FileRole::Report)
     } else if is_save_lost(places) {
         Some(FileRole::Save)
@@ -170,8 +174,8 @@ fn is_save_lost(places: &FileLocations<'_>) -> bool
 {
     match places.save {
         Some(save) => {
-            is_aside(save.file)
-                || is_aside(save.new)
+            is_special_file(save.file)
+                || is_special_file(save.new)
                 || is_taken(places, save.file)
                 || is_taken(places, save.new)
                 || is_there(save.new, places.resume)
@@ -181,8 +185,8 @@ fn is_save_lost(places: &FileLocations<'_>) -> bool
 }
 
 /// Returns whether it is a device, a pipe or a folder, which no new file may replace.
-fn is_aside(place: FileLocation<'_>) -> bool
-    ensures { result ≡ is_aside place.entry }
+fn is_special_file(place: FileLocation<'_>) -> bool
+    ensures { result ≡ is_special_file place.entry }
 {
     matches!(place, FileLocation::Aside)
 }
@@ -203,7 +207,7 @@ fn is_log_named_again(places: &FileLocations<'_>, log: Option<FileLocation<'_>>)
 {
     match log {
         Some(file) => {
-            is_again(places, log, places.to_outside, places.to_inside)
+            is_named_elsewhere(places, log, places.to_outside, places.to_inside)
                 || is_there(file, places.report)
                 || is_saved_there(places, file)
         }
@@ -222,13 +226,13 @@ fn is_saved_there(places: &FileLocations<'_>, file: FileLocation<'_>) -> bool
 }
 
 /// Returns whether a file is an input, a state, a standard stream or one of two other outputs.
-fn is_again(
+fn is_named_elsewhere(
     places: &FileLocations<'_>,
     file: Option<FileLocation<'_>>,
     first: Option<FileLocation<'_>>,
     second: Option<FileLocation<'_>>,
 ) -> bool
-    ensures { result ≡ is_again places.now file.entry first.entry second.entry }
+    ensures { result ≡ is_named_elsewhere places.now file.entry first.entry second.entry }
 {
     match file {
         Some(file) => {

@@ -80,7 +80,7 @@ pub fn open_files<'r, R: Files + Input + Print + AllocGlobal>(
     let files = with_outputs(rt, &options.files, inputs)?;
     let log = match &options.log {
         Some(path) if options.has_pieces() => Some(LogOutput {
-            device: Right(LogPieces::behind(rt, path, kept)?),
+            device: Right(LogPieces::create_after(rt, path, kept)?),
             is_new: true,
         }),
         Some(path) => Some(open_log(rt, path, kept)?),

@@ -35,7 +35,7 @@ pub use crate::file_locations::{is_log_lost, lost_file};
 pub use crate::files::{FilesWithLog, InputFiles, RunFiles, open_files, open_inputs};
 pub use crate::log_file::{LogOutput, SeekableFile};
 pub use crate::log_pieces::LogPieces;
-pub use crate::named_files::{NamedFiles, again_text, closed_text, input_reason, shared_text};
+pub use crate::named_files::{NamedFiles, closed_text, input_reason, same_file_text, shared_text};
 pub use crate::options::{LineFault, Manual, RunOptions, VERSION, parse_words, parse_words_of};
 pub use crate::options_with_log::{OptionsWithLog, parse_words_with_log};
 pub use crate::outputs::{refuse_unmade, unmade};

@@ -31,12 +31,12 @@ pub struct LogPieces<'r, R: Files> {
 impl<'r, R: Files + AllocGlobal> LogPieces<'r, R> {
     /// Creates the next piece after number `last` of the log at `path`. Fails with the log's role,
     /// or with `MEMORY` if memory is refused.
-    pub(crate) fn behind(rt: &'r R, path: &str, last: u64) -> Result<LogPieces<'r, R>, Stop>
+    pub(crate) fn create_after(rt: &'r R, path: &str, last: u64) -> Result<LogPieces<'r, R>, Stop>
         ensures number { IfOk result (λ pieces. last < piece_of pieces) }
         ensures stop { IfErr result IsLogStop }
     {
         let path = String::from_str(rt.alloc(), path)?;
-        let (number, piece) = piece_behind(rt, &path, last).map_err(|error| unread(
+        let (number, piece) = piece_after(rt, &path, last).map_err(|error| unread(
             &error,
             FileRole::Log,
         ))?;
@@ -62,7 +62,7 @@ impl<'r, R: Files + AllocGlobal> LogPieces<'r, R> {
     {
         self.piece.flush()?;
         self.piece.get_ref().sync_all()?;
-        let (number, piece) = piece_behind(self.rt, &self.path, self.number)?;
+        let (number, piece) = piece_after(self.rt, &self.path, self.number)?;
         self.number = number;
         self.piece = piece;
         self.has_text = false;
@@ -105,7 +105,7 @@ impl<'r, R: Files + AllocGlobal> Write for LogPieces<'r, R> {
 }
 
 /// Creates the first piece after number `last` that does not exist. Returns its number too.
-fn piece_behind<R: Files + AllocGlobal>(
+fn piece_after<R: Files + AllocGlobal>(
     rt: &R,
     path: &str,
     last: u64,

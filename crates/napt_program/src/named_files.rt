@@ -94,7 +94,7 @@ impl<'a> NamedFiles<'a> {
         path: &str,
     ) -> Result<Option<String>, AllocError> {
         match self.named_before(rt, name, path) {
-            Some(other) => Ok(Some(again_text(alloc, name, path, other)?)),
+            Some(other) => Ok(Some(same_file_text(alloc, name, path, other)?)),
             None => unmade_reason(rt, alloc, name, path),
         }
     }
@@ -109,7 +109,7 @@ impl<'a> NamedFiles<'a> {
         if let Some(save) = &self.files.save {
             let (new, place) = (new_path(alloc, save)?, place_of(rt, path));
             if is_same(place, place_of(rt, save)) || is_same(place, place_of(rt, &new)) {
-                return Ok(Some(again_text(alloc, "--log", path, SAVE)?));
+                return Ok(Some(same_file_text(alloc, "--log", path, SAVE)?));
             }
         }
         self.output_reason(rt, alloc, "--log", path)
@@ -124,16 +124,16 @@ impl<'a> NamedFiles<'a> {
     ) -> Result<Option<String>, AllocError> {
         let new = new_path(alloc, path)?;
         if let Some(other) = self.saved_again(rt, path) {
-            return Ok(Some(again_text(alloc, SAVE, path, other)?));
+            return Ok(Some(same_file_text(alloc, SAVE, path, other)?));
         }
         if let Some(other) = self.named_before(rt, SAVE, &new) {
-            return Ok(Some(again_text(alloc, BY_NEW, &new, other)?));
+            return Ok(Some(same_file_text(alloc, BY_NEW, &new, other)?));
         }
         if matches!(place_of(rt, path), FileLocation::Aside) {
-            return Ok(Some(aside_text(alloc, SAVE, path)?));
+            return Ok(Some(not_a_file_text(alloc, SAVE, path)?));
         }
         if matches!(place_of(rt, &new), FileLocation::Aside) {
-            return Ok(Some(aside_text(alloc, BY_NEW, &new)?));
+            return Ok(Some(not_a_file_text(alloc, BY_NEW, &new)?));
         }
         unmade_reason(rt, alloc, SAVE, path)
     }
@@ -233,7 +233,7 @@ fn stream_of(role: FileRole) -> &'static str {
 }
 
 /// Returns what else names the file of an output, after its name and path.
-pub fn again_text(
+pub fn same_file_text(
     alloc: Global,
     name: &str,
     path: &str,
@@ -243,7 +243,7 @@ pub fn again_text(
 }
 
 /// Returns that a state cannot be saved over what is at a path, after what names it.
-fn aside_text(alloc: Global, name: &str, path: &str) -> Result<String, AllocError> {
+fn not_a_file_text(alloc: Global, name: &str, path: &str) -> Result<String, AllocError> {
     format!(in alloc; "{name} {path}: expected a file, not a device, pipe or folder")
 }
 

@@ -3,7 +3,7 @@ ghost use Rattle.std.specs.Prelude.{◌≡◌, ◌≢◌, IfErr, IfOk, IfSome, N
 ghost use Rattle.std.specs.Int.NonZero.{non_zero_u32_get};
 ghost use Rattle.clap.specs.Words.{app_of, first_value, found_of, kind_of, rows_of, rule_of};
 ghost use Rattle.napt_program.specs.CommandLine.{IsHelp, IsVersion, app_for, file_option, files, files_in, files_of, files_with_log, help, is_misused, line_for, line_of_words, log_in, misuses_pieces, misuses_state, mistake, napt_app, seconds_in, seconds_of, version};
-ghost use Rattle.napt_program.specs.Standard.{file_for, is_dash, names_file, is_standard, is_stream, output_again, standard_again};
+ghost use Rattle.napt_program.specs.Standard.{file_for, is_dash, names_file, is_standard, is_stream, repeated_output, repeated_stream};
 
 use crate::options_with_log::OptionsWithLog;
 use crate::role::FileRole;
@@ -217,8 +217,8 @@ impl RunOptions {
     }
 
     /// Returns the first role, captures before outputs, whose standard stream is already in use.
-    pub fn standard_again(&self) -> Option<FileRole>
-        ensures again { result ≡ standard_again (files_of self.now) }
+    pub fn repeated_stream(&self) -> Option<FileRole>
+        ensures again { result ≡ repeated_stream (files_of self.now) }
         ensures named { IfSome result (λ role. names_file (files_of self.now) role ≡ true) }
     {
         let has_config = self.is_stream(FileRole::Config);
@@ -231,7 +231,7 @@ impl RunOptions {
         {
             Some(FileRole::Outside)
         } else {
-            self.output_again()
+            self.repeated_output()
         }
     }
 
@@ -243,8 +243,8 @@ impl RunOptions {
     }
 
     /// Returns the first such role among the outputs to the inside and the report.
-    fn output_again(&self) -> Option<FileRole>
-        ensures again { result ≡ output_again (files_of self.now) }
+    fn repeated_output(&self) -> Option<FileRole>
+        ensures again { result ≡ repeated_output (files_of self.now) }
         ensures named { IfSome result (λ role. names_file (files_of self.now) role ≡ true) }
     {
         let (has_capture, to_inside) = (

@@ -2,7 +2,7 @@
 
 ghost use Rattle.std.specs.Prelude.{◌≡◌, IfErr, IfOk, IfSome, is_some, map, string_bytes, true};
 ghost use Rattle.napt_program.specs.CommandLine.{IsHelp, IsVersion, files, files_with_log, help, line_with_log, mistake, version};
-ghost use Rattle.napt_program.specs.Standard.{has_pieces, is_log_again, names_file, is_stream, standard_again};
+ghost use Rattle.napt_program.specs.Standard.{has_pieces, is_log_again, names_file, is_stream, repeated_stream};
 
 use crate::options::{LineFault, Manual, RunOptions, is_dash, parse_words_for};
 use crate::role::FileRole;
@@ -41,11 +41,11 @@ impl OptionsWithLog {
 
     /// Returns the first role, captures before outputs and the log last, whose standard stream is
     /// already in use.
-    pub fn standard_again(&self) -> Option<FileRole>
-        ensures again { result ≡ standard_again (files_with_log self.now) }
+    pub fn repeated_stream(&self) -> Option<FileRole>
+        ensures again { result ≡ repeated_stream (files_with_log self.now) }
         ensures named { IfSome result (λ role. names_file (files_with_log self.now) role ≡ true) }
     {
-        match self.files.standard_again() {
+        match self.files.repeated_stream() {
             Some(role) => Some(role),
             None if self.is_log_again() => Some(FileRole::Log),
             None => None,

@@ -63,7 +63,7 @@ pub fn unmade<R: Files>(rt: &R, path: &str) -> Option<io::Error> {
         return None;
     }
     match fs::metadata(rt, path) {
-        Ok(known) if is_aside(known.file_type()) => None,
+        Ok(known) if is_device_or_pipe(known.file_type()) => None,
         Ok(_) => OpenOptions::new().write(true).open(rt, path).err(),
         Err(error) if error.kind() == ErrorKind::NotFound => missing_folder(rt, path, error),
         Err(error) => Some(error),
@@ -71,7 +71,7 @@ pub fn unmade<R: Files>(rt: &R, path: &str) -> Option<io::Error> {
 }
 
 /// Returns whether it is a device or a pipe.
-fn is_aside(kind: FileType) -> bool {
+fn is_device_or_pipe(kind: FileType) -> bool {
     kind.is_fifo() || kind.is_char_device() || kind.is_block_device()
 }
 

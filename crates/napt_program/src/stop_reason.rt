@@ -141,7 +141,7 @@ fn file_reason<R: Files + AllocGlobal>(
     if closed_stream_with_log(streams, options) == Some(role) {
         return Ok(Some(closed_text(alloc, role)?));
     }
-    if options.standard_again() == Some(role) {
+    if options.repeated_stream() == Some(role) {
         return Ok(Some(shared_text(alloc, named.option_of(role), role)?));
     }
     match (role, &options.log) {

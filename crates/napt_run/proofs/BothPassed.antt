@@ -16,11 +16,11 @@ use Rattle.napt_records.specs.declared.stream_merger.{StreamMerger.StreamMerger,
 use Rattle.napt_rules.specs.Prelude.{Arrival}
 use Rattle.napt_sequential.specs.declared.{outcome.StepResult.StepResult, passage.{Passage.Passage, Trace.Trace}}
 use Rattle.napt_sequential.proofs.JoinedSteps.{steps_long, steps_outcomes, steps_traces}
-use Rattle.napt_run.specs.{OutputSinks.{FailsToBegin, SinkTakes, TimedOutcomes}, LogRuns.{EntersFront, LogFailsOver, Legs, LogsTo, legs_told}}
+use Rattle.napt_run.specs.{OutputSinks.{FailsToBegin, SinkTakes, TimedOutcome}, LogRuns.{EntersFront, LogFailsOver, Legs, LogsTo, legs_told}}
 use Rattle.napt_run.specs.LoggedOutputSinks.{AreSettled, FailsEither, FailsLog, FailsOutput, IsSameSinkPlace, TakesBoth, legs_in, outcomes_in}
 use Rattle.napt_run.specs.CaptureRuns.{EntersBy, EntersFirst, EntersOr, EntersTo, FailsAfter, FailsFirst, PassesBy, PassesOr, RunPassesHalted, RunPassesTo}
 use Rattle.napt_run.specs.{Posts.IsBeforeReport, Runs.{IfHeld, run_left_of}, declared.{capture_run.Totals.Totals, output_sinks.Leaving.Leaving, logged_output_sinks.LeavingWithLog.LeavingWithLog}}
-use Rattle.napt_run.proofs.{Behind.{Refuses, fault_of, front, refused_held, taken_of, whole_is}, Ends.none_held, Fronts.outcomes_of, TraceFronts.{TraceFront, trace_front}}
+use Rattle.napt_run.proofs.{AfterHeaders.{Refuses, fault_of, front, refused_held, taken_of, whole_is}, Ends.none_held, Fronts.outcomes_of, TraceFronts.{TraceFront, trace_front}}
 
 -- WHAT LEAVES
 
@@ -58,7 +58,7 @@ module _ {P : Type 0} (tells : Passage → P) where
       IsFrontOf went (Goes origin inputs) → IsFrontOf (outcomes_in went) (run_left_of origin inputs)
   outcomes_front origin inputs went (rest, is) = (
     outcomes_in rest,
-    sym (map-append (λ left. let t : TimedOutcomes = (left.0, left.1.outcome) in t) went rest)
+    sym (map-append (λ left. let t : TimedOutcome = (left.0, left.1.outcome) in t) went rest)
         ∙ (ap (λ l. outcomes_in l) is ∙ outcomes_left origin inputs),
   )
 
@@ -107,7 +107,7 @@ module _ {P A F W V K : Type 0} {S : sink.Ghosts W} {T : sink.Ghosts V} (tells :
       EntersTo tells origin hands ends enters fails is_settled from before.log.now left after.log.now end
   enters_to end p = grind (arith, common_steps, nat_tests, legs_left)
 
-  -- a front of what leaves left
+  -- Some first ones of what leaves left.
   module _ (inputs : List Arrival) (went : List (ℕ × InputResult P)) (come : HasCome hands ends from inputs left)
       (front : IsFrontOf went (Goes tells origin inputs)) where
     enters_first : enters before.log.now (legs_in went) after.log.now → First
@@ -120,14 +120,14 @@ module _ {P A F W V K : Type 0} {S : sink.Ghosts W} {T : sink.Ghosts V} (tells :
           entered = subst (λ (l : List (Legs P)). enters before.log.now l after.log.now) f.went_is entered;
         }
 
-    -- or a fault came while it did
+    -- Or a fault came meanwhile.
     module _ (fault : Fault)
         (f : passing.DeparturesFail (TakesBoth enters) (FailsEither enters fails) before went fault after) where
       legs_join : legs_in f.first ++ legs_in f.others ≡ legs_in went
       legs_join = sym (ap (λ (l : List (ℕ × InputResult P)). legs_in l) f.went_is
           ∙ map-append (λ left. let l : Legs P = (left.1.now, left.1.first, left.1.second) in l) f.first f.others)
 
-      -- an output failed, and the log was entered all
+      -- An output failed, and all traces were entered in the log.
       output_failed : FailsOutput enters f.middle f.others fault after →
           FailsAfter before.leaving (outcomes_in went) fault after.leaving × First
       output_failed o = (
@@ -136,7 +136,7 @@ module _ {P A F W V K : Type 0} {S : sink.Ghosts W} {T : sink.Ghosts V} (tells :
           others = outcomes_in f.others;
           middle = f.middle.leaving;
           went_is = ap (λ (l : List (ℕ × InputResult P)). outcomes_in l) f.went_is
-              ∙ map-append (λ left. let t : TimedOutcomes = (left.0, left.1.outcome) in t) f.first f.others;
+              ∙ map-append (λ left. let t : TimedOutcome = (left.0, left.1.outcome) in t) f.first f.others;
           took = f.took.took;
           failed = o.failed;
         },
@@ -145,11 +145,12 @@ module _ {P A F W V K : Type 0} {S : sink.Ghosts W} {T : sink.Ghosts V} (tells :
             o.entered)),
       )
 
-      -- the log failed, and the outputs have what left before
+      -- The log failed, and the outputs have what left before.
       log_failed : FailsLog fails f.middle f.others fault after →
           RunPassesHalted origin hands ends from before.leaving left after.leaving × FailedFirst fault
       log_failed l =
-          let g : TraceFront (legs_of tells) origin inputs (legs_in went) = legs_front tells origin inputs went front in (
+          let g : TraceFront (legs_of tells) origin inputs (legs_in went) =
+          legs_front tells origin inputs went front in (
             record {
               inputs = inputs;
               went = outcomes_in f.first;
@@ -260,13 +261,15 @@ module _ {R Q W V P K : Type 0} {G : source.Ghosts R} {H : source.Ghosts Q} {S :
   By result = EntersBy tells origin HandsOutInputs MergeEndsWith enters fails is_settled from old left new result
 
   abbrev Or : Result Totals Fault → Type 0
-  Or result = EntersOr open_gate tells origin HandsOutInputs MergeEndsWith enters fails is_settled from old left new result
+  Or result = EntersOr open_gate tells origin HandsOutInputs MergeEndsWith enters fails is_settled from old left new
+      result
 
   abbrev Outputs : Result RunSummary (PassFault SideFault Fault) → Type 0
   Outputs result = PassesBy origin HandsOutInputs MergeEndsWith from before left after result
 
-  -- an output or the log told this fault
-  pub departed : (fault : Fault) → Outputs (Err (pass_faults.Departure fault)) → By (Err (pass_faults.Departure fault)) →
+  -- An output or the log reported this fault.
+  pub departed : (fault : Fault) → Outputs (Err (pass_faults.Departure fault)) →
+      By (Err (pass_faults.Departure fault)) →
       PassesOr origin from before left after (Err fault) × Or (Err fault)
   departed (Write Outside fault) (inl p) (inl e) = (p.1, e.1)
   departed (Write Outside fault) (inl p) (inr e) = absurd e.of_log
@@ -289,7 +292,8 @@ module _ {R Q W V P K : Type 0} {G : source.Ghosts R} {H : source.Ghosts Q} {S :
       (begun : (b o : List ℕ) → bytes ≡ Some b → others ≡ Some o → IsMergerNew from b o) where
     held_front : (first later : List Arrival) → HasCome HandsOutInputs MergeEndsWith from (first ++ later) left →
         IfHeld bytes others (λ all. IsFrontOf first all.arrivals)
-    held_front first later (inl handed) = front from left bytes others begun (first ++ later) first later left refl handed
+    held_front first later (inl handed) = front from left bytes others begun (first ++ later) first later left refl
+        handed
     held_front first later (inr (end, came)) =
         front from left bytes others begun (first ++ later) first later came.last refl came.handed
 
@@ -340,7 +344,7 @@ module _ {P K : Type 0} (tells : Passage → P) (open_gate : Bool) (origin : Ori
   abbrev Untouched : Fault → Type 0
   Untouched fault = LogsTo tells origin enters fails is_settled inside outside it it open_gate (Err fault)
 
-  -- the headers of the outputs could not be written
+  -- The headers of the outputs could not be written.
   pub unbegun_logs : {W V : Type 0} {S : sink.Ghosts W} {T : sink.Ghosts V} (old new : Leaving W V S T)
       (fault : Fault) → FailsToBegin old fault new → Untouched fault
   unbegun_logs old new (Write Outside fault) p =
@@ -362,7 +366,7 @@ module _ {P K : Type 0} (tells : Passage → P) (open_gate : Bool) (origin : Ori
     settled = settled;
   }
 
--- the report is not written yet
+-- The report is not written yet.
 pub before_report : {P K : Type 0} (tells : Passage → P) (open_gate : Bool) (origin : OriginModel)
     (enters : K → List (Legs P) → K → Type 0) (fails : K → List (Legs P) → Fault → K → Type 0) (is_settled : K → Type 0)
     (inside outside : Option (List ℕ)) (old new : K) (fault : Fault) →

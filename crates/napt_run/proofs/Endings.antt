@@ -91,7 +91,7 @@ pub left_told : (origin : OriginModel) (inside outside : Option (List ℕ)) (tot
     IsToldOf origin inside outside totals → LeavesInTheEnd origin inside outside totals.passed
 left_told origin inside outside totals told = grind (arith, common_steps, nat_tests, held)
 
--- where the report failed as many reads failed as before
+-- If the report failed, as many reads failed as before.
 pub reads_after : {R Q : Type 0} (of : R → ℕ) (if : Q → ℕ) (old new : R) (other last : Q) (fault : Fault) →
     IsReportFault fault → ((let r : Result (Unit {0}) Fault = Ok tt in (¬ IsOfRun r) →
     HasRead of if old new other last r)) → (let r : Result (Unit {0}) Fault = Err fault in (¬ IsOfRun r) →

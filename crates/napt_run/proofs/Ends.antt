@@ -78,27 +78,29 @@ module _ {D : Type 0} {S : Ghosts D} (texts : LogTexts) (which : Which) (inside 
   ends count within appended extent =
       ends_if count within appended (IfHeld-all (Extent count) inside outside extent)
 
-  -- all of the text was written
+  -- All of the text was written.
   pub grown_if : OutputGrows old text new → IfHeld inside outside (Extent (length text)) →
-      (S.failed new.device.now ≡ S.failed old.device.now → Failed) → (IsSettledBy result → S.is_flushed new.device.now) →
+      (S.failed new.device.now ≡ S.failed old.device.now → Failed) →
+      (IsSettledBy result → S.is_flushed new.device.now) →
       OutputEnds texts which inside outside result old new
   grown_if p extent failed flushed =
       ends_if (length text) (omega arith) (subst (λ (l : List ℕ). Appends (S.contents old.device.now)
       (S.contents new.device.now) l) (sym (take_whole text)) p.appended) extent p.same (failed p.kept) flushed
 
   pub grown : OutputGrows old text new → ((all : MergedInputs) → Extent (length text) all) →
-      (S.failed new.device.now ≡ S.failed old.device.now → Failed) → (IsSettledBy result → S.is_flushed new.device.now) →
+      (S.failed new.device.now ≡ S.failed old.device.now → Failed) →
+      (IsSettledBy result → S.is_flushed new.device.now) →
       OutputEnds texts which inside outside result old new
   grown p extent = grown_if p (IfHeld-all (Extent (length text)) inside outside extent)
 
-  -- or a front of it, and a call failed
+  -- Or some first bytes of it were written, and a call failed.
   pub broken : (fault : WriteFault) (p : Breaks old text fault new) → ((all : MergedInputs) → Extent p.count all) →
       (S.failed new.device.now ≡ S.failed old.device.now + 1 → Failed) → (IsSettledBy result → ⊥) →
       OutputEnds texts which inside outside result old new
   broken fault p extent failed never =
       ends p.count p.within p.appended extent p.same (failed p.failed_once) (λ settled. absurd (never settled))
 
--- the device of an output, which is left as the output leaves it
+-- The device of an output, as the output leaves it.
 pub of_device : {D : Type 0} {S : Ghosts D} (texts : LogTexts) (which : Which) (inside outside : Option (List ℕ))
     (result : Result (Unit {0}) Fault) (old new : Output D S) → OutputEnds texts which inside outside result old new →
     (start last : D) → old.device.now ≡ start →
@@ -108,7 +110,7 @@ of_device texts which inside outside result old new p start last from at = rw (a
 
 -- A CAPTURE
 
--- its text is the same whether the run came to its end
+-- Its text is the same whether or not the run came to its end.
 pub same_text : (origin : OriginModel) (which : Which) (whole : Bool) (inputs : List Arrival) →
     text_if whole (capture_to which origin) inputs ≡ capture_text origin (side_of which) inputs
 same_text origin which true inputs = refl
@@ -119,7 +121,7 @@ pub headed : (origin : OriginModel) (side : Side) (inputs : List Arrival) →
 headed origin side inputs = subst (λ (l : List ℕ). length file_header ≤ length l) (capture_is origin side inputs)
     (omega (arith, length-append file_header (records_text side (run_left_of origin inputs))))
 
--- all of it, where the run succeeds
+-- All of it, if the run succeeds.
 pub all_of : (origin : OriginModel) (which : Which) (all : MergedInputs) (old new : Option (List ℕ)) →
     OutputPost (capture_to which origin) which (Ok tt) all old new →
     IsOk all.end × Appends old new (capture_text origin (side_of which) all.arrivals)
@@ -131,7 +133,7 @@ all_of origin which all old new p = (
       p.appended)),
 )
 
--- what a fault of another output, or of the run, says of it
+-- What a fault of another output, or of the run, says of it.
 pub record IsCapture (which : Which) : Type 0 where
   pub begun : (count : ℕ) → length file_header ≤ count → IsBegun which count
   pub log_extent : (fault : WriteFault) (count size : ℕ) → IsBegun which count → WriteExtent which Log fault count size
@@ -165,7 +167,8 @@ module _ {D : Type 0} (S : Ghosts D) (origin : OriginModel) (inside outside : Op
   begun_whole inputs = of.begun _ (headed origin (side_of which) inputs)
 
   pub capture_ended : (fault : Fault) → IsEndFault fault → Ended (Ok tt) → Ended (Err fault)
-  capture_ended (Write Report fault) end p = after_success S _ which inside outside old new (Err (Write Report fault)) refl
+  capture_ended (Write Report fault) end p =
+      after_success S _ which inside outside old new (Err (Write Report fault)) refl
       (λ all inputs e. e) (of.report_failed _ _) p
   capture_ended (Write Log fault) end p = after_success S _ which inside outside old new (Err (Write Log fault)) refl
       (λ all inputs e. of.log_extent fault _ _ (begun_whole inputs)) (λ f. of.log_failed _ _ (inl f)) p
@@ -177,12 +180,13 @@ module _ {D : Type 0} (S : Ghosts D) (origin : OriginModel) (inside outside : Op
   capture_ended (Write Outside fault) end p = absurd end
   capture_ended (Write Inside fault) end p = absurd end
 
-  pub post_ended : (is_kept : Bool) (fault : Fault) → IsEndFault fault → CapturePost S is_kept which origin inside outside (Ok tt) old new →
+  pub post_ended : (is_kept : Bool) (fault : Fault) → IsEndFault fault →
+      CapturePost S is_kept which origin inside outside (Ok tt) old new →
       CapturePost S is_kept which origin inside outside (Err fault) old new
   post_ended is_kept fault end (inl p) = inl (capture_ended fault end p)
   post_ended is_kept fault end (inr p) = absurd p.1
 
--- a text of the log could not be made or written
+-- A text of the log could not be made or written.
 pub record OfText (is_kept open_gate : Bool) (inside outside : Option (List ℕ)) (fault : Fault) : Type 0 where
   pub kept : is_kept ≡ true
   pub explained : FaultPost is_kept open_gate inside outside fault
@@ -213,7 +217,7 @@ module _ (is_kept open_gate : Bool) (inside outside : Option (List ℕ)) where
   of_text (Write Inside fault) p = absurd p
   of_text (Write Report fault) p = absurd p
 
-  -- or the report
+  -- Or the report could not be made or written.
   pub of_report : (fault : Fault) → IsReportFault fault →
       IsEndFault fault × FaultPost is_kept open_gate inside outside fault
   of_report (Write Report fault) p = (tt, record { explained = tt; gate = λ is. refl })

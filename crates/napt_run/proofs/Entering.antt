@@ -82,8 +82,9 @@ module _ {L : Type 0} {S : Ghosts L} (from : LoggedOrigin) (before : List Trace)
   enter_written trace mid output text bytes at s same p =
       grind (arith, common_steps, nat_tests, ℕ, length-append, append-nil)
 
-  -- a text was written, and then flushed, or not
-  pub write_adds : (text : TimeText) (mid last : Output L S) (r : Result (Unit {0}) WriteFault) → LogIsAt from before old →
+  -- A text was written, and then it was flushed or not.
+  pub write_adds : (text : TimeText) (mid last : Output L S) (r : Result (Unit {0}) WriteFault) →
+      LogIsAt from before old →
       OutputGrows old.output text mid → OnOk r (OutputGrows mid [] last) → OnOk r (S.is_flushed last.device.now) →
       IfErr r (λ fault. mid.is_broken ≡ false → Breaks mid [] fault last) →
       Adds from before text old.output (named Log r) (record old { output = last })

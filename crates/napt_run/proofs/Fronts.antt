@@ -9,12 +9,12 @@ use Rattle.napt_dispatch.specs.RunsThrough.{timed_results}
 use Rattle.napt_records.specs.Output.{IsTime, IsTimely, packet_to, record_at, records_to}
 use Rattle.napt_rules.specs.{Prelude.{Arrival, effect_from, last_clock, run_from}, declared.Outcome.Outcome}
 use Rattle.napt_laws.{specs.Dispatching.IsFrontOf, proofs.OneMoreInput.{outcomes_long, run_append}}
-use Rattle.napt_run.specs.{OutputSinks.{AreTimes, TimedOutcomes, records_text}, Runs.run_left_of, Streams.capture_text}
+use Rattle.napt_run.specs.{OutputSinks.{AreTimes, TimedOutcome, records_text}, Runs.run_left_of, Streams.capture_text}
 
 -- TEXTS
 
 records_same : (side : Side) (inputs : List Arrival) (outcomes : List Outcome) →
-    filter_map (λ (t : TimedOutcomes). record_at t.0 (packet_to side t.1)) (timed_results inputs outcomes)
+    filter_map (λ (t : TimedOutcome). record_at t.0 (packet_to side t.1)) (timed_results inputs outcomes)
     ≡ records_to side inputs
     outcomes
 records_same side [] outcomes = refl
@@ -31,8 +31,8 @@ capture_is origin side inputs = grind (arith, common_steps, nat_tests, flat_map,
 
 pub times_of : (inputs : List Arrival) (outcomes : List Outcome) → All IsTimely inputs → AreTimes
     (timed_results inputs outcomes)
-times_of [] outcomes all = All-nil (λ (t : TimedOutcomes). IsTime t.0)
-times_of (input ∷ inputs) [] all = All-nil (λ (t : TimedOutcomes). IsTime t.0)
+times_of [] outcomes all = All-nil (λ (t : TimedOutcome). IsTime t.0)
+times_of (input ∷ inputs) [] all = All-nil (λ (t : TimedOutcome). IsTime t.0)
 times_of (input ∷ inputs) (outcome ∷ outcomes) all =
     grind (
       arith,
@@ -55,7 +55,7 @@ pub as_many : (origin : OriginModel) (inputs : List Arrival) → length (ran_by 
 as_many origin inputs = grind (arith, common_steps, nat_tests, outcomes_of, outcomes_long)
 
 pub outcomes_back : (inputs : List Arrival) (outcomes : List Outcome) → length outcomes ≡ length inputs →
-    map (λ (t : TimedOutcomes). t.1) (timed_results inputs outcomes) ≡ outcomes
+    map (λ (t : TimedOutcome). t.1) (timed_results inputs outcomes) ≡ outcomes
 outcomes_back [] [] same = refl
 outcomes_back [] (outcome ∷ outcomes) same = absurd (omega (arith, same))
 outcomes_back (input ∷ inputs) [] same = absurd (omega (arith, same))
@@ -80,9 +80,9 @@ timed_append [] ys [] ps same = refl
 timed_append [] ys (o ∷ os) ps same = absurd (omega (arith, same))
 timed_append (x ∷ xs) ys [] ps same = absurd (omega (arith, same))
 timed_append (x ∷ xs) ys (o ∷ os) ps same =
-    ap (λ (l : List TimedOutcomes). (x.time, o) ∷ l) (timed_append xs ys os ps (omega (arith, same)))
+    ap (λ (l : List TimedOutcome). (x.time, o) ∷ l) (timed_append xs ys os ps (omega (arith, same)))
 
-pub left_front : (origin : OriginModel) (xs ys : List Arrival) → (more : List TimedOutcomes) × (run_left_of origin
+pub left_front : (origin : OriginModel) (xs ys : List Arrival) → (more : List TimedOutcome) × (run_left_of origin
     (xs ++ ys) ≡ run_left_of origin xs ++ more)
 left_front origin xs ys =
     let later : List Outcome =
@@ -102,20 +102,20 @@ same_front a b x y n e = sym (take-append_seam a x) ∙ ap (take (length a)) e �
     ∙ take-append_seam b y
 
 -- The inputs whose outcomes left.
-pub record Front (origin : OriginModel) (inputs : List Arrival) (went : List TimedOutcomes) : Type 0 where
+pub record Front (origin : OriginModel) (inputs : List Arrival) (went : List TimedOutcome) : Type 0 where
   pub first : List Arrival
   pub later : List Arrival
   pub whole : inputs ≡ first ++ later
   pub went_is : went ≡ run_left_of origin first
 
-pub front_of : (origin : OriginModel) (inputs : List Arrival) (went : List TimedOutcomes) →
+pub front_of : (origin : OriginModel) (inputs : List Arrival) (went : List TimedOutcome) →
     IsFrontOf went (run_left_of origin inputs) →
     Front origin inputs went
 front_of origin inputs went (rest, is) =
     let first : List Arrival = take (length went) inputs in
     let later : List Arrival = drop (length went) inputs in
     let whole : first ++ later ≡ inputs = take-append-drop (length went) inputs in
-    let long : length (went ++ rest) ≡ length inputs = ap (λ (l : List TimedOutcomes). length l) is
+    let long : length (went ++ rest) ≡ length inputs = ap (λ (l : List TimedOutcome). length l) is
     ∙ left_long origin inputs in
     let fits : length went ≤ length inputs = omega (arith, long, length-append went rest) in
     let (more, split) = left_front origin first later in

@@ -60,7 +60,8 @@ later_clock : (c n : ℕ) (xs : List Arrival) → c ≤ n → last_clock c xs �
 later_clock c n [] le = le
 later_clock c n (a ∷ xs) le = later_clock (max c a.clock) (max n a.clock) xs (omega (arith, le))
 
-raised_twice : (c n : ℕ) → c ≤ n → (xs : List Arrival) → inputs_from_clock n (inputs_from_clock c xs) ≡ inputs_from_clock n xs
+raised_twice : (c n : ℕ) → c ≤ n → (xs : List Arrival) → inputs_from_clock n (inputs_from_clock c xs) ≡
+    inputs_from_clock n xs
 raised_twice c n le [] = refl
 raised_twice c n le (a ∷ xs) =
     let same : max n (max c a.clock) ≡ max n a.clock = omega (arith, le) in
@@ -124,7 +125,8 @@ module _ (clocks : EarlierClocksAreTheStates) (go_on : SavedRunsGoOn) (rules : R
   outcomes_all : (effect_from rules origin.state (arrivals_of whole)).outcomes
       ≡ (effect_from rules origin.state ones).outcomes ++ (effect_from rules later.state others).outcomes
   outcomes_all = ap (λ (all : List Arrival). (effect_from rules origin.state all).outcomes) cut.inputs
-      ∙ (went.outcomes ∙ ap (λ (c : RunEffect). (effect_from rules origin.state ones).outcomes ++ c.outcomes) same_effect)
+      ∙ (went.outcomes ∙ ap (λ (c : RunEffect). (effect_from rules origin.state ones).outcomes ++ c.outcomes)
+      same_effect)
 
   texts_all : (side : Side) → text (records_to side (arrivals_of whole) (ran_by origin (arrivals_of whole)).outcomes)
       ≡ text (records_to side ones (ran_by origin ones).outcomes)
@@ -152,7 +154,8 @@ module _ (clocks : EarlierClocksAreTheStates) (go_on : SavedRunsGoOn) (rules : R
 
 pub texts_join : EarlierClocksAreTheStates → SavedRunsGoOn → TextsJoin
 unfolding ran_by
-texts_join clocks go_on rules keeps state saved takes inside outside whole read ins outs first read_first ins' outs' rest
+texts_join clocks go_on rules keeps state saved takes inside outside whole read ins outs first read_first ins' outs'
+    rest
     read_rest cut order all is =
     let origin : OriginModel = resumed_origin rules state in
     let later : OriginModel = resumed_origin rules saved in

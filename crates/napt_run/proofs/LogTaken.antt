@@ -94,7 +94,7 @@ module _ (start : Start) (log_start : LogStart) (taken : TakenLog) (is_taken : I
         written = written;
       }
 
-  -- its texts are those that are promised
+  -- Its texts are those that are promised.
   pub texts_taken : texts_of (record {
     origin = origin_of start;
     opening = string_bytes taken.opening;

@@ -51,7 +51,7 @@ cut_within from inputs count within =
     subst (λ (l : TimeText). count ≤ length l) (text_is from inputs)
     (omega (arith, within, length-append (text_so_far from inputs) (ending from inputs)))
 
--- and of its text by a result
+-- Its text, by a result.
 cut_if : (from : LoggedOrigin) (ended : Bool) (inputs : List Arrival) (count : ℕ) →
     count ≤ length (text_so_far from inputs) → (count ≤ length (text_if ended (texts_of from) inputs))
     × (take count (text_so_far from inputs) ≡ take count (text_if ended (texts_of from) inputs))
@@ -92,11 +92,11 @@ front_first : (inside outside : Option (List ℕ)) (inputs first others : List A
 front_first inside outside inputs first others both front =
     grind (arith, common_steps, nat_tests, held, append_assoc)
 
--- so many calls of it failed, and whether it is broken
+-- The number of its calls that failed, and whether it is broken.
 abbrev Was : Bool → ℕ → ℕ → Type 0
 Was broken old new = ((broken ≡ false) × (new ≡ old)) ⊎ ((broken ≡ true) × (new ≡ old + 1))
 
--- the log has a front of the rows, and no call of it failed, or one, and none since
+-- The log has some first rows. No call of it failed, or one did and none since.
 record LogPart {L : Type 0} {S : Ghosts L} (from : LoggedOrigin) (inside outside : Option (List ℕ))
     (old new : Output L S) : Type 0 where
   inputs : List Arrival
@@ -114,7 +114,7 @@ tried_by : (broken : Bool) (old mid new : ℕ) (Flushed : Type 0) → Was broken
     (broken ≡ false → Flushed ⊎ (new ≡ mid + 1)) → Flushed ⊎ (new ≡ old + 1)
 tried_by broken old mid new Flushed was more tried = grind (arith, common_steps, nat_tests)
 
--- the same at the end, where it was flushed, if that still went
+-- The same at the end, where it was flushed if that was still possible.
 record LogRest {L : Type 0} {S : Ghosts L} (from : LoggedOrigin) (inside outside : Option (List ℕ))
     (old new : Output L S) : Type 0 where
   inputs : List Arrival
@@ -126,7 +126,8 @@ record LogRest {L : Type 0} {S : Ghosts L} (from : LoggedOrigin) (inside outside
   counts : AtMostOneMore (S.failed old.device.now) (S.failed new.device.now)
   tried : S.is_flushed new.device.now ⊎ (S.failed new.device.now ≡ S.failed old.device.now + 1)
 
-rest : {L : Type 0} {S : Ghosts L} (from : LoggedOrigin) (inside outside : Option (List ℕ)) (old new last : Output L S) →
+rest : {L : Type 0} {S : Ghosts L} (from : LoggedOrigin) (inside outside : Option (List ℕ)) (old new last : Output L S)
+    →
     FlushPost new last → LogPart from inside outside old new → LogRest from inside outside old last
 rest {L} {S} from inside outside old new last flush p = record {
   inputs = p.inputs;
@@ -148,7 +149,7 @@ module _ {L : Type 0} {S : Ghosts L} (origin : OriginModel) (inside outside : Op
   abbrev Ends : Result (Unit {0}) Fault → Output L S → Type 0
   Ends result last = OutputEnds (texts_of From) Log inside outside result old.output last
 
-  -- it has a part of the rows, whatever failed
+  -- The log has a part of the rows, whatever failed.
   rest_ends : (result : Result (Unit {0}) Fault) (last : Output L S) → (IsSettledBy result → ⊥) →
       ((all : MergedInputs) (inputs : List Arrival) (count size : ℕ) → ExtentPost Log result all inputs count size) →
       (AtMostOneMore (S.failed old.output.device.now) (S.failed last.device.now) →
@@ -158,28 +159,32 @@ module _ {L : Type 0} {S : Ghosts L} (origin : OriginModel) (inside outside : Op
       let cut = cut_if From (may_have_ended result) p.inputs p.count p.within in
       ends (texts_of From) Log inside outside result old.output last p.inputs _ refl p.front p.count cut.0
       (subst (λ (l : TimeText). Appends (S.contents old.output.device.now) (S.contents last.device.now) l) cut.1
-      p.appended) (λ all. extent all p.inputs p.count (length (text_if (may_have_ended result) (texts_of From) p.inputs)))
+      p.appended) (λ all. extent all p.inputs p.count
+      (length (text_if (may_have_ended result) (texts_of From) p.inputs)))
       p.same (failed p.counts)
       (λ settled. absurd (never settled))
 
   front_taken : (side : Side) (fault : CaptureFault) (inputs : List Arrival) →
       IfHeld inside outside (λ all. AreTaken side fault all inputs) →
       IfHeld inside outside (λ all. IsFrontOf inputs all.arrivals)
-  front_taken side fault inputs taken = held (λ all. AreTaken side fault all inputs) (λ all. IsFrontOf inputs all.arrivals)
+  front_taken side fault inputs taken = held (λ all. AreTaken side fault all inputs)
+      (λ all. IsFrontOf inputs all.arrivals)
       inside outside (λ all t. t.0) taken
 
   extent_taken : (side : Side) (fault : CaptureFault) (inputs : List Arrival) (size : ℕ) →
       IfHeld inside outside (λ all. AreTaken side fault all inputs) →
       IfHeld inside outside (λ all. ExtentPost Log (Err (Capture side fault)) all inputs size size)
   extent_taken side fault inputs size taken = held (λ all. AreTaken side fault all inputs)
-      (λ all. ExtentPost Log (Err (Capture side fault)) all inputs size size) inside outside (λ all t. (t.1, refl)) taken
+      (λ all. ExtentPost Log (Err (Capture side fault)) all inputs size size) inside outside (λ all t. (t.1, refl))
+      taken
 
-  -- its own fault tells how much of the text it has
-  told : (count written : ℕ) → ((a : ℕ) → old.output.written ≡ min a (2 ^ 64 - 1) → written ≡ min (a + count) (2 ^ 64 - 1)) →
+  -- Its own fault says how much of the text it has.
+  told : (count written : ℕ) → ((a : ℕ) → old.output.written ≡ min a (2 ^ 64 - 1) → written ≡
+      min (a + count) (2 ^ 64 - 1)) →
       written ≡ min count (2 ^ 64 - 1)
   told count written counted = omega (arith, counted 0 (omega (arith, ready.written)))
 
-  -- writing the rows failed
+  -- Writing the rows failed.
   rows_broken : (inputs : List Arrival) (fault : WriteFault) (last : LogWriter L S) →
       IfHeld inside outside (λ all. IsFrontOf inputs all.arrivals) →
       Breaks old.output (text_so_far From inputs) fault last.output →
@@ -197,7 +202,7 @@ module _ {L : Type 0} {S : Ghosts L} (origin : OriginModel) (inside outside : Op
         few = λ done. absurd done;
       }
 
-  -- it could not be opened
+  -- The log could not be opened.
   unopened : (last : LogWriter L S) (fault : Fault) → Adds From [] From.opening old.output (Err fault) last →
       LogPost origin inside outside (Err fault) old last
   unopened last (Write Log fault) p = rows_broken [] fault last (none_held inside outside)
@@ -242,14 +247,15 @@ module _ {L : Type 0} {S : Ghosts L} (origin : OriginModel) (inside outside : Op
     grew inputs p = subst (λ (l : TimeText). OutputGrows old.output l after.output) (so_far_is From inputs)
         (grows_more old.output mid.output after.output _ _ begun.wrote p)
 
-    -- it was entered what these inputs tell
+    -- The traces of these inputs were entered.
     pub entered : (inputs : List Arrival) → Enters mid (told_traces origin inputs) after →
         LogGoesOnFrom From (traces_by origin inputs) (rows_on From inputs) mid.output after
     entered inputs enters =
         let told = traces_told origin inputs in
         subst (λ (ts : List Trace). LogGoesOnFrom From ts (rows_on From inputs) mid.output after) told
         (subst (λ (l : TimeText). LogGoesOnFrom From (told_traces origin inputs) l mid.output after)
-        (ap (λ (ts : List Trace). rows_in From [] ts) told ∙ ready.laws.rows From.each inputs) (enters From [] begun.at))
+        (ap (λ (ts : List Trace). rows_in From [] ts) told ∙ ready.laws.rows From.each inputs)
+        (enters From [] begun.at))
 
     wrote : (inputs : List Arrival) → Enters mid (told_traces origin inputs) after →
         OutputGrows old.output (text_so_far From inputs) after.output
@@ -268,7 +274,7 @@ module _ {L : Type 0} {S : Ghosts L} (origin : OriginModel) (inside outside : Op
         (ap (λ (l : TimeText). From.opening ++ l) (ready.laws.rows From.each inputs) ∙ so_far_is From inputs)
         (breaks_more old.output mid.output after.output _ _ fault begun.wrote p)
 
-    -- a part of the rows
+    -- A part of the rows.
 
     grown_part : (inputs : List Arrival) → OutputGrows old.output (text_so_far From inputs) after.output →
         IfHeld inside outside (λ all. IsFrontOf inputs all.arrivals) → Part
@@ -277,13 +283,14 @@ module _ {L : Type 0} {S : Ghosts L} (origin : OriginModel) (inside outside : Op
       front = front;
       count = length (text_so_far From inputs);
       within = omega arith;
-      appended = subst (λ (l : TimeText). Appends (S.contents old.output.device.now) (S.contents after.output.device.now) l)
+      appended = subst (λ (l : TimeText). Appends (S.contents old.output.device.now)
+          (S.contents after.output.device.now) l)
           (sym (take_whole (text_so_far From inputs))) p.appended;
       same = p.same;
       counts = inl (p.sound ready.at.sound, p.kept);
     }
 
-    -- the input whose trace was not taken
+    -- The input whose trace was not taken.
     next_of : (inputs : List Arrival) (fault : RunFault)
         (p : LogHalts From [] (traces_by origin inputs) fault mid after) → NextInput origin inputs p.first p.next
     next_of inputs fault p = next_input origin inputs p.first p.next p.others p.all
@@ -324,12 +331,12 @@ module _ {L : Type 0} {S : Ghosts L} (origin : OriginModel) (inside outside : Op
         IfHeld inside outside (λ all. 2 ^ 62 ≤ length all.arrivals)
     too_many inputs many front = grind (arith, common_steps, nat_tests, held, length-append)
 
-    -- there were too many
+    -- There were too many inputs.
     too_many_at : (inputs : List Arrival) → LogHalts From [] (traces_by origin inputs) TooMany mid after →
         2 ^ 62 ≤ length inputs
     too_many_at inputs p = grind (arith, common_steps, nat_tests, traces_long, length-append)
 
-    -- a trace of a run always comes next
+    -- A trace of a run always comes next.
     never_refused : (inputs : List Arrival) (first : List Trace) (next : Trace) → NextInput origin inputs first next →
         (¬ IsNext (last_trace_time origin.state.clock first) (log_after From.log first) next) → ⊥
     never_refused inputs first next n never =
@@ -351,7 +358,11 @@ module _ {L : Type 0} {S : Ghosts L} (origin : OriginModel) (inside outside : Op
       log_fault : (fault : RunFault) → Failed (Run fault) → Explained (Run fault)
       log_fault Memory f = record { explained = tt; gate = λ is. refl }
       log_fault TooMany f = record {
-        explained = (refl, too_many f.inputs (too_many_at f.inputs (failed_over f.inputs (Run TooMany) f.failed)) f.front);
+        explained = (
+          refl,
+          too_many f.inputs (too_many_at f.inputs (failed_over f.inputs (Run TooMany) f.failed))
+              f.front,
+        );
         gate = λ is. refl;
       }
       log_fault (Pool fault) f =
@@ -380,7 +391,8 @@ module _ {L : Type 0} {S : Ghosts L} (origin : OriginModel) (inside outside : Op
           Halts fault last
       halted (Capture side fault) last s is = rw is (
         record {
-          written = grown_if (texts_of From) Log inside outside (Err (Capture side fault)) old.output after.output s.inputs _
+          written = grown_if (texts_of From) Log inside outside (Err (Capture side fault)) old.output after.output
+              s.inputs _
               refl (front_taken side fault s.inputs s.taken) (wrote s.inputs s.entered)
               (extent_taken side fault s.inputs _ s.taken) (λ kept. kept) (λ settled. s.settled);
           tried = inl s.settled;
@@ -454,7 +466,8 @@ module _ {L : Type 0} {S : Ghosts L} (origin : OriginModel) (inside outside : Op
 
       pub closed : (left : Result LogModel Fault) → Closes From (traces_by origin s.inputs)
           (ending_with From (traces_by origin s.inputs)) after.output left last →
-          IfOk left (λ log. log ≡ left_with From (traces_by origin s.inputs)) → LogPost origin inside outside left old last
+          IfOk left (λ log. log ≡ left_with From (traces_by origin s.inputs)) →
+          LogPost origin inside outside left old last
       closed (Ok log) p is =
           let all : OutputGrows old.output (whole_text From s.inputs) last.output =
           subst (λ (l : TimeText). OutputGrows old.output l last.output) (text_is From s.inputs)
@@ -463,12 +476,14 @@ module _ {L : Type 0} {S : Ghosts L} (origin : OriginModel) (inside outside : Op
           let few : length s.inputs < 2 ^ 62 = subst (λ (n : ℕ). n < 2 ^ 62)
           (traces_long origin.rules 0 origin.state.clock s.inputs origin.state.list) p.on.at.few in
           record {
-            written = grown_if (texts_of From) Log inside outside (Ok tt) old.output last.output s.inputs _ refl front_all
+            written = grown_if (texts_of From) Log inside outside (Ok tt) old.output last.output s.inputs _ refl
+                front_all
                 all (extent_all _) (λ kept. kept) (λ settled. p.flushed);
             tried = inl p.flushed;
             kept = held Is (λ all. log ≡ left_of origin.rules origin.state From.log all.arrivals) inside outside
                 (λ all whole. rw whole (is ∙ left_is)) s.all;
-            few = λ done. held Is (λ all. length all.arrivals < 2 ^ 62) inside outside (λ all whole. rw whole few) s.all;
+            few = λ done. held Is (λ all. length all.arrivals < 2 ^ 62) inside outside (λ all whole. rw whole few)
+                s.all;
           }
       closed (Err (Write Log fault)) p is =
           let all : Breaks old.output (whole_text From s.inputs) fault last.output =
@@ -476,7 +491,8 @@ module _ {L : Type 0} {S : Ghosts L} (origin : OriginModel) (inside outside : Op
           (breaks_more old.output after.output last.output _ _ fault (wrote s.inputs s.entered)
           (subst (λ (l : TimeText). Breaks after.output l fault last.output) ending_at p)) in
           record {
-            written = broken (texts_of From) Log inside outside (Err (Write Log fault)) old.output last.output s.inputs _
+            written = broken (texts_of From) Log inside outside (Err (Write Log fault)) old.output last.output s.inputs
+                _
                 refl front_all fault all (λ held. told all.count fault.written all.counted)
                 (λ once. once) (λ settled. settled);
             tried = inr all.failed_once;
@@ -498,7 +514,8 @@ module _ {L : Type 0} {S : Ghosts L} (origin : OriginModel) (inside outside : Op
           } in
           record {
             written = subst (λ (o : Output L S). Ends (Err (Run Memory)) o) (sym p)
-                (rest_ends (Err (Run Memory)) after.output (λ settled. settled) (λ all inputs count size. tt) (λ f. f) rest);
+                (rest_ends (Err (Run Memory)) after.output (λ settled. settled) (λ all inputs count size. tt) (λ f. f)
+                rest);
             tried = subst (λ (o : Output L S). S.is_flushed o.device.now
                 ⊎ (S.failed o.device.now ≡ S.failed old.output.device.now + 1)) (sym p) (inl s.settled);
             kept = tt;
@@ -511,7 +528,7 @@ module _ {L : Type 0} {S : Ghosts L} (origin : OriginModel) (inside outside : Op
       closed (Err (Write Inside fault)) p is = absurd p
       closed (Err (Write Report fault)) p is = absurd p
 
--- or it could
+-- Or it could be written.
 pub opens_by : {L : Type 0} {S : Ghosts L} (old new : LogWriter L S) (result : Result (Unit {0}) Fault) →
     ((from : LoggedOrigin) → LogIsAt from [] old →
     Adds from [] (string_bytes old.opening) old.output result new) → OnOk result (Opens old new)

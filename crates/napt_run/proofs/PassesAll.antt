@@ -10,9 +10,9 @@ use Rattle.napt_dispatch.specs.declared.workers.RunSummary.{RunSummary}
 use Rattle.napt_records.specs.{Counts.AreCountsOf, Output.IsTimely, Report.{report_of, report_text}, declared.report.OutcomeCounts.OutcomeCounts}
 use Rattle.napt_rules.specs.{Prelude.{Arrival}, declared.{Outcome.Outcome, Row.Row}}
 use Rattle.napt_sequential.{proofs.Inputs.came_whole, specs.declared.fault.RunFault.RunFault}
-use Rattle.napt_run.specs.{OutputSinks.SinkBegins, OutputSinkLaws.grows_more, Outputs.OutputGrows, CaptureRuns.RunPassesWell, Runs.text_behind}
+use Rattle.napt_run.specs.{OutputSinks.SinkBegins, OutputSinkLaws.grows_more, Outputs.OutputGrows, CaptureRuns.RunPassesWell, Runs.text_after}
 use Rattle.napt_run.specs.{Streams.capture_text, WholeCaptures.{IsTallyOf, WritesAll}, declared.{output_sinks.Leaving.Leaving, output.Output.Output, whole_captures.RunTally.RunTally}}
-use Rattle.napt_run.proofs.{Counted.all_counted, Fronts.{capture_is, times_of}}
+use Rattle.napt_run.proofs.{OutcomeCounts.all_counted, Fronts.{capture_is, times_of}}
 
 -- The run over all inputs.
 pub passes_all : {F W V : Type 0} {S : Ghosts W} {T : Ghosts V} (origin : OriginModel) (from left : List Arrival)
@@ -48,7 +48,7 @@ headed_all origin inputs old mid new begins (Ok tally) p = record {
 
 -- The device of an output, which is left as the output leaves it.
 capture_appended : {D : Type 0} {S : Ghosts D} (origin : OriginModel) (side : Side) (inputs : List Arrival)
-    (old new : Output D S) → OutputGrows old (text_behind file_header origin side inputs) new → (start last : D) →
+    (old new : Output D S) → OutputGrows old (text_after file_header origin side inputs) new → (start last : D) →
     old.device.now ≡ start → (new.device.ghost_name ≡ old.device.ghost_name → last ≡ new.device.now) →
     Appends (S.contents start) (S.contents last) (capture_text origin side inputs)
 capture_appended origin side inputs old new grown start last from at =

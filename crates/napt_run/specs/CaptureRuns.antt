@@ -10,16 +10,16 @@ use Rattle.napt_records.specs.{StreamMergers.{MergeEndsWith, HandsOutInputs, cut
 use Rattle.napt_records.specs.declared.stream_merger.{StreamMerger.StreamMerger, SideFault.SideFault}
 use Rattle.napt_rules.specs.Prelude.{Arrival}
 use Rattle.napt_sequential.specs.{Inputs.InputsCame, declared.passage.Passage.Passage}
-use Rattle.napt_run.specs.{OutputSinks.{IsOfOutput, SinkFails, IsSettled, SinkTakes, TimedOutcomes}, LogRuns.{IsLogFault, Legs, legs_told}, Runs.run_left_of, declared.output_sinks.Leaving.Leaving}
+use Rattle.napt_run.specs.{OutputSinks.{IsOfOutput, SinkFails, IsSettled, SinkTakes, TimedOutcome}, LogRuns.{IsLogFault, Legs, legs_told}, Runs.run_left_of, declared.output_sinks.Leaving.Leaving}
 use Rattle.napt_run.specs.declared.capture_run.Totals.{Totals}
 
 -- THE OUTPUTS
 
 -- The first of these outcomes were taken, and the fault came while the others were.
 pub record FailsAfter {W V : Type 0} {S : sink.Ghosts W} {T : sink.Ghosts V} (before : Leaving W V S T)
-    (went : List TimedOutcomes) (fault : Fault) (after : Leaving W V S T) : Type 0 where
-  pub first : List TimedOutcomes
-  pub others : List TimedOutcomes
+    (went : List TimedOutcome) (fault : Fault) (after : Leaving W V S T) : Type 0 where
+  pub first : List TimedOutcome
+  pub others : List TimedOutcome
   pub middle : Leaving W V S T
   pub went_is : went ≡ first ++ others
   pub took : SinkTakes before first middle
@@ -41,10 +41,10 @@ module _ {A F W V : Type 0} {S : sink.Ghosts W} {T : sink.Ghosts V} (origin : Or
     pub bindings : passed.bindings.items ≡ (ran_by origin whole.inputs).bindings
     pub leaves : GivesState origin whole.inputs passed
 
-  -- an output failed, and what left before is the first of what leaves
+  -- An output failed, and what left before is the first of what leaves.
   pub record RunPassesEarly (fault : Fault) : Type 0 where
     pub inputs : List Arrival
-    pub went : List TimedOutcomes
+    pub went : List TimedOutcome
     pub come : HasCome hands ends from inputs left
     pub front : IsFrontOf went (run_left_of origin inputs)
     pub failed : FailsAfter before went fault after
@@ -52,7 +52,7 @@ module _ {A F W V : Type 0} {S : sink.Ghosts W} {T : sink.Ghosts V} (origin : Or
   -- The run itself failed, or its log; an output may have failed too.
   pub record RunPassesHalted : Type 0 where
     pub inputs : List Arrival
-    pub went : List TimedOutcomes
+    pub went : List TimedOutcome
     pub come : HasCome hands ends from inputs left
     pub front : IsFrontOf went (run_left_of origin inputs)
     pub took : SinkTakes before went after ⊎ ((fault : Fault) × FailsAfter before went fault after)
@@ -107,7 +107,7 @@ module _ {P A F K : Type 0} (tells : Passage → P) (origin : OriginModel) (hand
     pub come : HasCome hands ends from (first ++ later) left
     pub entered : enters old (legs_told tells origin first) new
 
-  -- or failed over them
+  -- Or it failed over them.
   pub record FailsFirst (fault : Fault) : Type 0 where
     pub first : List Arrival
     pub later : List Arrival
@@ -125,7 +125,7 @@ module _ {P A K : Type 0} (open_gate : Bool) (tells : Passage → P) (origin : O
     (hands : A → List Arrival → A → Type 0) (ends : A → Option SideFault → A → Type 0)
     (enters : K → List (Legs P) → K → Type 0) (fails : K → List (Legs P) → Fault → K → Type 0)
     (is_settled : K → Type 0) (from : A) (old : K) (left : A) (new : K) where
-  -- the same of a run over captures, whose fault may be one of its log
+  -- The same holds of a run over captures, whose fault may be one of its log.
   abbrev pub EntersOr : Result Totals Fault → Type 0
   EntersOr (Ok totals) = EntersTo tells origin hands ends enters fails is_settled from old left new None
   EntersOr (Err (Capture side fault)) =

@@ -11,9 +11,11 @@ module _ {R Q W V U L : Type 0} (A : source.Ghosts R) (B : source.Ghosts Q) (S :
   -- What each output has after the run.
   pub record OutputsPost (origin : OriginModel) (old : Devices R Q W V U L) (result : Result (Unit {0}) Fault)
       (new : Devices R Q W V U L) : Type 0 where
-    pub to_outside : CapturePost S is_kept Outside origin (A.remaining old.inside) (B.remaining old.outside) result old.to_outside
+    pub to_outside : CapturePost S is_kept Outside origin (A.remaining old.inside) (B.remaining old.outside) result
+        old.to_outside
         new.to_outside
-    pub to_inside : CapturePost T is_kept Inside origin (A.remaining old.inside) (B.remaining old.outside) result old.to_inside
+    pub to_inside : CapturePost T is_kept Inside origin (A.remaining old.inside) (B.remaining old.outside) result
+        old.to_inside
         new.to_inside
     pub report : ReportGetsFrom X origin (A.remaining old.inside) (B.remaining old.outside) result old.report new.report
 

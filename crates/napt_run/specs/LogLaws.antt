@@ -15,7 +15,8 @@ held P Q None outside more p = p
 held P Q (Some bytes) None more p = p
 held P Q (Some bytes) (Some others) more p = more (files_until bytes others) p
 
--- An output of a run that succeeded, if the run failed after that: its text and its number of failed calls are the same.
+-- An output of a run that succeeded, if the run failed after that: its text and its number of failed calls are the
+-- same.
 module _ {D : Type 0} (S : Ghosts D) (texts : LogTexts) (which : Which) (inside outside : Option (List ℕ))
     (old new : D) where
   pub after_success : (result : Result (Unit {0}) Fault) → output_text_by texts result ≡ texts.whole →

@@ -22,7 +22,7 @@ abbrev pub legs_told : {P : Type 0} → (Passage → P) → OriginModel → List
 legs_told tells origin inputs =
     map (λ trace. (trace.now, tells trace.first, tells trace.second)) (traces_by origin inputs)
 
--- a log fails so: it could not be written, or not be kept
+-- A log failed: it could not be written, or its entries could not be kept.
 abbrev pub IsLogFault : Fault → Type 0
 IsLogFault (Write Log fault) = ⊤
 IsLogFault (Run fault) = ⊤
@@ -52,14 +52,14 @@ module _ {P K : Type 0} (tells : Passage → P) (origin : OriginModel) (enters :
     pub front : IfHeld inside outside (λ all. IsFrontOf inputs all.arrivals)
     pub entered : enters old (legs_told tells origin inputs) new
 
-  -- a front of the inputs, and it failed over them
+  -- The log has the first ones of the inputs, and failed over them.
   pub record LogFailsOver (fault : Fault) : Type 0 where
     pub inputs : List Arrival
     pub front : IfHeld inside outside (λ all. IsFrontOf inputs all.arrivals)
     pub of_log : IsLogFault fault
     pub failed : fails old (legs_told tells origin inputs) fault new
 
-  -- where the run failed, the log may have failed too
+  -- If the run failed, the log may have failed too.
   abbrev pub LogsTo : Bool → Result Totals Fault → Type 0
   LogsTo open_gate (Ok totals) = EntersAll totals.cuts
   LogsTo open_gate (Err (Capture side fault)) = EntersToFault side fault

@@ -2,12 +2,12 @@
 use Rattle.std.{specs.Prelude.{◌≡◌, ◌⊎◌, ℕ, List, [], ◌++◌, map, refl}, proofs.{Common.{sym, ◌∙◌, subst}, lemmas.List.map-append}}
 use Rattle.napt_capture.specs.declared.device.Sink.{Ghosts}
 use Rattle.napt_dispatch.specs.declared.outcome_sink.InputResult.{InputResult}
-use Rattle.napt_run.specs.{OutputSinks.{IsOfOutput, SinkFails, IsSettled, SinkTakes, TimedOutcomes}, OutputSinkLaws.{takes_none, takes_more}, LogRuns.{IsLogFault, Legs}}
+use Rattle.napt_run.specs.{OutputSinks.{IsOfOutput, SinkFails, IsSettled, SinkTakes, TimedOutcome}, OutputSinkLaws.{takes_none, takes_more}, LogRuns.{IsLogFault, Legs}}
 use Rattle.napt_records.specs.declared.Fault.{Fault}
 use Rattle.napt_run.specs.declared.logged_output_sinks.LeavingWithLog.{LeavingWithLog}
 
 -- The outcomes of what left, with the arrival times of their inputs.
-abbrev pub outcomes_in : {P : Type 0} → List (ℕ × InputResult P) → List TimedOutcomes
+abbrev pub outcomes_in : {P : Type 0} → List (ℕ × InputResult P) → List TimedOutcome
 outcomes_in all = map (λ left. (left.0, left.1.outcome)) all
 
 -- The traces of the legs of what left.
@@ -39,7 +39,7 @@ module _ {P W V K : Type 0} {S : Ghosts W} {T : Ghosts V} where
     pub entered : enters old.log.now (legs_in all) new.log.now
     pub same : IsSameSinkPlace old new
 
-  -- the log failed, and no output has more than before
+  -- The log failed, and no output has more than before.
   pub record FailsLog (fails : K → List (Legs P) → Fault → K → Type 0) (old : LeavingWithLog W V K S T)
       (all : List (ℕ × InputResult P)) (fault : Fault) (new : LeavingWithLog W V K S T) : Type 0 where
     pub of_log : IsLogFault fault
@@ -61,7 +61,7 @@ module _ {P W V K : Type 0} {S : Ghosts W} {T : Ghosts V} where
       (first second : List (ℕ × InputResult P)) →
       TakesBoth enters x first y → TakesBoth enters y second z → TakesBoth enters x (first ++ second) z
   both_more enters more x y z first second one two = record {
-    took = subst (λ (l : List TimedOutcomes). SinkTakes x.leaving l z.leaving)
+    took = subst (λ (l : List TimedOutcome). SinkTakes x.leaving l z.leaving)
         (sym (map-append (λ left. (left.0, left.1.outcome)) first second))
         (takes_more x.leaving y.leaving z.leaving _ _ one.took two.took);
     entered = subst (λ (l : List (Legs P)). enters x.log.now l z.log.now)

@@ -8,24 +8,24 @@ use Rattle.napt_wire.specs.declared.Side.TheVariants as sides
 use Rattle.napt_capture.specs.{declared.{device.Sink.Ghosts, fault.WriteFault.WriteFault}, Contents.RecordModel, Text.record_text}
 use Rattle.napt_rules.specs.declared.Outcome.{Outcome}
 use Rattle.napt_records.specs.{Output.{packet_to, record_at, IsTime}, Counts.AreCountsOf}
-use Rattle.napt_run.specs.{Outputs.{Breaks, OutputGrows}, OutputSinks.{TimedOutcomes, records_text, AreTimes, SinkTakes}, declared.{output.Output.Output, output_sinks.Leaving.Leaving}}
+use Rattle.napt_run.specs.{Outputs.{Breaks, OutputGrows}, OutputSinks.{TimedOutcome, records_text, AreTimes, SinkTakes}, declared.{output.Output.Output, output_sinks.Leaving.Leaving}}
 
 -- TEXTS AND TIMES
 
-pub records_text-append : (side : Side) (first second : List TimedOutcomes) → records_text side (first ++ second)
+pub records_text-append : (side : Side) (first second : List TimedOutcome) → records_text side (first ++ second)
     ≡ records_text side first ++ records_text side second
 records_text-append side first second =
-    let record_of : TimedOutcomes → Option RecordModel = λ timed. record_at timed.0 (packet_to side timed.1) in
+    let record_of : TimedOutcome → Option RecordModel = λ timed. record_at timed.0 (packet_to side timed.1) in
     ap (λ (l : List RecordModel). flat_map record_text l) (filter_map-append record_of first second)
     ∙ flat_map-append record_text (filter_map record_of first) (filter_map record_of second)
 
-pub times_first : (first second : List TimedOutcomes) → AreTimes (first ++ second) → AreTimes first
+pub times_first : (first second : List TimedOutcome) → AreTimes (first ++ second) → AreTimes first
 times_first [] second all = All-nil (λ timed. IsTime timed.0)
 times_first (x ∷ first) second all =
     All-cons (λ timed. IsTime timed.0) x first (All-head (λ timed. IsTime timed.0) x (first ++ second) all)
     (times_first first second (All-tail (λ timed. IsTime timed.0) x (first ++ second) all))
 
-pub times_second : (first second : List TimedOutcomes) → AreTimes (first ++ second) → AreTimes second
+pub times_second : (first second : List TimedOutcome) → AreTimes (first ++ second) → AreTimes second
 times_second [] second all = all
 times_second (x ∷ first) second all =
     times_second first second (All-tail (λ timed. IsTime timed.0) x (first ++ second) all)
@@ -86,7 +86,7 @@ module _ {W V : Type 0} {S : Ghosts W} {T : Ghosts V} where
     counts = λ outcomes few are. subst (λ (l : List Outcome). AreCountsOf l x.counts) (sym (append-nil outcomes)) are;
   }
 
-  pub takes_more : (x y z : Leaving W V S T) (first second : List TimedOutcomes) → SinkTakes x first y →
+  pub takes_more : (x y z : Leaving W V S T) (first second : List TimedOutcome) → SinkTakes x first y →
       SinkTakes y second z → SinkTakes x (first ++ second) z
   takes_more x y z first second one two = record {
     to_outside = λ times. subst (λ (l : List ℕ). OutputGrows x.to_outside l z.to_outside)

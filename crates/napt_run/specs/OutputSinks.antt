@@ -9,30 +9,30 @@ use Rattle.napt_records.specs.declared.Which.TheVariants.{Outside, Inside}
 use Rattle.napt_run.specs.{Outputs.{OutputGrows, Breaks}, declared.output_sinks.Leaving.Leaving}
 
 -- An outcome, with the arrival time of its input.
-abbrev pub TimedOutcomes : Type 0
-TimedOutcomes = ℕ × Outcome
+abbrev pub TimedOutcome : Type 0
+TimedOutcome = ℕ × Outcome
 
 -- The text of the records that go to a side.
-abbrev pub records_text : Side → List TimedOutcomes → List ℕ
+abbrev pub records_text : Side → List TimedOutcome → List ℕ
 records_text side all = flat_map record_text (filter_map (λ timed. record_at timed.0 (packet_to side timed.1)) all)
 
-abbrev pub AreTimes : List TimedOutcomes → Type 0
+abbrev pub AreTimes : List TimedOutcome → Type 0
 AreTimes all = All (λ timed. IsTime timed.0) all
 
 -- No call of either output failed.
-abbrev pub AreTimesSound : {W V : Type 0} {S : Ghosts W} {T : Ghosts V} → Leaving W V S T → Type 0
-AreTimesSound leaving = (leaving.to_outside.is_broken ≡ false) × (leaving.to_inside.is_broken ≡ false)
+abbrev pub AreOutputsSound : {W V : Type 0} {S : Ghosts W} {T : Ghosts V} → Leaving W V S T → Type 0
+AreOutputsSound leaving = (leaving.to_outside.is_broken ≡ false) × (leaving.to_inside.is_broken ≡ false)
 
 module _ {W V : Type 0} {S : Ghosts W} {T : Ghosts V} where
   -- These outcomes left: each output has its records of them, and they are counted.
-  pub record SinkTakes (old : Leaving W V S T) (all : List TimedOutcomes) (new : Leaving W V S T) : Type 0 where
+  pub record SinkTakes (old : Leaving W V S T) (all : List TimedOutcome) (new : Leaving W V S T) : Type 0 where
     pub to_outside : AreTimes all → OutputGrows old.to_outside (records_text sides.Outside all) new.to_outside
     pub to_inside : AreTimes all → OutputGrows old.to_inside (records_text sides.Inside all) new.to_inside
     pub counts : (outcomes : List Outcome) → length (outcomes ++ map (λ timed. timed.1) all) < 2 ^ 64 →
         AreCountsOf outcomes old.counts → AreCountsOf (outcomes ++ map (λ timed. timed.1) all) new.counts
 
-  -- an output failed while these left, and the other one has nothing more, or all of them
-  abbrev pub FailsBy : Leaving W V S T → List TimedOutcomes → Fault → Leaving W V S T → Type 0
+  -- An output failed while these left, and the other one has nothing more, or all of them.
+  abbrev pub FailsBy : Leaving W V S T → List TimedOutcome → Fault → Leaving W V S T → Type 0
   FailsBy old all (Write Outside fault) new =
       Breaks old.to_outside (records_text sides.Outside all) fault new.to_outside
       × OutputGrows old.to_inside [] new.to_inside
@@ -41,8 +41,8 @@ module _ {W V : Type 0} {S : Ghosts W} {T : Ghosts V} where
       × Breaks old.to_inside (records_text sides.Inside all) fault new.to_inside
   FailsBy old all other new = ⊥
 
-  abbrev pub SinkFails : Leaving W V S T → List TimedOutcomes → Fault → Leaving W V S T → Type 0
-  SinkFails old all fault new = AreTimesSound old → AreTimes all → FailsBy old all fault new
+  abbrev pub SinkFails : Leaving W V S T → List TimedOutcome → Fault → Leaving W V S T → Type 0
+  SinkFails old all fault new = AreOutputsSound old → AreTimes all → FailsBy old all fault new
 
   -- The headers were written.
   pub record SinkBegins (old new : Leaving W V S T) : Type 0 where
@@ -63,20 +63,20 @@ abbrev pub IsSettled : {W V : Type 0} {S : Ghosts W} {T : Ghosts V} → Leaving 
 IsSettled {W} {V} {S} {T} leaving =
     S.is_flushed leaving.to_outside.device.now × T.is_flushed leaving.to_inside.device.now
 
--- an output fails so
+-- The fault is one of an output.
 abbrev pub IsOfOutput : Fault → Type 0
 IsOfOutput (Write Outside fault) = ⊤
 IsOfOutput (Write Inside fault) = ⊤
 IsOfOutput other = ⊥
 
--- an answer of an output, by its name
+-- The result of a call of an output, with the name of the output.
 abbrev pub named : Which → Result (Unit {0}) WriteFault → Result (Unit {0}) Fault
 named which (Ok done) = Ok done
 named which (Err fault) = Err (Write which fault)
 
--- the captures before anything is written
+-- The captures before anything is written.
 pub record IsNew {W V : Type 0} {S : Ghosts W} {T : Ghosts V} (leaving : Leaving W V S T) : Type 0 where
-  pub sound : AreTimesSound leaving
+  pub sound : AreOutputsSound leaving
   pub none_outside : leaving.to_outside.written ≡ 0
   pub none_inside : leaving.to_inside.written ≡ 0
   pub counts : AreCountsOf [] leaving.counts

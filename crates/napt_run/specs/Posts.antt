@@ -1,5 +1,5 @@
--- What a run over captures that are read as they arrive leaves on its devices, by its result: how many bytes of its text
--- each output has, and which fault the run returns. Nothing is said of the bytes of a device that are not known.
+-- What a run over captures that are read as they arrive leaves on its devices, by its result: how many bytes of its
+-- text each output has, and which fault the run returns. Nothing is said of the bytes of a device that are not known.
 use Rattle.std.specs.Prelude.{◌≡◌, ◌⊎◌, ⊤, ℕ, ◌+◌, ◌-◌, ◌^◌, ◌≤◌, min, List, length, take, Bool, true, false, Option, Result, Ok, Err, IfOk, IsOk}
 use Rattle.std.specs.Io.KnownBytes.{Appends}
 use Rattle.napt_capture.specs.{Reading.IsReadFault, Text.file_header, declared.{device.Sink.Ghosts, fault.WriteFault.WriteFault}}
@@ -59,7 +59,8 @@ ExtentPost which (Err (Write Report fault)) all inputs count size =
     IsOk all.end × (inputs ≡ all.arrivals) × (count ≡ size)
 -- All of them, of the inputs before the fault, or of some first inputs if a read failed or memory was refused.
 ExtentPost which (Err (Capture side fault)) all inputs count size =
-    IsReadFault fault (all ≡ record { arrivals = inputs; end = Err (record { side = side; fault = fault }) }) × (count ≡ size)
+    IsReadFault fault (all ≡ record { arrivals = inputs; end = Err (record { side = side; fault = fault }) }) ×
+    (count ≡ size)
 ExtentPost which (Err (Write Outside fault)) all inputs count size = WriteExtent which Outside fault count size
 ExtentPost which (Err (Write Inside fault)) all inputs count size = WriteExtent which Inside fault count size
 ExtentPost which (Err (Write Log fault)) all inputs count size = WriteExtent which Log fault count size

@@ -30,7 +30,7 @@ abbrev pub last_time : Option ℕ → List Trace → Option ℕ
 last_time last [] = last
 last_time last (trace ∷ traces) = last_time (Some trace.now) traces
 
--- no call of a log failed after this; or one, if none had failed before
+-- No call of the log failed, or exactly one did if none had failed before.
 abbrev pub FailsMore : Bool → ℕ → ℕ → Type 0
 FailsMore is_broken old new = (new ≡ old) ⊎ ((is_broken ≡ false) × (new ≡ old + 1))
 
@@ -74,7 +74,7 @@ input_rows from before trace =
     (part_between (last_trace_time from.origin.state.clock before) trace.now log (after_input log trace))
 
 module _ {L : Type 0} {S : Ghosts L} where
-  -- it took these traces, no more than it can count, and goes on
+  -- The log took these traces, which are no more than it can count, and goes on.
   pub record LogIsAt (from : LoggedOrigin) (traces : List Trace) (it : LogWriter L S) : Type 0 where
     pub log : it.log ≡ known_logs from traces
     pub few : length traces < 2 ^ 62
@@ -82,7 +82,7 @@ module _ {L : Type 0} {S : Ghosts L} where
     pub each : option_map non_zero_u32_get it.each ≡ from.each
     pub goes_on : it.goes_on ≡ from.goes_on
 
-  -- a log as it is taken up, over a state
+  -- A log as it is taken up at a state.
   abbrev pub running_log_of : OriginModel → LogWriter L S → LoggedOrigin
   running_log_of origin it = record {
     origin = origin;
@@ -92,7 +92,7 @@ module _ {L : Type 0} {S : Ghosts L} where
     goes_on = it.goes_on;
   }
 
-  -- nothing was entered, and nothing written
+  -- Nothing was entered, and nothing was written.
   pub record IsReady (origin : OriginModel) (it : LogWriter L S) : Type 0 where
     pub at : LogIsAt (running_log_of origin it) [] it
     pub laws : AreLaws origin it.log.log
@@ -104,12 +104,12 @@ module _ {L : Type 0} {S : Ghosts L} where
     pub at : LogIsAt from traces new
     pub wrote : OutputGrows old text new.output
 
-  -- the rows of these traces were written
+  -- The rows of these traces were written.
   abbrev pub Enters : LogWriter L S → List Trace → LogWriter L S → Type 0
   Enters old traces new = (from : LoggedOrigin) (before : List Trace) → LogIsAt from before old →
       LogGoesOnFrom from (before ++ traces) (rows_in from before traces) old.output new
 
-  -- the log failed behind the first of these traces
+  -- The log took the first of these traces and then failed.
   pub record LogHalts (from : LoggedOrigin) (before traces : List Trace) (fault : RunFault) (old new : LogWriter L S) :
       Type 0 where
     pub first : List Trace
@@ -124,7 +124,7 @@ module _ {L : Type 0} {S : Ghosts L} where
   FailsBy from before traces (Run fault) old new = LogHalts from before traces fault old new
   FailsBy from before traces other old new = ⊥
 
-  -- entering these traces failed
+  -- Entering these traces failed.
   abbrev pub LogFails : LogWriter L S → List Trace → Fault → LogWriter L S → Type 0
   LogFails old traces fault new = (from : LoggedOrigin) (before : List Trace) → LogIsAt from before old →
       FailsBy from before traces fault old new
@@ -140,20 +140,21 @@ module _ {L : Type 0} {S : Ghosts L} where
   Adds from traces text old (Err (Write Log fault)) new = Breaks old text fault new.output
   Adds from traces text old (Err other) new = ⊥
 
-  -- the same of a text that is made first; where that fails, nothing was written
-  abbrev pub Closes : {T : Type 0} → LoggedOrigin → List Trace → TimeText → Output L S → Result T Fault → LogWriter L S →
+  -- The same holds of a text that is made first. If making it fails, nothing was written.
+  abbrev pub Closes : {T : Type 0} → LoggedOrigin → List Trace → TimeText → Output L S → Result T Fault →
+      LogWriter L S →
       Type 0
   Closes from traces text old (Ok left) new = LogFlushes from traces text old new
   Closes from traces text old (Err (Write Log fault)) new = Breaks old text fault new.output
   Closes from traces text old (Err (Run reasons.Memory)) new = new.output ≡ old
   Closes from traces text old (Err other) new = ⊥
 
-  -- how its text begins was written and flushed
+  -- The opening of its text was written and flushed.
   abbrev pub Opens : LogWriter L S → LogWriter L S → Type 0
   Opens old new = (from : LoggedOrigin) → LogIsAt from [] old →
       LogFlushes from [] (string_bytes old.opening) old.output new
 
-  -- after a fault it is flushed, unless a call of it failed before or does so now
+  -- After a fault the log is flushed, unless a call of it failed before or fails now.
   pub record FlushPost (old new : Output L S) : Type 0 where
     pub same : new.device.ghost_name ≡ old.device.ghost_name
     pub kept : Appends (S.contents old.device.now) (S.contents new.device.now) []
@@ -161,13 +162,14 @@ module _ {L : Type 0} {S : Ghosts L} where
     pub tried : old.is_broken ≡ false →
         S.is_flushed new.device.now ⊎ (S.failed new.device.now ≡ S.failed old.device.now + 1)
 
-  -- that is done after a fault of the run, of a worker or of another output; after one of a capture it is flushed already
+  -- That is done after a fault of the run, of a worker or of another output; after one of a capture it is flushed
+  -- already.
   abbrev pub IsAfterFault : Fault → LogWriter L S → LogWriter L S → Type 0
   IsAfterFault (Capture side fault) old new = new ≡ old
   IsAfterFault (Write Log fault) old new = new ≡ old
   IsAfterFault other old new = FlushPost old.output new.output
 
-  -- the log took the next trace, and these are its rows
+  -- The log took the next trace, and these are its rows.
   pub record EntersWith (from : LoggedOrigin) (before : List Trace) (trace : Trace) (old new : LogWriter L S)
       (text : TimeText) : Type 0 where
     pub log : new.log ≡ known_logs from (before ++ trace ∷ [])
@@ -177,7 +179,7 @@ module _ {L : Type 0} {S : Ghosts L} where
     pub goes_on : new.goes_on ≡ old.goes_on
     pub rows : text ≡ input_rows from before trace
 
-  -- or failed
+  -- Or the log failed.
   abbrev pub EntersNot : LoggedOrigin → List Trace → Trace → LogWriter L S → Fault → LogWriter L S → Type 0
   EntersNot from before trace old (Run fault) new =
       (new.output ≡ old.output) × IsBuilderFault (known_logs from before) trace fault

@@ -4,7 +4,7 @@ use Rattle.napt_wire.specs.declared.Side.{Side}
 use Rattle.napt_run.specs.Origins.{GivesState, OriginModel, ran_by}
 use Rattle.napt_dispatch.specs.RunsThrough.{timed_results}
 use Rattle.napt_records.specs.{Counts.AreCountsOf, RecordMerging.MergedInputs}
-use Rattle.napt_run.specs.{Captures.IfKnown, OutputSinks.{TimedOutcomes, records_text}, Files.files_until, declared.capture_run.Totals.Totals}
+use Rattle.napt_run.specs.{Captures.IfKnown, OutputSinks.{TimedOutcome, records_text}, Files.files_until, declared.capture_run.Totals.Totals}
 use Rattle.napt_rules.specs.Prelude.{Arrival}
 
 -- This holds of the inputs of the captures, if their bytes are known.
@@ -12,14 +12,14 @@ abbrev pub IfHeld : Option (List ℕ) → Option (List ℕ) → (MergedInputs �
 IfHeld inside outside Holds = IfKnown inside outside (λ bytes others. Holds (files_until bytes others))
 
 -- The outcomes of these inputs, with their times.
-abbrev pub run_left_of : OriginModel → List Arrival → List TimedOutcomes
+abbrev pub run_left_of : OriginModel → List Arrival → List TimedOutcome
 run_left_of origin inputs = timed_results inputs (ran_by origin inputs).outcomes
 
 -- The text of the records that go to a side, after a text that is already there.
-abbrev pub text_behind : List ℕ → OriginModel → Side → List Arrival → List ℕ
-text_behind front origin side inputs = front ++ records_text side (run_left_of origin inputs)
+abbrev pub text_after : List ℕ → OriginModel → Side → List Arrival → List ℕ
+text_after front origin side inputs = front ++ records_text side (run_left_of origin inputs)
 
--- what the report says of all inputs
+-- What the report says of all inputs.
 pub record IsToldOf (origin : OriginModel) (inside outside : Option (List ℕ)) (totals : Totals) : Type 0 where
   pub inputs : List Arrival
   pub all : IfHeld inside outside (λ all. all ≡ record { arrivals = inputs; end = Ok totals.cuts })

@@ -27,7 +27,7 @@ side_of Inside = sides.Inside
 side_of Report = sides.Inside
 side_of Log = sides.Inside
 
--- the inputs before a fault of a side; a front of them, if its device or memory failed
+-- The inputs before a fault of a side, or some first ones of them if its device or memory failed.
 abbrev pub AreTaken : Side → CaptureFault → MergedInputs → List Arrival → Type 0
 AreTaken side fault all inputs =
     IsFrontOf inputs all.arrivals
@@ -67,7 +67,7 @@ IsStreamFaultOf side Memory all = Unit {0}
 IsStreamFaultOf side TooLarge all = ⊥
 IsStreamFaultOf side fault all = all.end ≡ Err (record { side = side; fault = fault })
 
--- a fault of the run itself, or of its log
+-- A fault of the run itself, or of its log.
 abbrev pub IsOfRun : {T : Type 0} → Result T Fault → Type 0
 IsOfRun (Err (Run fault)) = Unit {0}
 IsOfRun (Err (Write Log fault)) = Unit {0}
@@ -109,7 +109,7 @@ HasRead inside_failed outside_failed old new other_old other_new result =
 
 -- THE DEVICES
 
--- what a run leaves on the device of the report
+-- What a run leaves on the device of the report.
 pub record ReportGetsFrom {D : Type 0} (S : sink.Ghosts D) (origin : OriginModel) (inside outside : Option (List ℕ))
     (result : Result (Unit {0}) Fault) (old new : D) : Type 0 where
   pub gets : Reports origin result inside outside (S.contents old) (S.contents new)
@@ -124,7 +124,7 @@ LeavesInTheEnd origin inside outside passed =
 -- STEPS
 
 -- The header of a capture of these bytes was read, and nothing else.
-pub record IsBehindHeader {R : Type 0} (G : Ghosts R) (records : RecordReader) (bytes : Option (List ℕ)) (source : R)
+pub record IsAfterHeader {R : Type 0} (G : Ghosts R) (records : RecordReader) (bytes : Option (List ℕ)) (source : R)
     : Type
     0 where
   pub header : LeavesBytes bytes (G.remaining source)
@@ -140,7 +140,7 @@ IsHeaderFault side old new (Capture other fault) =
     (λ bytes left. (format_in (take 24 bytes) ≡ Err fault) × (left ≡ drop 24 bytes))))
 IsHeaderFault side old new other = ⊥
 
--- a report could not be made or written
+-- A report could not be made or written.
 abbrev pub IsReportFault : Fault → Type 0
 IsReportFault (Write Report fault) = Unit {0}
 IsReportFault (Run faults.Memory) = Unit {0}

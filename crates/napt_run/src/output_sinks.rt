@@ -46,7 +46,7 @@ pub(crate) fn vector_of(outcome: Outcome) -> Option<Vec<u8>> {
 impl<'a, 'b, W: Sink, V: Sink> Leaving<'a, 'b, W, V> {
     ghost use Rattle.std.specs.Prelude.{◌∷◌, [], IfErr, MatchResult, OnOk};
     ghost use Rattle.napt_records.specs.Counts.{AreCountsOf};
-    ghost use Rattle.napt_run.specs.OutputSinks.{AreTimesSound, IsOfOutput, SinkBegins, SinkFails, FailsToBegin, IsSettled, SinkTakes};
+    ghost use Rattle.napt_run.specs.OutputSinks.{AreOutputsSound, IsOfOutput, SinkBegins, SinkFails, FailsToBegin, IsSettled, SinkTakes};
 
     /// Returns both captures over these outputs, before anything is written.
     pub(crate) fn into(to_outside: Output<'a, W>, to_inside: Output<'b, V>) -> Leaving<'a, 'b, W, V>
@@ -65,7 +65,7 @@ impl<'a, 'b, W: Sink, V: Sink> Leaving<'a, 'b, W, V> {
     pub(crate) fn begin(&mut self) -> Result<(), Fault>
         ensures ok { OnOk result (SinkBegins self.old self.new) }
         ensures settled { OnOk result (IsSettled self.new) }
-        ensures err { AreTimesSound self.old →
+        ensures err { AreOutputsSound self.old →
             IfErr result (λ fault. FailsToBegin self.old fault self.new) }
     {
         if let Err(fault) = self.to_outside.start() {

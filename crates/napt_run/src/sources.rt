@@ -1,7 +1,7 @@
 //! The captures that a run reads.
 ghost use Rattle.std.specs.Prelude.{◌≡◌, ◌+◌, List, Option, ℕ, IfErr, IfOk};
 ghost use Rattle.napt_run.specs.{Captures.failed_readings, OutputSinks.{IsNew, IsSettled, SinkBegins}, Origins.origin_of, Posts.RunsTo, LoggedOutputSinks.IsSameSinkPlace, LogRuns.LogsTo, declared.output_sinks.Leaving.Leaving as KnownLeaving};
-ghost use Rattle.napt_run.specs.Streams.{HasRead, IsBehindHeader, IsHeaderFault, IsOfRun};
+ghost use Rattle.napt_run.specs.Streams.{HasRead, IsAfterHeader, IsHeaderFault, IsOfRun};
 
 use crate::capture_run::Totals;
 use crate::logged_output_sinks::LeavingWithLog;
@@ -50,11 +50,11 @@ impl<
             inside: ours,
             outside: theirs,
         };
-        self.run_behind_headers(inside, outside, records, both)
+        self.run_after_headers(inside, outside, records, both)
     }
 
     /// Runs over the captures, past their headers.
-    fn run_behind_headers<R: Source, Q: Source, W: Sink, V: Sink, K: StreamLog>(
+    fn run_after_headers<R: Source, Q: Source, W: Sink, V: Sink, K: StreamLog>(
         self,
         inside: &mut R,
         outside: &mut Q,
@@ -62,15 +62,15 @@ impl<
         both: &mut LeavingWithLog<'_, '_, '_, W, V, K>,
     ) -> Result<Totals, Fault>
         ensures runs { (bytes others : Option (List ℕ)) (begun : KnownLeaving W V W.Sink V.Sink) →
-            IsBehindHeader R.Source records.inside bytes inside.old →
-            IsBehindHeader Q.Source records.outside others outside.old → IsNew begun →
+            IsAfterHeader R.Source records.inside bytes inside.old →
+            IsAfterHeader Q.Source records.outside others outside.old → IsNew begun →
             SinkBegins begun both.old.leaving →
             RunsTo (origin_of self.entry.start) bytes others begun both.new.leaving result }
         ensures readings { (¬ IsOfRun result) → HasRead R.failed Q.failed
             inside.old inside.new outside.old outside.new result }
         ensures logs { (bytes others : Option (List ℕ)) →
-            IsBehindHeader R.Source records.inside bytes inside.old →
-            IsBehindHeader Q.Source records.outside others outside.old →
+            IsAfterHeader R.Source records.inside bytes inside.old →
+            IsAfterHeader Q.Source records.outside others outside.old →
             LogsTo K.Told.tells (origin_of self.entry.start) K.enters K.fails K.is_settled bytes
             others both.old.log.now both.new.log.now G.is_open result }
         ensures same { IsSameSinkPlace both.old both.new }
@@ -89,7 +89,7 @@ impl<
 /// Reads the header of a side's capture.
 fn read_header<R: Source>(alloc: Global, side: Side, source: &mut R) -> Result<RecordReader, Fault>
     ensures header { IfOk result (λ records.
-        IsBehindHeader R.Source records (R.remaining source.old) source.new) }
+        IsAfterHeader R.Source records (R.remaining source.old) source.new) }
     ensures fault { IfErr result (IsHeaderFault side (R.remaining source.old)
         (R.remaining source.new)) }
     ensures count { R.failed source.new ≡ R.failed source.old + failed_readings side result }

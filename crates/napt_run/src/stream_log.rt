@@ -25,8 +25,8 @@ pub trait StreamLog {
     // Between the two states it was opened.
     ghost opens: { Self → Self → Type 0 };
 
-    // In the first state these were entered, in this order, and it came to the second. An entry has the time of an input's
-    // legs and what is told of both.
+    // In the first state these were entered, in this order, and it came to the second. An entry has the time of an
+    // input's legs and what is told of both.
     ghost enters: { Self → List (ℕ × Self.Told × Self.Told) → Self → Type 0 };
 
     // In the first state entering these ended in this fault, and it came to the second.
@@ -35,7 +35,8 @@ pub trait StreamLog {
     // What was entered is at its destination.
     ghost is_settled: { Self → Type 0 };
 
-    // What a run over captures whose bytes are known, or not, leaves in it, by its result with what is saved of the log.
+    // What a run over captures whose bytes are known, or not, leaves in it, by its result with what is saved of the
+    // log.
     ghost post: { OriginModel → Option (List ℕ) → Option (List ℕ) → Result LogModel KnownFault → Self → Self → Type 0 };
 
     /// Begins it, before anything else is written, and flushes it.

@@ -37,8 +37,8 @@ pub fn thousand_inputs(alloc: Global) -> Result<Vec<Input>, AllocError> {
     Ok(inputs)
 }
 
-/// Sixteen hosts, each with an external address of its own, send to the resolver, and then each to all the others in turn, one packet
-/// in each millisecond.
+/// Sixteen hosts, each with an external address of its own, send to the resolver, and then each to all the others in
+/// turn, one packet in each millisecond.
 pub fn all_to_all(alloc: Global) -> Result<Vec<Input>, AllocError> {
     let mut inputs = Vec::new(alloc);
     for k in 0..272u16 {

@@ -51,9 +51,6 @@ or_false false false h g = refl
 pub le_by : (a b : ℕ) → a ≤ b → nat_le a b ≡ true
 le_by a b by = grind (arith, nat_tests)
 
-pub lt_not : (a b : ℕ) → b < a → nat_le a b ≡ false
-lt_not a b by = grind (arith, nat_tests)
-
 module _ (made clock : ℕ) where
   -- The accounts that are still to be checked, after the given ones.
   abbrev pub fits : List Kept → List SavedBinding → Bool
@@ -67,74 +64,75 @@ module _ (made clock : ℕ) where
     abbrev pub IsLooked : ℕ → Type 0
     IsLooked k = fits [] list ≡ fits (seen k) (drop k list)
 
-    module _ (k : ℕ) (x : SavedBinding) (below : k < length list) (here : get_or list k x ≡ x) (looked : IsLooked k) where
-      rest : List SavedBinding
-      rest = drop (k + 1) list
+    module _ (k : ℕ) (x : SavedBinding) (below : k < length list) (here : get_or list k x ≡ x) (looked : IsLooked k)
+      where
+        rest : List SavedBinding
+        rest = drop (k + 1) list
 
-      next : drop k list ≡ x ∷ drop (k + 1) list
-      next =
-          let step : suc k ≡ k + 1 = omega arith in
-          drop-cons list k x below ∙ (λ i. here i ∷ drop (step i) list)
+        next : drop k list ≡ x ∷ drop (k + 1) list
+        next =
+            let step : suc k ≡ k + 1 = omega arith in
+            drop-cons list k x below ∙ (λ i. here i ∷ drop (step i) list)
 
-      pub seen_next : (ks : List Kept) → accounted_in (x ∷ []) ≡ ks → seen (k + 1) ≡ seen k ++ ks
-      seen_next ks is = ap accounted_in (take_more list k x below ∙ ap (λ y. take k list ++ y ∷ []) here)
-          ∙ accounted_behind (take k list) (x ∷ []) ∙ ap (λ js. seen k ++ js) is
+        pub seen_next : (ks : List Kept) → accounted_in (x ∷ []) ≡ ks → seen (k + 1) ≡ seen k ++ ks
+        seen_next ks is = ap accounted_in (take_more list k x below ∙ ap (λ y. take k list ++ y ∷ []) here)
+            ∙ accounted_behind (take k list) (x ∷ []) ∙ ap (λ js. seen k ++ js) is
 
-      now : fits [] list ≡ fits (seen k) (x ∷ drop (k + 1) list)
-      now = looked ∙ ap (fits (seen k)) next
+        now : fits [] list ≡ fits (seen k) (x ∷ drop (k + 1) list)
+        now = looked ∙ ap (fits (seen k)) next
 
-      looked_next : (ks : List Kept) → seen (k + 1) ≡ ks →
-          fits (seen k) (x ∷ drop (k + 1) list) ≡ fits ks (drop (k + 1) list) → IsLooked (k + 1)
-      looked_next ks is same = now ∙ same ∙ ap (λ js. fits js (drop (k + 1) list)) (sym is)
+        looked_next : (ks : List Kept) → seen (k + 1) ≡ ks →
+            fits (seen k) (x ∷ drop (k + 1) list) ≡ fits ks (drop (k + 1) list) → IsLooked (k + 1)
+        looked_next ks is same = now ∙ same ∙ ap (λ js. fits js (drop (k + 1) list)) (sym is)
 
-      pub seen_same : accounted_in (x ∷ []) ≡ [] → seen (k + 1) ≡ seen k
-      seen_same is = seen_next [] is ∙ append-nil (seen k)
+        pub seen_same : accounted_in (x ∷ []) ≡ [] → seen (k + 1) ≡ seen k
+        seen_same is = seen_next [] is ∙ append-nil (seen k)
 
-      pub looked_none : (b : Binding) → x ≡ bindings.Live b None → IsLooked (k + 1)
-      looked_none b is = looked_next (seen k) (seen_same (ap (λ y. accounted_in (y ∷ [])) is))
-          (ap (λ y. fits (seen k) (y ∷ drop (k + 1) list)) is)
+        pub looked_none : (b : Binding) → x ≡ bindings.Live b None → IsLooked (k + 1)
+        looked_none b is = looked_next (seen k) (seen_same (ap (λ y. accounted_in (y ∷ [])) is))
+            (ap (λ y. fits (seen k) (y ∷ drop (k + 1) list)) is)
 
-      pub looked_ended : (row : Row) (end : ℕ) → x ≡ bindings.Ended row end → nat_le end clock ≡ true →
-          IsLooked (k + 1)
-      looked_ended row end is by = looked_next (seen k) (seen_same (ap (λ y. accounted_in (y ∷ [])) is))
-          (ap (λ y. fits (seen k) (y ∷ drop (k + 1) list)) is
-          ∙ ap (λ v. (v && have_ended clock (drop (k + 1) list))
-          && are_accounts made clock (seen k) (accounted_in (drop (k + 1) list))) by)
+        pub looked_ended : (row : Row) (end : ℕ) → x ≡ bindings.Ended row end → nat_le end clock ≡ true →
+            IsLooked (k + 1)
+        looked_ended row end is by = looked_next (seen k) (seen_same (ap (λ y. accounted_in (y ∷ [])) is))
+            (ap (λ y. fits (seen k) (y ∷ drop (k + 1) list)) is
+            ∙ ap (λ v. (v && have_ended clock (drop (k + 1) list))
+            && are_accounts made clock (seen k) (accounted_in (drop (k + 1) list))) by)
 
-      pub late : (row : Row) (end : ℕ) → x ≡ bindings.Ended row end → nat_le end clock ≡ false →
-          fits [] list ≡ false
-      late row end is by = now ∙ ap (λ y. fits (seen k) (y ∷ drop (k + 1) list)) is
-          ∙ ap (λ v. (v && have_ended clock (drop (k + 1) list))
-          && are_accounts made clock (seen k) (accounted_in (drop (k + 1) list))) by
+        pub late : (row : Row) (end : ℕ) → x ≡ bindings.Ended row end → nat_le end clock ≡ false →
+            fits [] list ≡ false
+        late row end is by = now ∙ ap (λ y. fits (seen k) (y ∷ drop (k + 1) list)) is
+            ∙ ap (λ v. (v && have_ended clock (drop (k + 1) list))
+            && are_accounts made clock (seen k) (accounted_in (drop (k + 1) list))) by
 
-      at : (b : Binding) (a : Account) → x ≡ bindings.Live b (Some a) → fits [] list
-          ≡ (have_ended clock (drop (k + 1) list) && (is_account made clock a
-          && (not (list_any (λ o. not (are_apart (b, a) o)) (seen k))
-          && are_accounts made clock (seen k ++ (b, a) ∷ []) (accounted_in (drop (k + 1) list)))))
-      at b a is = now ∙ ap (λ y. fits (seen k) (y ∷ drop (k + 1) list)) is
+        at : (b : Binding) (a : Account) → x ≡ bindings.Live b (Some a) → fits [] list
+            ≡ (have_ended clock (drop (k + 1) list) && (is_account made clock a
+            && (not (list_any (λ o. not (are_apart (b, a) o)) (seen k))
+            && are_accounts made clock (seen k ++ (b, a) ∷ []) (accounted_in (drop (k + 1) list)))))
+        at b a is = now ∙ ap (λ y. fits (seen k) (y ∷ drop (k + 1) list)) is
 
-      pub looked_some : (b : Binding) (a : Account) → x ≡ bindings.Live b (Some a) → is_account made clock a ≡ true →
-          list_any (λ o. not (are_apart (b, a) o)) (seen k) ≡ false → IsLooked (k + 1)
-      looked_some b a is within apart = at b a is
-          ∙ ap (λ v. have_ended clock (drop (k + 1) list) && (v
-          && (not (list_any (λ o. not (are_apart (b, a) o)) (seen k))
-          && are_accounts made clock (seen k ++ (b, a) ∷ []) (accounted_in (drop (k + 1) list))))) within
-          ∙ ap (λ v. have_ended clock (drop (k + 1) list) && (not v
-          && are_accounts made clock (seen k ++ (b, a) ∷ []) (accounted_in (drop (k + 1) list)))) apart
-          ∙ ap (λ js. fits js (drop (k + 1) list))
-          (sym (seen_next ((b, a) ∷ []) (ap (λ y. accounted_in (y ∷ [])) is)))
+        pub looked_some : (b : Binding) (a : Account) → x ≡ bindings.Live b (Some a) → is_account made clock a ≡ true →
+            list_any (λ o. not (are_apart (b, a) o)) (seen k) ≡ false → IsLooked (k + 1)
+        looked_some b a is within apart = at b a is
+            ∙ ap (λ v. have_ended clock (drop (k + 1) list) && (v
+            && (not (list_any (λ o. not (are_apart (b, a) o)) (seen k))
+            && are_accounts made clock (seen k ++ (b, a) ∷ []) (accounted_in (drop (k + 1) list))))) within
+            ∙ ap (λ v. have_ended clock (drop (k + 1) list) && (not v
+            && are_accounts made clock (seen k ++ (b, a) ∷ []) (accounted_in (drop (k + 1) list)))) apart
+            ∙ ap (λ js. fits js (drop (k + 1) list))
+            (sym (seen_next ((b, a) ∷ []) (ap (λ y. accounted_in (y ∷ [])) is)))
 
-      pub misplaced : (b : Binding) (a : Account) → x ≡ bindings.Live b (Some a) →
-          (is_account made clock a && not (list_any (λ o. not (are_apart (b, a) o)) (seen k))) ≡ false →
-          fits [] list ≡ false
-      misplaced b a is fails = at b a is ∙ joined (have_ended clock (drop (k + 1) list)) (is_account made clock a)
-          (not (list_any (λ o. not (are_apart (b, a) o)) (seen k))) _ fails
-        where
-          joined : (w x y z : Bool) → (x && y) ≡ false → (w && (x && (y && z))) ≡ false
-          joined false x y z h = refl
-          joined true true true z h = cc
-          joined true true false z h = refl
-          joined true false y z h = refl
+        pub misplaced : (b : Binding) (a : Account) → x ≡ bindings.Live b (Some a) →
+            (is_account made clock a && not (list_any (λ o. not (are_apart (b, a) o)) (seen k))) ≡ false →
+            fits [] list ≡ false
+        misplaced b a is fails = at b a is ∙ joined (have_ended clock (drop (k + 1) list)) (is_account made clock a)
+            (not (list_any (λ o. not (are_apart (b, a) o)) (seen k))) _ fails
+          where
+            joined : (w x y z : Bool) → (x && y) ≡ false → (w && (x && (y && z))) ≡ false
+            joined false x y z h = refl
+            joined true true true z h = cc
+            joined true true false z h = refl
+            joined true false y z h = refl
 
     all_of : (k : ℕ) (xs : List SavedBinding) → length xs ≤ k → drop k xs ≡ []
     all_of zero [] le = refl

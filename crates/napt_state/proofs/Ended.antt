@@ -119,7 +119,8 @@ module _ (rules : Rules) (clock : ℕ) (all list : List Binding) (left : ℕ) (b
       ∙ ap (λ (d : Binding). d ∷ ended_misfits rules clock (drop left all)) is
       ∙ sym (ap (ended_misfits rules clock) here)
 
-  pub many_after : (many : ℕ) → many ≡ one_if (why rules clock b (drop left all)) + misfits_in rules clock (drop left all) →
+  pub many_after : (many : ℕ) → many ≡ one_if (why rules clock b (drop left all)) + misfits_in rules clock
+      (drop left all) →
       many ≡ misfits_in rules clock (drop (left - 1) all)
   many_after many is = is ∙ sym (ap (misfits_in rules clock) here)
 

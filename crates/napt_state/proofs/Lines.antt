@@ -51,7 +51,8 @@ in_digits : (many number : ℕ) (text : StateTextBytes) → has_mark text ≡ fa
     has_mark (digits_onto many 10 false number text) ≡ false
 in_digits zero number text none = none
 in_digits (suc many) number text none =
-    let here : has_mark (digit_glyph false (number % 10) ∷ text) ≡ false = rw (glyph (number % 10) (omega arith)) none in
+    let here : has_mark (digit_glyph false (number % 10) ∷ text) ≡ false =
+    rw (glyph (number % 10) (omega arith)) none in
     elim (number / 10 == 0) as (λ b. has_mark (if b then digit_glyph false (number % 10) ∷ text
     else digits_onto many 10 false (number / 10) (digit_glyph false (number % 10) ∷ text)) ≡ false)
     [ true ↦ here | false ↦ in_digits many (number / 10) (digit_glyph false (number % 10) ∷ text) here ]
@@ -206,17 +207,19 @@ module _ (left new : Option (List ℕ)) (old line : StateTextBytes) (text rest :
 
 -- A text that ends inside a line is that line, and has no line feed at its end.
 module _ (left : Option (List ℕ)) (old line torn : StateTextBytes) (none : old ≡ [])
-    (got : IfSome left (λ xs. line ≡ old ++ take_through 10 xs)) (left_is : left ≡ Some torn) (whole : IsLine torn) where
-  pub torn_line : torn ≡ line
-  torn_line = sym (append-nil torn) ∙ sym (take_through-append 10 torn [] whole) ∙ ap (take_through 10) (append-nil torn)
-      ∙ ap (λ l. l ++ take_through 10 torn) (sym none)
-      ∙ sym (subst (λ o. IfSome o (λ xs. line ≡ old ++ take_through 10 xs)) left_is got)
+    (got : IfSome left (λ xs. line ≡ old ++ take_through 10 xs)) (left_is : left ≡ Some torn) (whole : IsLine torn)
+  where
+    pub torn_line : torn ≡ line
+    torn_line = sym (append-nil torn) ∙ sym (take_through-append 10 torn [] whole) ∙
+        ap (take_through 10) (append-nil torn)
+        ∙ ap (λ l. l ++ take_through 10 torn) (sym none)
+        ∙ sym (subst (λ o. IfSome o (λ xs. line ≡ old ++ take_through 10 xs)) left_is got)
 
-  pub torn_read : (front : StateTextBytes) → line ≡ front ++ codes "\n" → ⊥
-  torn_read front ended =
-      let is : torn ≡ front ++ codes "\n" = torn_line ∙ ended in
-      whole (length front) 0 (omega (arith, ap length is, length-append front (codes "\n")))
-      (ap (λ l. get_or l (length front) 0) is ∙ get_or-append_seam front 10 [] 0)
+    pub torn_read : (front : StateTextBytes) → line ≡ front ++ codes "\n" → ⊥
+    torn_read front ended =
+        let is : torn ≡ front ++ codes "\n" = torn_line ∙ ended in
+        whole (length front) 0 (omega (arith, ap length is, length-append front (codes "\n")))
+        (ap (λ l. get_or l (length front) 0) is ∙ get_or-append_seam front 10 [] 0)
 
 both_parts : (xs : StateTextBytes) → take_through 10 xs ++ drop_through 10 xs ≡ xs
 both_parts [] = refl

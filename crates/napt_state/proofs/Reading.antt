@@ -4,7 +4,7 @@ use Rattle.std.proofs.lemmas.{Grind.flat_map-append}
 use Rattle.std.proofs.Common.{ℕ, ◌≡◌, ◌≤◌, ◌^◌, List, [], ◌∷◌, ◌++◌, map, flat_map, Option, Some, None, IfSome, Result, Ok, Err, OnOk, IfOk, refl, sym, ◌∙◌, ap, subst, append_assoc, append-nil}
 use Rattle.std.specs.Io.KnownBytes.{IsAtEnd}
 use Rattle.napt_rules.specs.Prelude.{Each}
-use Rattle.napt_state.specs.declared.{line.{LineCounts.LineCounts, StateLine.StateLine}, fault.StateReason.{StateReason, TheVariants.{Accounts, Unread, Memory, NotUtf8, Torn, Word, WordCount, NoBinding, Counts as OtherCounts, BehindEnd}}}
+use Rattle.napt_state.specs.declared.{line.{LineCounts.LineCounts, StateLine.StateLine}, fault.StateReason.{StateReason, TheVariants.{Accounts, Unread, Memory, NotUtf8, Torn, Word, WordCount, NoBinding, Counts as OtherCounts, AfterEnd}}}
 use Rattle.napt_state.specs.declared.line.StateLine.TheVariants as lines
 use Rattle.napt_state.specs.StateText.{StateTextBytes, IsStateLine, clock, earlier_log, end, binding_lines, log_lines, lines_between, counts_of, saved_text, line_text}
 use Rattle.napt_state.specs.StateContents.{unless_for, StateUnlessUnread, IsEarlier, IsFirstLine, IsNoEnd, IsAdded, CanFollow, empty_contents}
@@ -20,7 +20,7 @@ unless_weaker WordCount f h = f h
 unless_weaker NoBinding f h = f h
 unless_weaker OtherCounts f h = f h
 unless_weaker Accounts f h = f h
-unless_weaker BehindEnd f h = f h
+unless_weaker AfterEnd f h = f h
 
 -- What a call returns that reads the next line.
 abbrev pub Reads : Result StateLine StateReason → Option StateTextBytes → Option StateTextBytes → Type 0

@@ -67,7 +67,8 @@ module _ (clock : ℕ) (log : Option LogPosition) where
       fold step (now (front ++ bindings.Live b account ∷ [])) (map flow fs)
       ≡ now (front ++ bindings.Live (record b { flows = b.flows ++ fs }) account ∷ [])
   flows_said front b account [] =
-      ap (λ (fs : List Flow). now (front ++ bindings.Live (record b { flows = fs }) account ∷ [])) (sym (append-nil b.flows))
+      ap (λ (fs : List Flow). now (front ++ bindings.Live (record b { flows = fs }) account ∷ []))
+      (sym (append-nil b.flows))
   flows_said front b account (f ∷ fs) =
       ap (λ (l : Option (List SavedBinding)). fold step (flow_in clock log l) (map flow fs))
       (with_flow-last f front b account)

@@ -72,7 +72,8 @@ accounts_taken : (timers : Timers) (clock : ℕ) (list : List SavedBinding) →
     accounted (map (λ it. it.0) (taken_in timers clock list)) (map (λ it. it.1) (taken_in timers clock list))
     ≡ accounted_in list
 accounts_taken timers clock [] = refl
-accounts_taken timers clock (bindings.Live b account ∷ list) = ap (with_account b account) (accounts_taken timers clock list)
+accounts_taken timers clock (bindings.Live b account ∷ list) =
+    ap (with_account b account) (accounts_taken timers clock list)
 accounts_taken timers clock (bindings.Ended row end ∷ list) =
     held_none (is_live timers clock (binding_until timers row end)) (binding_until timers row end)
     (taken_in timers clock list) ∙ accounts_taken timers clock list
@@ -93,7 +94,8 @@ log_can_begin timers saved has =
 started_can_begin : (ends : Bool) (rules : Rules) (saved : StateFileModel) → HasAccounts saved →
     is_saved_log_state (taken_of ends rules saved).state (taken_of ends rules saved).log ≡ true
 started_can_begin false rules saved has = log_can_begin rules.timers saved has
-started_can_begin true rules saved has = accounts_stay rules (state_taken rules.timers saved) (log_taken rules.timers saved)
+started_can_begin true rules saved has = accounts_stay rules (state_taken rules.timers saved)
+    (log_taken rules.timers saved)
     ∙ log_can_begin rules.timers saved has
 
 pub taken_up : (ends : Bool) (rules : Rules) (saved : StateFileModel) (taken : TakenState) →
@@ -102,7 +104,8 @@ pub taken_up : (ends : Bool) (rules : Rules) (saved : StateFileModel) (taken : T
 taken_up ends rules saved taken is found found_is none = record {
   whole = is;
   fits = sym found_is ∙ none;
-  accounts = λ has. ap (λ (t : TakenState). is_saved_log_state t.state t.log) is ∙ started_can_begin ends rules saved has;
+  accounts = λ has. ap (λ (t : TakenState). is_saved_log_state t.state t.log) is ∙
+      started_can_begin ends rules saved has;
 }
 
 pub not_taken : (ends : Bool) (rules : Rules) (saved : StateFileModel) (taken : TakenState) →

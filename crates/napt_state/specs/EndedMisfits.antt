@@ -1,7 +1,7 @@
 -- Which bindings of a state end at the start of a run, so that its configuration keeps the others.
 --
--- A configuration may have another pool than the one before, other inside prefixes or other redirects. A binding that it
--- cannot keep ends at the clock of the state, and its number is free. All others go on as they are.
+-- A configuration may have another pool than the one before, other inside prefixes or other redirects. A binding that
+-- it cannot keep ends at the clock of the state, and its number is free. All others go on as they are.
 use Rattle.std.specs.Prelude.{◌≡◌, ℕ, ◌+◌, ◌*◌, ◌≤◌, Bool, false, not, ◌&&◌, cond, List, [], ◌∷◌, Option, Some, None}
 use Rattle.napt_config.specs.Rules.{Rules, AreTimers}
 use Rattle.napt_rules.specs.{Prelude.{Binding, State, Timers, dynamic_bindings, hold_ago, is_live, misfit, ns_per_second, with_live_flows}, Misfits.misfit_of, declared.Misfit.Misfit}
@@ -67,13 +67,14 @@ misfit_count rules state = misfits_in rules state.clock state.list
 
 -- LAWS
 
--- The clock is past a timer and the hold, as each is that is a date: a binding that was last used at the time 0 is not held.
+-- The clock is past a timer and the hold, as each is that is a date: a binding that was last used at the time 0 is not
+-- held.
 abbrev pub IsLate : Timers → ℕ → Type 0
 IsLate timers clock = ((timers.icmp + timers.hold) * ns_per_second ≤ clock)
     × ((timers.udp + timers.hold) * ns_per_second ≤ clock)
 
--- What goes on of a state without its misfits are the bindings that fit, and the configuration takes it. In a log, the entry
--- of a binding that is given up ends at the start.
+-- What goes on of a state without its misfits are the bindings that fit, and the configuration takes it. In a log, the
+-- entry of a binding that is given up ends at the start.
 pub record EndsMisfits (rules : Rules) (state : State) : Type 0 where
   pub rest : dynamic_bindings rules (without_misfits rules state)
       ≡ fitting_in rules state.clock state.list

@@ -1,12 +1,13 @@
 -- What a run saves of its state and its log, and what another one takes up.
 --
--- RFC 6888, REQ-8: an external number is held for a time after its binding has ended. So a binding that has ended is saved
--- with its end, and whatever timers the next run has, it ended then: it is not live again, and its number is held as long.
+-- RFC 6888, REQ-8: an external number is held for a time after its binding has ended. So a binding that has ended is
+-- saved with its end, and whatever timers the next run has, it ended then: it is not live again, and its number is held
+-- as long.
 use Rattle.napt_state.specs.StateFiles.{StateFileModel}
 use Rattle.std.specs.Prelude.{◌≡◌, ℕ, ◌-◌, ◌*◌, ◌^◌, ◌≤◌, nat_le, Bool, true, false, ◌&&◌, cond, List, [], ◌∷◌, map, flat_map, Option, Some, None, Result, Ok, Err}
 use Rattle.napt_config.specs.Rules.{Rules}
 use Rattle.napt_wire.specs.declared.Protocol.{Protocol, TheVariants.{Icmp, Tcp, Udp}}
-use Rattle.napt_rules.specs.{Prelude.{AreTimers, Binding, Each, State, Timers, is_live, ns_per_second}, Misfits.misfit, Marks.no_marks, declared.{Flow.Flow, Misfit.Misfit, Row.Row}}
+use Rattle.napt_rules.specs.{Prelude.{AreTimers, Binding, Each, IsStateInOrder, State, Timers, is_live, ns_per_second}, Misfits.misfit, Marks.no_marks, declared.{Flow.Flow, Misfit.Misfit, Row.Row}}
 use Rattle.napt_binding.specs.Ends.{end_by_protocol, end_of}
 use Rattle.napt_account.specs.LogStarts.{SavedLogStateModel, are_accounts, is_saved_log_state, with_account}
 use Rattle.napt_account.specs.declared.account.Account.{Account}
@@ -41,6 +42,13 @@ contents_of rules state log = record {
   log = position_of log;
   bindings = saved_bindings rules.timers state.clock state.list (accounts_of log);
 }
+
+-- A file has the state that a run left, in the order in which it is saved, and what it keeps of the run's log, if any.
+pub record IsSavedState (rules : Rules) (state : State) (file : StateFileModel) : Type 0 where
+  pub ordered : State
+  pub order : IsStateInOrder rules state ordered
+  pub log : Option (SavedLogStateModel × LogEnd)
+  pub contents : file ≡ contents_of rules ordered log
 
 -- WHAT CAN BE SAVED: accounts of one log, and ends by the clock
 

@@ -52,7 +52,8 @@ HasNoLast list = (before : List SavedBinding) (last : Binding) (account : Option
 
 -- A text that has the log of a state in the form of earlier versions.
 abbrev pub IsEarlier : List ℕ → Type 0
-IsEarlier text = (front rest : List ℕ) × (made length : ℕ) × (text ≡ front ++ (line_text (earlier_log made length) ++ rest))
+IsEarlier text = (front rest : List ℕ) × (made length : ℕ) ×
+    (text ≡ front ++ (line_text (earlier_log made length) ++ rest))
 
 -- The text is that of what was read, unless an earlier version wrote it.
 abbrev pub IsReadAs : List ℕ → StateFileModel → Type 0

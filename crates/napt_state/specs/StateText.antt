@@ -89,7 +89,8 @@ abbrev pub flow_words : Flow → List StateTextBytes
 flow_words flow = codes "flow" ∷ endpoint_words flow.remote (decimal flow.last ∷ marks_words flow.marks)
 
 abbrev pub log_words : LogPosition → List StateTextBytes
-log_words log = codes "log" ∷ decimal log.made ∷ decimal log.end.piece ∷ decimal log.end.length ∷ decimal log.end.row ∷ []
+log_words log = codes "log" ∷ decimal log.made ∷ decimal log.end.piece ∷ decimal log.end.length ∷ decimal log.end.row ∷
+    []
 
 -- In the form of earlier versions.
 abbrev pub earlier_log_words : ℕ → ℕ → List StateTextBytes

@@ -35,7 +35,7 @@ pub enum StateReason {
     /// held that ends after it.
     Accounts,
     /// Something follows the last line.
-    BehindEnd,
+    AfterEnd,
 }
 
 /// What a word of a line has to be.
@@ -110,7 +110,7 @@ impl fmt::Display for StateFault {
             StateReason::NoBinding => f.write_str("a flow that belongs to no binding"),
             StateReason::Counts => f.write_str("counts that do not match the lines"),
             StateReason::Accounts => f.write_str("numbers that no log can have"),
-            StateReason::BehindEnd => f.write_str("text after the end"),
+            StateReason::AfterEnd => f.write_str("text after the end"),
         }
     }
 }

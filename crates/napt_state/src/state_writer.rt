@@ -162,7 +162,7 @@ impl<R: BufRead + Drop> SavedState<R> {
         }
         match self.next()? {
             None => Ok(()),
-            Some(_) => Err(StateReason::BehindEnd),
+            Some(_) => Err(StateReason::AfterEnd),
         }
     }
 

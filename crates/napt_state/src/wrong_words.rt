@@ -9,7 +9,7 @@ use std::alloc::Global;
 const SHOWN: usize = 40;
 
 /// Returns the words after the first one of a line.
-fn words_behind(kind: &str) -> &'static [StateField] {
+fn words_after(kind: &str) -> &'static [StateField] {
     use StateField::{Address, Count, End, Few, Mark, Number, Protocol, Row};
     match kind {
         "clock" => &[Count],
@@ -47,7 +47,7 @@ fn is_plain(number: &str) -> bool {
 fn is_right(kind: StateField, line: &str, place: usize) -> bool {
     let word = fields::word(line, place);
     match kind {
-        StateField::Kind => !words_behind(word).is_empty(),
+        StateField::Kind => !words_after(word).is_empty(),
         StateField::Protocol => fields::protocol(line, place).is_some(),
         StateField::Address => word.parse::<Address>().is_ok() && word.split('.').all(is_plain),
         StateField::Number => word.parse::<u16>().is_ok() && is_plain(word),
@@ -73,7 +73,7 @@ pub(crate) fn wrong_word(alloc: Global, kind: StateField, word: &str) -> StateRe
 /// Returns what is wrong with a line, without the line feed at its end, that is not one of a state.
 pub(crate) fn reason_of(alloc: Global, line: &str) -> StateReason {
     let first = fields::word(line, 0);
-    let behind = words_behind(first);
+    let behind = words_after(first);
     if behind.is_empty() {
         return wrong_word(alloc, StateField::Kind, first);
     }

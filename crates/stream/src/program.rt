@@ -89,7 +89,7 @@ fn run<R: ProgramHost + Clock>(
         outputs,
     } = devices;
     let gate = gate(rt.alloc(), config.pool().len())?;
-    let progress = ProgressReport::of(rt, again(&gate)?, call, state.clock);
+    let progress = ProgressReport::of(rt, share_gate(&gate)?, call, state.clock);
     let captures = CaptureDevices {
         inside: CountedDevice::over(inside, &progress),
         outside: CountedDevice::over(outside, &progress),
@@ -127,7 +127,7 @@ fn gate(alloc: Global, workers: usize) -> Result<Arc<CountingGate>, Stop>
 }
 
 /// Returns one more reference to the gate. Fails with `MEMORY` if memory is refused.
-fn again(gate: &Arc<CountingGate>) -> Result<Arc<CountingGate>, Stop>
+fn share_gate(gate: &Arc<CountingGate>) -> Result<Arc<CountingGate>, Stop>
     ensures { IfErr result (λ stop. stop ≡ MEMORY) }
 {
     gate.clone().map_err(|_| MEMORY)

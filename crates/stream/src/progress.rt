@@ -46,7 +46,7 @@ pub struct ProgressReport<'r, R> {
     began: Option<Instant>,
     packets: Cell<u64>,
     /// The mark of the last line, or `ProgressMark::BEGIN` if there was none.
-    told: Cell<ProgressMark>,
+    printed: Cell<ProgressMark>,
 }
 
 impl<'r, R> ProgressReport<'r, R> {
@@ -77,7 +77,7 @@ impl<'r, R: Eprint + Clock + AllocGlobal> ProgressReport<'r, R> {
             clock: Cell::new(clock),
             began,
             packets: Cell::new(0),
-            told: Cell::new(ProgressMark::BEGIN),
+            printed: Cell::new(ProgressMark::BEGIN),
         }
     }
 
@@ -103,7 +103,7 @@ impl<'r, R: Eprint + Clock + AllocGlobal> ProgressReport<'r, R> {
         let Some(now) = self.mark() else {
             return;
         };
-        let told = self.told.get();
+        let told = self.printed.get();
         if now.millis < FIRST_AFTER || now.millis.saturating_sub(told.millis) < EACH {
             return;
         }
@@ -113,12 +113,12 @@ impl<'r, R: Eprint + Clock + AllocGlobal> ProgressReport<'r, R> {
         let _ = eprint!(self.rt;
             "\r{name}: {packets} packets, {rate} a second, {bindings} bindings    "
         );
-        self.told.set(now);
+        self.printed.set(now);
     }
 
     /// Replaces the line, if any, by the packets of the whole run and the bindings after it.
     pub fn print_end(&self) {
-        if self.told.get().millis == 0 {
+        if self.printed.get().millis == 0 {
             return;
         }
         let Some(now) = self.mark() else {

@@ -1,9 +1,12 @@
 //! A run over open files, with its log if one is named.
 
-ghost use Rattle.std.specs.Prelude.{◌≡◌, ◌&&◌, IfErr, IfOk, None, Some, false, if◌then◌else◌, is_some, option_map, true};
+ghost use Rattle.std.specs.Prelude.{◌≡◌, ◌&&◌, IfErr, IfOk, IfSome, None, Some, false, if◌then◌else◌, is_some, option_map, true};
 ghost use Rattle.napt_account.specs.LogStarts.{is_saved_log_state};
 ghost use Rattle.napt_program.specs.{CommandLine.files_with_log, Command.{IsOfLog, IsRunStop}, declared.streams.StandardStreams.StandardStreams};
 ghost use Rattle.napt_account.specs.Prelude.{TakesState};
+ghost use Rattle.napt_dispatch.specs.RunsThrough.{LeavesState};
+ghost use Rattle.napt_rules.specs.Prelude.{IsStateInOrder, State as LeftState};
+ghost use Rattle.napt_state.specs.Saved.{IsSavedState};
 ghost use Rattle.napt_records.specs.Faults.{is_shut_gate_fault};
 
 use crate::counting_gate::CountingGate;
@@ -254,6 +257,8 @@ fn ended(
     requires gate { IfErr answer (λ fault. is_shut_gate_fault fault ≡ false) }
     requires log { IfErr answer (IsOfLog (files_with_log options.now)) }
     ensures saved { IfOk result (λ left. is_some left.state ≡ is_some options.now.files.save) }
+    ensures left { IfOk answer (λ end. (state : LeftState) → LeavesState config.now state end.passed →
+        IfOk result (λ left. IfSome left.state (IsSavedState config.now state))) }
     ensures stop { (streams : StandardStreams) → IfErr result
         (IsRunStop streams (files_with_log options.now)) }
 {
@@ -281,6 +286,8 @@ fn ended_with_log<T: Write + Drop, F: SeekableFile + Drop, R: Files + AllocGloba
     requires gate { IfErr answer (λ fault. is_shut_gate_fault fault ≡ false) }
     requires log { is_some options.now.log ≡ true }
     ensures saved { IfOk result (λ left. is_some left.state ≡ is_some options.now.files.save) }
+    ensures left { IfOk answer (λ end. (state : LeftState) → LeavesState config.now state end.passed →
+        IfOk result (λ left. IfSome left.state (IsSavedState config.now state))) }
     ensures stop { (streams : StandardStreams) → IfErr result
         (IsRunStop streams (files_with_log options.now)) }
 {
@@ -307,6 +314,8 @@ fn contents(
     log: Option<(&OpenLog, LogEnd)>,
 ) -> Result<Option<StateFileContents>, Stop>
     ensures saved { IfOk result (λ made. is_some made ≡ is_some state) }
+    ensures left { (left : LeftState) → IfSome state (IsStateInOrder config.now left) →
+        IfOk result (λ made. IfSome made (IsSavedState config.now left)) }
     ensures stop { IfErr result (λ stop. stop ≡ MEMORY) }
 {
     let Some(state) = state else {

@@ -16,7 +16,7 @@ pub(crate) struct Line<'a, R> {
 }
 
 /// Prints an answer as `{:?}` does.
-pub(crate) fn tell<R: Print, T: Debug>(rt: &R, answer: &T) -> Result<(), CallFault> {
+pub(crate) fn print_answer<R: Print, T: Debug>(rt: &R, answer: &T) -> Result<(), CallFault> {
     println!(rt; "{answer:?}").map_err(|_| CallFault::File)
 }
 

@@ -1,7 +1,7 @@
 //! The log of a run over inputs.
 
 use crate::CallFault;
-use crate::play::line::{Line, tell};
+use crate::play::line::{Line, print_answer};
 use napt_account::{LoggedRun, in_order_of_making};
 use napt_config::Config;
 use napt_sequential::Input;
@@ -24,7 +24,7 @@ pub(crate) fn take_input<R: Print>(
 
 /// `logged`: prints the entries that the log ends, makes and refuses with each input, and what the input did to the
 /// bindings; then the entries that remain, and all entries in the order of making.
-pub(crate) fn tell_log<R: Print>(
+pub(crate) fn print_log<R: Print>(
     line: &Line<'_, R>,
     config: Option<&Config>,
     inputs: &[Input],
@@ -48,5 +48,5 @@ pub(crate) fn tell_log<R: Print>(
     print!(rt; "{living:?}; ").map_err(|_| CallFault::File)?;
     listed.append(&mut living).map_err(|_| CallFault::Call)?;
     let log = in_order_of_making(alloc, listed).map_err(|_| CallFault::Call)?;
-    tell(line.rt, &log)
+    print_answer(line.rt, &log)
 }

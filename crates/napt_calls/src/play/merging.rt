@@ -3,7 +3,7 @@
 ghost use Rattle.std.specs.Prelude.{◌≡◌, ◌<◌, ◌^◌, ◌-◌, IfOk};
 
 use crate::CallFault;
-use crate::play::line::{Line, tell};
+use crate::play::line::{Line, print_answer};
 use napt_capture::{
     EmptySource, FaultPlan, Faulty, InjectedFault, Record, RecordReader, Source, Watched,
     read_capture,
@@ -29,12 +29,12 @@ fn captures<R>(line: &mut Line<'_, R>) -> Result<(Vec<u8>, Vec<u8>), CallFault> 
 }
 
 /// `merge LENGTH INSIDE OUTSIDE`: prints the inputs of two captures.
-pub(crate) fn tell_merged<R: Print>(line: &mut Line<'_, R>) -> Result<(), CallFault> {
+pub(crate) fn print_merged<R: Print>(line: &mut Line<'_, R>) -> Result<(), CallFault> {
     let (inside, outside) = captures(line)?;
     let inside = records(line.alloc, &inside)?;
     let outside = records(line.alloc, &outside)?;
     let inputs = merge(line.alloc, inside, outside).map_err(|_| CallFault::Call)?;
-    tell(line.rt, &inputs)
+    print_answer(line.rt, &inputs)
 }
 
 fn records(alloc: Global, text: &[u8]) -> Result<Vec<Record>, CallFault> {
@@ -51,7 +51,7 @@ fn opened<'a, R: Source>(alloc: Global, source: &'a mut R) -> Result<RecordStrea
 }
 
 /// Prints before each input whether a device is asked, and then the input, whether the captures are cut, or a fault.
-fn tell_inputs<P: Print, R: Source, Q: Source>(
+fn print_inputs<P: Print, R: Source, Q: Source>(
     line: &Line<'_, P>,
     streams: &mut StreamMerger<'_, '_, R, Q>,
 ) -> Result<(), CallFault> {
@@ -72,18 +72,18 @@ fn tell_inputs<P: Print, R: Source, Q: Source>(
 }
 
 /// Prints the same of two streams, and closes them.
-fn tell_streams<P: Print, R: Source, Q: Source>(
+fn print_streams<P: Print, R: Source, Q: Source>(
     line: &Line<'_, P>,
     mut streams: StreamMerger<'_, '_, R, Q>,
 ) -> Result<(), CallFault> {
-    let told = tell_inputs(line, &mut streams);
+    let told = print_inputs(line, &mut streams);
     let (_, _) = streams.into_streams();
     told
 }
 
 /// `streams MOST CALL LENGTH INSIDE OUTSIDE`: prints the inputs of captures that are read in steps. The outside one
 /// returns at most MOST bytes from a read, and fails at the call number CALL, counted from 1, or never if it is 0.
-pub(crate) fn tell_read<R: Print>(line: &mut Line<'_, R>) -> Result<(), CallFault> {
+pub(crate) fn print_read<R: Print>(line: &mut Line<'_, R>) -> Result<(), CallFault> {
     let plan = FaultPlan {
         most: usize::from(line.short()?),
         call: line.number()?,
@@ -97,15 +97,15 @@ pub(crate) fn tell_read<R: Print>(line: &mut Line<'_, R>) -> Result<(), CallFaul
     let mut second = Faulty::new(Watched::new(outside.as_slice()), plan);
     let first = opened(line.alloc, &mut first)?;
     let second = opened(line.alloc, &mut second)?;
-    tell_streams(line, StreamMerger::new(line.alloc, first, second))
+    print_streams(line, StreamMerger::new(line.alloc, first, second))
 }
 
 /// `stream INSIDE`: prints the inputs of one capture alone.
-pub(crate) fn tell_alone<R: Print>(line: &mut Line<'_, R>) -> Result<(), CallFault> {
+pub(crate) fn print_alone<R: Print>(line: &mut Line<'_, R>) -> Result<(), CallFault> {
     let inside = line.bytes()?;
     let mut first = Watched::new(inside.as_slice());
     let mut second = EmptySource::new();
     let first = opened(line.alloc, &mut first)?;
     let second = opened(line.alloc, &mut second)?;
-    tell_streams(line, StreamMerger::new(line.alloc, first, second))
+    print_streams(line, StreamMerger::new(line.alloc, first, second))
 }

@@ -1,7 +1,7 @@
 //! Packets, and the two ways to update a checksum.
 
 use crate::CallFault;
-use crate::play::line::{Line, tell};
+use crate::play::line::{Line, print_answer};
 use napt_wire::{Endpoint, Kind, Packet, Way, fix_check, fix_check_udp};
 
 /// `read SIDE BYTES`: prints the packet, which becomes the current one, with both ends, or why the bytes are refused,
@@ -33,14 +33,14 @@ pub(crate) fn answer<R: Print>(
     call: &str,
 ) -> Result<(), CallFault> {
     match call {
-        "local_end" => return tell(line.rt, &packet.local_end(line.way()?)),
-        "remote_end" => return tell(line.rt, &packet.remote_end(line.way()?)),
+        "local_end" => return print_answer(line.rt, &packet.local_end(line.way()?)),
+        "remote_end" => return print_answer(line.rt, &packet.remote_end(line.way()?)),
         "set_source" => set_source(packet, line.endpoint()?)?,
         "set_destination" => set_destination(packet, line.endpoint()?)?,
         "revert_inner" => revert_inner(packet, line.way()?, line.endpoint()?)?,
         _ => {}
     }
-    tell(line.rt, &packet.bytes())
+    print_answer(line.rt, &packet.bytes())
 }
 
 fn set_source(packet: &mut Packet, end: Endpoint) -> Result<(), CallFault> {
@@ -72,12 +72,12 @@ fn revert_inner(packet: &mut Packet, way: Way, end: Endpoint) -> Result<(), Call
 }
 
 /// `fix_check CHECK OLD NEW` or `fix_check_udp CHECK OLD NEW`
-pub(crate) fn tell_check<R: Print>(line: &mut Line<'_, R>, call: &str) -> Result<(), CallFault> {
+pub(crate) fn print_check<R: Print>(line: &mut Line<'_, R>, call: &str) -> Result<(), CallFault> {
     let (check, old, new) = (line.short()?, line.short()?, line.short()?);
     let fixed = if call == "fix_check" {
         fix_check(check, old, new)
     } else {
         fix_check_udp(check, old, new)
     };
-    tell(line.rt, &fixed)
+    print_answer(line.rt, &fixed)
 }

@@ -1,7 +1,7 @@
 //! Configurations, and what they say about hosts and external numbers.
 
 use crate::CallFault;
-use crate::play::line::{Line, tell};
+use crate::play::line::{Line, print_answer};
 use napt_config::Config;
 
 /// `settings TEXT`: reads a configuration, and prints why it is refused, if it is.
@@ -11,7 +11,7 @@ pub(crate) fn read<R: Print>(line: &mut Line<'_, R>) -> Result<Option<Config>, C
         Ok(config) => (Some(config), None),
         Err(fault) => (None, Some(fault)),
     };
-    tell(line.rt, &fault)?;
+    print_answer(line.rt, &fault)?;
     Ok(config)
 }
 
@@ -35,24 +35,24 @@ pub(crate) fn answer<R: Print>(
     call: &str,
 ) -> Result<(), CallFault> {
     match call {
-        "is_inside" => tell(line.rt, &config.is_inside(line.long()?)),
-        "pair" => tell(line.rt, &config.pair(line.long()?)),
-        "pool_index" => tell(line.rt, &config.pool_index(line.long()?)),
-        "block_of" => tell(line.rt, &config.block_of(line.long()?)),
+        "is_inside" => print_answer(line.rt, &config.is_inside(line.long()?)),
+        "pair" => print_answer(line.rt, &config.pair(line.long()?)),
+        "pool_index" => print_answer(line.rt, &config.pool_index(line.long()?)),
+        "block_of" => print_answer(line.rt, &config.block_of(line.long()?)),
         "host_of" => {
             let end = line.endpoint()?;
-            tell(line.rt, &config.host_of(end.address, end.number))
+            print_answer(line.rt, &config.host_of(end.address, end.number))
         }
-        "pool" => tell(line.rt, &config.pool()),
-        "filter" => tell(line.rt, &config.filter()),
-        "refresh" => tell(line.rt, &config.refresh()),
-        "choosing" => tell(line.rt, &config.choosing()),
-        "timers" => tell(line.rt, &config.timers()),
-        "ring" => tell(line.rt, &config.ring()),
-        "quota" => tell(line.rt, &config.quota()),
-        "block" => tell(line.rt, &config.block()),
-        "host_count" => tell(line.rt, &config.host_count()),
-        "redirects" => tell(line.rt, &config.redirects()),
+        "pool" => print_answer(line.rt, &config.pool()),
+        "filter" => print_answer(line.rt, &config.filter()),
+        "refresh" => print_answer(line.rt, &config.refresh()),
+        "choosing" => print_answer(line.rt, &config.choosing()),
+        "timers" => print_answer(line.rt, &config.timers()),
+        "ring" => print_answer(line.rt, &config.ring()),
+        "quota" => print_answer(line.rt, &config.quota()),
+        "block" => print_answer(line.rt, &config.block()),
+        "host_count" => print_answer(line.rt, &config.host_count()),
+        "redirects" => print_answer(line.rt, &config.redirects()),
         _ => Err(CallFault::Usage),
     }
 }

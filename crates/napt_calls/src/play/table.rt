@@ -5,7 +5,7 @@ ghost use Rattle.napt_config.specs.Rules.{IsPortBlock};
 ghost use Rattle.napt_rules.specs.Prelude.{IsNumber};
 
 use crate::CallFault;
-use crate::play::line::{Line, tell};
+use crate::play::line::{Line, print_answer};
 use napt_config::{Config, PortBlock};
 use napt_table::{OutboundPacket, Table};
 use napt_wire::Protocol;
@@ -36,18 +36,18 @@ pub(crate) fn answer<R: Print>(
         "inbound" => return inbound(line, table, now),
         "by_external" => {
             let (protocol, number) = (line.protocol()?, line.short()?);
-            return tell(rt, &table.by_external(now, protocol, number));
+            return print_answer(rt, &table.by_external(now, protocol, number));
         }
         "by_inside" => {
             let (protocol, inside) = (line.protocol()?, line.endpoint()?);
-            return tell(rt, &table.by_inside(now, protocol, inside));
+            return print_answer(rt, &table.by_inside(now, protocol, inside));
         }
         _ => {}
     }
     let rows = table.bindings(alloc, now).map_err(|_| CallFault::Call)?;
     match call {
-        "bindings" => tell(rt, &rows),
-        "count" => tell(rt, &rows.len()),
+        "bindings" => print_answer(rt, &rows),
+        "count" => print_answer(rt, &rows.len()),
         _ => Err(CallFault::Usage),
     }
 }
@@ -89,7 +89,7 @@ fn outbound<R: Print>(line: &mut Line<'_, R>, table: &mut Table, now: u64) -> Re
         return Err(CallFault::Unsent);
     }
     let answer = table.outbound_of(line.alloc, sent);
-    tell(line.rt, &answer.map_err(|_| CallFault::Call)?)
+    print_answer(line.rt, &answer.map_err(|_| CallFault::Call)?)
 }
 
 /// `inbound NOW PROTOCOL NUMBER REMOTE FLAGS`
@@ -98,7 +98,7 @@ fn inbound<R: Print>(line: &mut Line<'_, R>, table: &mut Table, now: u64) -> Res
 {
     let (protocol, external) = (line.protocol()?, line.short()?);
     let (remote, flags) = (line.endpoint()?, line.flags()?);
-    tell(
+    print_answer(
         line.rt,
         &table.inbound(now, protocol, external, remote, flags),
     )

@@ -1,7 +1,7 @@
 //! The translators of a pool, and the sides of a packet.
 
 use crate::CallFault;
-use crate::play::line::{Line, tell};
+use crate::play::line::{Line, print_answer};
 use napt_config::Config;
 use napt_translate::{Answer, End, Leg, Translator, onward, route};
 use napt_wire::Packet;
@@ -37,21 +37,21 @@ impl Translators {
     }
 
     /// `route SIDE`, for the current packet.
-    pub(crate) fn tell_route<R: Print>(
+    pub(crate) fn print_route<R: Print>(
         &self,
         line: &mut Line<'_, R>,
         packet: &Packet,
     ) -> Result<(), CallFault> {
-        tell(line.rt, &route(&self.config, line.side()?, packet))
+        print_answer(line.rt, &route(&self.config, line.side()?, packet))
     }
 
     /// `onward`, for the current packet.
-    pub(crate) fn tell_onward<R: Print>(
+    pub(crate) fn print_onward<R: Print>(
         &self,
         line: &Line<'_, R>,
         packet: &Packet,
     ) -> Result<(), CallFault> {
-        tell(line.rt, &onward(&self.config, packet))
+        print_answer(line.rt, &onward(&self.config, packet))
     }
 
     /// `translate PLACE NUMBER NOW WAY`: makes a leg of the current packet, which becomes the packet that leaves.
@@ -70,21 +70,21 @@ impl Translators {
         let answer = translator
             .translate(line.alloc, leg)
             .map_err(|_| CallFault::Call)?;
-        tell_end(line.rt, answer)
+        print_end(line.rt, answer)
     }
 
     /// `rows PLACE NOW`: prints the bindings of a translator.
-    pub(crate) fn tell_rows<R: Print>(&mut self, line: &mut Line<'_, R>) -> Result<(), CallFault> {
+    pub(crate) fn print_rows<R: Print>(&mut self, line: &mut Line<'_, R>) -> Result<(), CallFault> {
         let translator = self.at(line)?;
         let rows = translator
             .bindings(line.alloc, line.number()?)
             .map_err(|_| CallFault::Call)?;
-        tell(line.rt, &rows)
+        print_answer(line.rt, &rows)
     }
 }
 
 /// Prints the number and the end of a leg, and returns the packet that leaves.
-fn tell_end<R: Print>(rt: &R, answer: Answer) -> Result<Option<Packet>, CallFault> {
+fn print_end<R: Print>(rt: &R, answer: Answer) -> Result<Option<Packet>, CallFault> {
     let Answer { number, end } = answer;
     print!(rt; "{number} ").map_err(|_| CallFault::File)?;
     let (told, packet) = match end {

@@ -26,7 +26,8 @@ numbered_more : (live : List TimedRow) (k : ℕ) (d : TimedRow) → k < length l
     Each IsNumberedRow (map (λ timed. timed.row) (take (k + 1) live))
 numbered_more live k d below all is =
     subst (λ (ts : List TimedRow). Each IsNumberedRow (map (λ timed. timed.row) ts)) (sym (take_more live k d below))
-    (subst (Each IsNumberedRow) (sym (map_joined (λ (timed : TimedRow). timed.row) (take k live) (get_or live k d ∷ [])))
+    (subst (Each IsNumberedRow) (sym (map_joined (λ (timed : TimedRow). timed.row) (take k live)
+    (get_or live k d ∷ [])))
     (each_pushed IsNumberedRow (map (λ timed. timed.row) (take k live)) (get_or live k d).row all is))
 
 pub loop-timed-preserved-then-contains : goal.loop-timed-preserved-then-contains
@@ -36,7 +37,8 @@ loop-timed-preserved-then-contains c =
     let k : ℕ = c.loop-timed.timed-index in
     let past = c.loop-numbered-test.false in
     let rows : HasRows entries c.loop-numbered.endpoints =
-    subst (λ (es : List LogEntry). HasRows es c.loop-numbered.endpoints) (take_all c.loop-numbered.numbered-index entries past)
+    subst (λ (es : List LogEntry). HasRows es c.loop-numbered.endpoints)
+    (take_all c.loop-numbered.numbered-index entries past)
     c.loop-numbered.invariant in
     let listed : has_entry entries (get_or live k none) ≡ true =
     sym (has_rows entries c.loop-numbered.endpoints rows (get_or live k none))
@@ -57,7 +59,8 @@ loop-timed-preserved c =
     let k : ℕ = c.loop-timed.timed-index in
     let past = c.loop-numbered-test.false in
     let rows : HasRows entries c.loop-numbered.endpoints =
-    subst (λ (es : List LogEntry). HasRows es c.loop-numbered.endpoints) (take_all c.loop-numbered.numbered-index entries past)
+    subst (λ (es : List LogEntry). HasRows es c.loop-numbered.endpoints)
+    (take_all c.loop-numbered.numbered-index entries past)
     c.loop-numbered.invariant in
     let unlisted : has_entry entries (get_or live k none) ≡ false =
     sym (has_rows entries c.loop-numbered.endpoints rows (get_or live k none))
@@ -81,7 +84,8 @@ loop-timed-preserved c =
       begun = c.in_ok-push.ensures.items
           ∙ (ap (λ (e : Entry). old ++ record { number = c.loop-timed.number + 1; entry = e } ∷ []) c.unused.ensures
           ∙ (ap (λ (ls : List LogEntry). ls ++ it ∷ []) c.loop-timed.invariant.begun
-          ∙ sym (begun_more c.args.made c.args.clock entries live k none c.loop-timed-test.true unlisted c.loop-timed.number
+          ∙ sym (begun_more c.args.made c.args.clock entries live k none c.loop-timed-test.true unlisted
+          c.loop-timed.number
           counted)));
     }
 

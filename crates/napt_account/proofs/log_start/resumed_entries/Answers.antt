@@ -24,7 +24,8 @@ loop-place-preserved c =
           let b : Binding = w.index-binding.result.now in
           let a : Account = w.in-Some.account in
           let is : get_or state.list k b ≡ b =
-          sym (w.index-binding.ensures ∙ ap (λ (l : List Binding). get_or l k b) (ap (λ (s : State). s.list) c.state.view_is)) in
+          sym (w.index-binding.ensures ∙ ap (λ (l : List Binding). get_or l k b)
+          (ap (λ (s : State). s.list) c.state.view_is)) in
           let some : account_in accounts k ≡ Some a = sym c.account.ensures ∙ w.in-Some.is in
           let more = seen_next state.list accounts k b below
           ∙ (λ i. seen ++ with_account (is i) (some i) []) in

@@ -51,10 +51,13 @@ returns-in-Ok-clause-passes g c =
     let pool = c.dispatch_to-dispatched.new.pool in
     let closed = c.in_ok-dispatched.ensures in
     let e : DispatchOk g.D.Told.LegTrace.tells c.args.config.now start g.A.InputSource.hands g.A.InputSource.ends
-    g.D.OutcomeSink.takes g.D.OutcomeSink.fails g.D.OutcomeSink.is_settled c.args.arrivals.now c.args.departures.now pool
+    g.D.OutcomeSink.takes g.D.OutcomeSink.fails g.D.OutcomeSink.is_settled c.args.arrivals.now c.args.departures.now
+    pool
     c.dispatch_to-dispatched.new.arrivals c.dispatch_to-dispatched.new.departures None c.in_ok-dispatched.dispatched =
-    subst (λ ending. DispatchPost g.D.Told.LegTrace.tells c.args.config.now start g.A.InputSource.hands g.A.InputSource.ends
-    g.D.OutcomeSink.takes g.D.OutcomeSink.fails g.D.OutcomeSink.is_settled c.args.arrivals.now c.args.departures.now pool
+    subst (λ ending. DispatchPost g.D.Told.LegTrace.tells c.args.config.now start g.A.InputSource.hands
+    g.A.InputSource.ends
+    g.D.OutcomeSink.takes g.D.OutcomeSink.fails g.D.OutcomeSink.is_settled c.args.arrivals.now c.args.departures.now
+    pool
     c.dispatch_to-dispatched.new.arrivals c.dispatch_to-dispatched.new.departures c.in_ok-dispatched.dispatched ending)
     c.in-Whole.is (IfOk-at_ok _ closed.given c.dispatch_to-dispatched.ensures.ends start
     (sym (ap (λ (s : State). s.clock) c.state.view_is))) in
@@ -83,11 +86,14 @@ returns-in-Arrival-clause-passes g c =
     let pool = c.dispatch_to-dispatched.new.pool in
     let closed = c.in_ok-dispatched.ensures in
     let e : DispatchOk g.D.Told.LegTrace.tells c.args.config.now start g.A.InputSource.hands g.A.InputSource.ends
-    g.D.OutcomeSink.takes g.D.OutcomeSink.fails g.D.OutcomeSink.is_settled c.args.arrivals.now c.args.departures.now pool
+    g.D.OutcomeSink.takes g.D.OutcomeSink.fails g.D.OutcomeSink.is_settled c.args.arrivals.now c.args.departures.now
+    pool
     c.dispatch_to-dispatched.new.arrivals c.dispatch_to-dispatched.new.departures (Some c.in-Arrival.fault)
     c.in_ok-dispatched.dispatched =
-    subst (λ ending. DispatchPost g.D.Told.LegTrace.tells c.args.config.now start g.A.InputSource.hands g.A.InputSource.ends
-    g.D.OutcomeSink.takes g.D.OutcomeSink.fails g.D.OutcomeSink.is_settled c.args.arrivals.now c.args.departures.now pool
+    subst (λ ending. DispatchPost g.D.Told.LegTrace.tells c.args.config.now start g.A.InputSource.hands
+    g.A.InputSource.ends
+    g.D.OutcomeSink.takes g.D.OutcomeSink.fails g.D.OutcomeSink.is_settled c.args.arrivals.now c.args.departures.now
+    pool
     c.dispatch_to-dispatched.new.arrivals c.dispatch_to-dispatched.new.departures c.in_ok-dispatched.dispatched ending)
     c.in-Arrival.is (IfOk-at_ok _ closed.given c.dispatch_to-dispatched.ensures.ends start
     (sym (ap (λ (s : State). s.clock) c.state.view_is))) in

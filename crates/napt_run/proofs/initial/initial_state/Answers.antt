@@ -9,7 +9,8 @@ use Rattle.napt_run.proofs.initial.initial_state.Goals as goal
 begins : (rules : Rules) (items : List Binding) → items ≡ [] →
     resumed_origin rules (record { clock = 0; list = items }) ≡ initial_origin rules
 begins rules items none = ap (λ (l : List Binding). resumed_origin rules (record { clock = 0; list = l })) none
-    ∙ ap (λ (l : List Binding). let o : OriginModel = record { rules = rules; state = record { clock = 0; list = l } } in o)
+    ∙ ap (λ (l : List Binding). let o : OriginModel =
+    record { rules = rules; state = record { clock = 0; list = l } } in o)
     (append-nil (opening rules))
 
 pub returns-clause-opens : goal.returns-clause-opens

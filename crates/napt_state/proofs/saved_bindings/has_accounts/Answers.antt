@@ -93,7 +93,8 @@ loop-binding-preserved c =
     ∙ or_false _ _ number endpoint in
     record {
       numbers = subst (λ (ks : List Kept). HasNumbers ks c.insert.new.self) (sym more)
-          (numbers_more so_far kept c.loop-binding.numbers c.insert.new.self i.numbers c.in_ok-insert.ensures.updates.0);
+          (numbers_more so_far kept c.loop-binding.numbers c.insert.new.self i.numbers
+          c.in_ok-insert.ensures.updates.0);
       endpoints = subst (λ (ks : List Kept). HasKeys ks c.insert-in-loop-binding.new.self) (sym more)
           (keys_more so_far kept c.external_key-key.result key c.loop-binding.endpoints
           c.insert-in-loop-binding.new.self i.endpoints c.in_ok-insert-2.ensures.updates.0);
@@ -136,7 +137,8 @@ returns-then-not-is_within c =
           state_key_eq (state_external_key j.0.row) (state_external_key b.row)) so_far) number))
       | then-not-is_within-via-else-not-is_within+else-contains+then-contains-2 w ↦
           let endpoint : list_any (λ (j : Kept). state_key_eq (state_external_key j.0.row) (state_external_key b.row))
-          so_far ≡ true = ap (λ y. list_any (λ (j : Kept). state_key_eq (state_external_key j.0.row) y) so_far) (sym key)
+          so_far ≡ true = ap (λ y. list_any (λ (j : Kept). state_key_eq (state_external_key j.0.row) y) so_far)
+          (sym key)
           ∙ (sym (i.endpoints c.external_key-key.result)
           ∙ (sym w.contains-else-contains.ensures ∙ w.if-contains-2.true)) in
           and_false _ _ (ap not (any_apart kept so_far ∙ or_true _ _ endpoint))

@@ -16,7 +16,8 @@ past false clock end over = grind (arith, nat_tests)
 small : (end clock most : ℕ) → end ≤ clock → clock ≤ most → min end most ≡ end
 small end clock most over fits = omega (arith, over, fits)
 
-ended : (timers : Timers) → AreTimers timers → (clock most : ℕ) → clock ≤ most → (b : Binding) (account : Option Account) →
+ended : (timers : Timers) → AreTimers timers → (clock most : ℕ) → clock ≤ most →
+    (b : Binding) (account : Option Account) →
     is_live timers clock b ≡ false → (end : ℕ) → end ≡ min (end_by_protocol b.row.protocol timers b) most →
     bindings.Ended b.row end ≡ saved_binding timers clock b account
 ended timers are clock most fits b account dead end is =

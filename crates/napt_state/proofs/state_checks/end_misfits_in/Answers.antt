@@ -51,10 +51,13 @@ loop-left-preserved-then-is_some c =
       within = omega (arith, inv.within);
       redirects = inv.redirects;
       behind = subst (λ (l : List Binding). AreOf l c.loop-left.behind)
-          (sym (fits_if_some rules clock all list left b some inv.within inv.long inv.front inv.back at found out (sym is)))
+          (sym (fits_if_some rules clock all list left b some inv.within inv.long inv.front inv.back at found out
+          (sym is)))
           inv.behind;
-      long = long_after rules clock all list left b some inv.within inv.long inv.front inv.back at c.give_up.new.binding;
-      front = front_after rules clock all list left b some inv.within inv.long inv.front inv.back at c.give_up.new.binding;
+      long = long_after rules clock all list left b some inv.within inv.long inv.front inv.back at
+          c.give_up.new.binding;
+      front = front_after rules clock all list left b some inv.within inv.long inv.front inv.back at
+          c.give_up.new.binding;
       back = back_after rules clock all list left b some inv.within inv.long inv.front inv.back at c.give_up.new.binding
           (c.give_up.ensures ∙ taken_out found b out ∙ ap (λ m. given_up_if m b) is);
       many = many_after rules clock all list left b some inv.within inv.long inv.front inv.back at c.in-Some.more
@@ -118,7 +121,8 @@ loop-left-preserved c =
       within = omega (arith, inv.within);
       redirects = inv.redirects;
       behind = subst (λ (l : List Binding). AreOf l c.loop-left.behind)
-          (sym (fits_if_away rules clock all list left b some inv.within inv.long inv.front inv.back at away)) inv.behind;
+          (sym (fits_if_away rules clock all list left b some inv.within inv.long inv.front inv.back at away))
+          inv.behind;
       long = long_after rules clock all list left b some inv.within inv.long inv.front inv.back at b;
       front = front_after rules clock all list left b some inv.within inv.long inv.front inv.back at b;
       back = back_after rules clock all list left b some inv.within inv.long inv.front inv.back at b

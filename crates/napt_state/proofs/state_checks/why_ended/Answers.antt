@@ -11,5 +11,6 @@ returns-then-goes_on c rest redirects behind =
     let goes : goes_on rules.timers (hold_ago rules.timers c.args.clock) b ≡ true =
     sym (c.goes_on.ensures ∙ ap (λ n. goes_on rules.timers n b) c.held_at.ensures) ∙ c.if-goes_on.true in
     subst (λ v. IfOk c.misfit_of.result (λ (why : Option Misfit).
-    why ≡ cond v (misfit_of rules c.args.clock (with_live_flows rules.timers (hold_ago rules.timers c.args.clock) b) rest)
+    why ≡ cond v (misfit_of rules c.args.clock (with_live_flows rules.timers (hold_ago rules.timers c.args.clock) b)
+    rest)
     None)) (sym goes) (c.misfit_of.ensures rest redirects behind)

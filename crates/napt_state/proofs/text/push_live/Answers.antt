@@ -5,4 +5,8 @@ use Rattle.napt_state.proofs.Written.{written_behind}
 use Rattle.napt_state.proofs.text.push_live.Goals as goal
 
 pub returns : goal.returns
-returns g c = grind (arith, common_steps, written_behind (binding c.args.binding.now.row c.args.binding.now.last c.args.account) flow)
+returns g c = grind (
+  arith,
+  common_steps,
+  written_behind (binding c.args.binding.now.row c.args.binding.now.last c.args.account) flow,
+)

@@ -49,7 +49,8 @@ loop-place-preserved c =
     let i = c.loop-place.invariant in
     let kept : Kept = (get_or state.list k b, a) in
     let more = seen_more saved.made state.clock state.list saved.accounts k b below i.checked a some in
-    let key = c.external_key-key.ensures.key ∙ ap (λ (x : Binding). entry_key x.row) (c.behind-state.view_is ∙ sym is) in
+    let key = c.external_key-key.ensures.key ∙
+    ap (λ (x : Binding). entry_key x.row) (c.behind-state.view_is ∙ sym is) in
     let made_is = ap (λ (s : SavedLogStateModel). s.made) c.self.view_is in
     let clock_is = ap (λ (s : State). s.clock) c.state.view_is in
     let within : is_account saved.made state.clock a ≡ true =
@@ -96,7 +97,8 @@ returns-then-not-is_within c =
     let some : account_in saved.accounts k ≡ Some a = sym c.account.ensures ∙ c.in-Some.is in
     let i = c.loop-place.invariant in
     let kept : Kept = (get_or state.list k b, a) in
-    let key = c.external_key-key.ensures.key ∙ ap (λ (x : Binding). entry_key x.row) (c.behind-state.view_is ∙ sym is) in
+    let key = c.external_key-key.ensures.key ∙
+    ap (λ (x : Binding). entry_key x.row) (c.behind-state.view_is ∙ sym is) in
     let made_is = ap (λ (s : SavedLogStateModel). s.made) c.self.view_is in
     let clock_is = ap (λ (s : State). s.clock) c.state.view_is in
     let within : is_account saved.made state.clock a ≡ c.is_within.result =
@@ -114,7 +116,8 @@ returns-then-not-is_within c =
       | then-not-is_within-via-else-not-is_within+else-contains+then-contains-2 w ↦
           let endpoint : list_any (λ j. external_eq (entry_key j.0.row) (entry_key kept.0.row)) seen ≡ true =
           ap (λ x. list_any (λ j. external_eq (entry_key j.0.row) x) seen) (sym key)
-          ∙ (sym (i.endpoints c.external_key-key.result) ∙ (sym w.contains-else-contains.ensures ∙ w.if-contains-2.true)) in
+          ∙ (sym (i.endpoints c.external_key-key.result) ∙
+          (sym w.contains-else-contains.ensures ∙ w.if-contains-2.true)) in
           and_false _ _ (ap not (any_apart kept seen ∙ or_true _ _ endpoint))
     ] in
     sym (and_false (nat_le saved.made most_saved) _

@@ -3,7 +3,7 @@ use Rattle.std.proofs.Common.{◌≡◌, ℕ, ◌+◌, ◌*◌, ◌^◌, ◌<◌
 use Rattle.std.specs.Option.{IfSome}
 use Rattle.napt_sequential.specs.declared.passage.{Passage.{Passage, TheVariants.{Nothing, Made, Out, In, Dropped}}, Trace.Trace}
 use Rattle.napt_account.specs.{declared.{legs.Legs.Legs, log.{Shortage.Shortage}}, BindingTallies.use_of, Effects.{IsNext, log_after}, Log.{LogModel, after_input, after_leg, shortages_by, shortages_in}}
-use Rattle.napt_account.specs.{LogBuilders.{IsBuilt, LogBuilderModel, built, built_from, taken_in}, OpenEntries.OpenEntriesShow, LogParts.{LogDelta, is_behind, part_between}}
+use Rattle.napt_account.specs.{LogBuilders.{IsBuilt, LogBuilderModel, built, built_from, taken_in}, OpenEntries.OpenEntriesShow, LogParts.{LogDelta, is_after, part_between}}
 use Rattle.napt_account.proofs.{GoingOn.{few_leg, fold_joined}, Lists.map_joined, WholeLogs.drop_joined}
 use Rattle.napt_account.proofs.log_builder.LogBuilder.enter.Goals as goal
 
@@ -71,7 +71,8 @@ invariant_of-self-2 c = λ going.
     let most : ℕ = 2 ^ 61 + 2 * it.taken in
     let shows = c.in_ok-ended.ensures.shows it.clock most log is.entries (omega (arith, late)) in
     let next : OpenEntriesShow effects.now (most + 2) (after_input log effects) c.enter.new.self =
-    subst (λ (o : Option Legs). IfSome o (λ l. OpenEntriesShow effects.now (most + 2) (after_input log effects) c.enter.new.self))
+    subst (λ (o : Option Legs). IfSome o (λ l. OpenEntriesShow effects.now (most + 2) (after_input log effects)
+    c.enter.new.self))
     c.in-Some.is (c.in_ok-legs.ensures.shows most log shows) in
     let twice : most + 2 ≡ 2 ^ 61 + 2 * (it.taken + 1) = omega arith in
     let one = few_leg effects.now effects.first log in
@@ -100,8 +101,9 @@ returns-clause-tells c = λ going.
     let most : ℕ = 2 ^ 61 + 2 * it.taken in
     let shows = c.in_ok-ended.ensures.shows it.clock most log is.entries (omega (arith, late)) in
     let ended = c.in_ok-ended.ensures.ended it.clock most log is.entries in
-    let made : c.in-Some.legs.made.items ≡ filter (is_behind log.made) (after_input log effects).entries =
-    subst (λ (o : Option Legs). IfSome o (λ l. l.made.items ≡ filter (is_behind log.made) (after_input log effects).entries))
+    let made : c.in-Some.legs.made.items ≡ filter (is_after log.made) (after_input log effects).entries =
+    subst (λ (o : Option Legs). IfSome o (λ l. l.made.items ≡
+    filter (is_after log.made) (after_input log effects).entries))
     c.in-Some.is (c.in_ok-legs.ensures.made most log shows) in
     let refused : c.in-Some.legs.refused.items ≡ shortages_in effects =
     subst (λ (o : Option Legs). IfSome o (λ l. l.refused.items ≡ shortages_in effects)) c.in-Some.is
@@ -112,7 +114,8 @@ returns-clause-tells c = λ going.
       made = c.in-Some.legs.made.items;
       refused = c.in-Some.legs.refused.items;
     } in
-    subst (λ (v : LogBuilderModel). told ≡ part_between v.clock effects.now v.log (after_input v.log effects)) c.self.view_is
+    subst (λ (v : LogBuilderModel). told ≡ part_between v.clock effects.now v.log (after_input v.log effects))
+    c.self.view_is
     (λ i. record { ended = ended i; made = made i; refused = lost i })
 
 pub returns-clause-uses : goal.returns-clause-uses

@@ -12,7 +12,8 @@ by_number-requires c =
     let state : State = c.args.state.now in
     let all : List LogEntry = c.in_ok-all.all.items in
     let differ : NumbersDiffer all = subst NumbersDiffer (sym c.in_ok-all.ensures)
-    (entries_numbers c.args.config.now c.pool-pool.ensures.kept state c.requires.taken c.args.saved.now c.requires.saved) in
+    (entries_numbers c.args.config.now c.pool-pool.ensures.kept state c.requires.taken c.args.saved.now
+    c.requires.saved) in
     subst NumbersDiffer (sym (c.in_ok-continued.ensures
     ∙ ap (filter (is_open c.state.inside.clock)) c.deref.ensures.value))
     (of_differ _ (differ_filter (is_open c.state.inside.clock) all (to_differ all differ)))
@@ -22,7 +23,8 @@ by_number-requires-2 c =
     let state : State = c.args.state.now in
     let all : List LogEntry = c.in_ok-all.all.items in
     let differ : NumbersDiffer all = subst NumbersDiffer (sym c.in_ok-all.ensures)
-    (entries_numbers c.args.config.now c.pool-pool.ensures.kept state c.requires.taken c.args.saved.now c.requires.saved) in
+    (entries_numbers c.args.config.now c.pool-pool.ensures.kept state c.requires.taken c.args.saved.now
+    c.requires.saved) in
     let ended : LogEntry → Bool = λ n. not (is_open c.state.inside.clock n) in
     subst NumbersDiffer (sym (c.in_ok-gone.ensures ∙ ap (filter ended) c.deref-2.ensures.value))
     (of_differ _ (differ_filter ended all (to_differ all differ)))

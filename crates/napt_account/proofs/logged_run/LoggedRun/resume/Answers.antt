@@ -24,14 +24,16 @@ invariant_of-result c = λ going.
     (subst (λ (l : List (ℕ × SavedLogStateModel)). IsLoggedRun (with_redirects c.in_ok-resumed.resumed.log.rules state)
     (log_begun c.in_ok-resumed.resumed.log.rules ((0, state) ∷ []) l) []
     c.in_ok-run.run' c.in_ok-resumed.resumed.log) (sym kept)
-    (subst (λ (log : LogBuilderModel). IsLoggedRun (with_redirects log.rules state) (log_started log.rules state saved) []
+    (subst (λ (log : LogBuilderModel). IsLoggedRun (with_redirects log.rules state) (log_started log.rules state saved)
+    []
     c.in_ok-run.run' log) (sym c.in_ok-resumed.ensures.log)
     (record {
       keeps = c.resume.ensures.kept;
       stands = c.in_ok-run.ensures.begun;
       come = c.effects_are_the_log.ensures.come rules c.resume.ensures.kept state c.requires.taken
           (log_started rules state saved)
-          (c.started_logs_go_on.ensures.states rules c.resume.ensures.kept state c.requires.taken saved c.requires.saved).0;
+          (c.started_logs_go_on.ensures.states rules c.resume.ensures.kept state c.requires.taken saved
+          c.requires.saved).0;
       clock = refl;
       log_is = refl;
       taken = refl;

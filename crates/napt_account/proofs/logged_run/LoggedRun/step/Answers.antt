@@ -32,7 +32,8 @@ returns-in_err-part c =
     ] in
     let next : IsNext it.log.clock it.log.log trace =
     subst (λ (l : LogModel). IsNext it.log.clock l trace) (sym is.log_is)
-    (subst (λ n. IsNext n (log_on rules state first before) trace) (sym is.clock) (is.come before input trace tells.trace)) in
+    (subst (λ n. IsNext n (log_on rules state first before) trace) (sym is.clock)
+    (is.come before input trace tells.trace)) in
     let p = err_from_is_err_and c.from_residual-in_err-part.result c.from_residual-in_err-part.ensures.1 in
     let memory = log_fault it.log (length before) is.taken few trace next c.in_err-part.field-0.0
     (c.in_err-part.ensures.err is.goes_on) in
@@ -41,7 +42,8 @@ returns-in_err-part c =
       goes = λ going. tt;
       err = λ going. subst (IsStepFault (c.args.self.now.inputs ++ input ∷ [])) (sym memory) tt;
       too_many = λ going. not_many c.args.self.now.inputs
-          (subst (λ (v : LoggedRunModel). length v.inputs + 1 < 2 ^ 32) c.self.view_is few) c.in_err-part.field-0.0 memory;
+          (subst (λ (v : LoggedRunModel). length v.inputs + 1 < 2 ^ 32) c.self.view_is few) c.in_err-part.field-0.0
+          memory;
     })
 
 pub returns-clause-tells : goal.returns-clause-tells
@@ -67,7 +69,8 @@ returns-clause-tells c = λ going.
       used = part.uses is.goes_on ∙ ap (λ (l : LogModel). use_of l trace) is.log_is;
       part = part.tells is.goes_on
           ∙ (ap (λ n. part_between n trace.now it.log.log (after_input it.log.log trace)) is.clock
-          ∙ (ap (λ (l : LogModel). part_between (last_clock state.clock before) trace.now l (after_input l trace)) is.log_is
+          ∙ (ap (λ (l : LogModel). part_between (last_clock state.clock before) trace.now l (after_input l trace))
+          is.log_is
           ∙ part_next c.effects_are_the_log.ensures.log rules state first before input trace tells.trace tells.time));
     })
 

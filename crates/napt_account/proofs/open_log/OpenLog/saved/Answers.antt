@@ -24,7 +24,8 @@ pub loop-numbered-preserved : goal.loop-numbered-preserved
 loop-numbered-preserved c =
     let entries : List LogEntry = c.args.self.now.entries in
     let items : List LogEntry = c.deref-numbered-items.result.now in
-    let same : items ≡ entries = c.deref-numbered-items.ensures.value ∙ ap (λ (s : LogModel). s.entries) c.self.view_is in
+    let same : items ≡ entries = c.deref-numbered-items.ensures.value ∙
+    ap (λ (s : LogModel). s.entries) c.self.view_is in
     let k : ℕ = c.loop-numbered.numbered-index in
     let below : k < length items = c.loop-numbered-test.true in
     let old : IsMap (take k items) c.loop-numbered.by_key =
@@ -33,12 +34,14 @@ loop-numbered-preserved c =
     (elim c.if-not-contains_key.branch [
       | then-not-contains_key+in_ok-insert w ↦
           subst (IsMap (take (k + 1) items)) (sym w.by_key-is)
-          (map_more items k none below c.loop-numbered.by_key old c.external_key-key.result c.external_key-key.ensures.key
+          (map_more items k none below c.loop-numbered.by_key old c.external_key-key.result
+          c.external_key-key.ensures.key
           (sym c.contains_key.ensures ∙ w.if-not-contains_key.true) w.insert.new.self w.from_entry.result
           w.from_entry.ensures w.in_ok-insert.ensures.updates.0)
       | else-not-contains_key w ↦
           subst (IsMap (take (k + 1) items)) (sym w.by_key-is)
-          (map_same items k none below c.loop-numbered.by_key old c.external_key-key.result c.external_key-key.ensures.key
+          (map_same items k none below c.loop-numbered.by_key old c.external_key-key.result
+          c.external_key-key.ensures.key
           (sym c.contains_key.ensures ∙ w.if-not-contains_key.false))
     ])
 

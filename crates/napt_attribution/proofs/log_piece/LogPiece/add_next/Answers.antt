@@ -1,3 +1,4 @@
+-- add_next: of the rows that are left, the first one is added.
 use Rattle.std.proofs.lemmas.Result.{IfOk-weaker}
 use Rattle.napt_attribution.proofs.Pieces.{unless}
 use Rattle.napt_attribution.proofs.log_piece.LogPiece.add_next.Goals as goal
@@ -10,4 +11,5 @@ returns-clause-row g c = λ rules asked events event rest fits left tells.
 
 pub returns-clause-end : goal.returns-clause-end
 returns-clause-end g c = λ left.
-    unless c.next-read.result _ c.add_read.result _ (c.next-read.ensures.end left) c.add_read.ensures.end c.add_read.ensures.err
+    unless c.next-read.result _ c.add_read.result _ (c.next-read.ensures.end left) c.add_read.ensures.end
+    c.add_read.ensures.err

@@ -1,3 +1,4 @@
+-- add_read: what was read is added as the row that it is.
 use Rattle.napt_attribution.proofs.Pieces.{same_row}
 use Rattle.napt_attribution.proofs.log_piece.LogPiece.add_read.Goals as goal
 

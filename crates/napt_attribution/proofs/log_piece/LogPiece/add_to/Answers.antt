@@ -1,3 +1,4 @@
+-- add_to: all rows of the device are added.
 use Rattle.std.proofs.Common.{◌∙◌, ap}
 use Rattle.std.specs.List.{flat_map}
 use Rattle.napt_log_text.specs.Rows.{csv_row}

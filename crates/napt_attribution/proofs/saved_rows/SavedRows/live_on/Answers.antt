@@ -1,3 +1,4 @@
+-- live_on: an entry that is open at the end of the log gets the end that its row names.
 use Rattle.std.proofs.{Common.{◌≡◌, ◌∙◌, ℕ, Option, None, Some, map, refl, sym, ap, subst}, lemmas.Result.on_ok_weaker}
 use Rattle.napt_log_text.specs.declared.{event.LogEvent.TheVariants.Living, log_row.LogRow.LogRow}
 use Rattle.napt_attribution.specs.SavedLogs.{KeepsAll, entries_in, entry_with_end}
@@ -9,8 +10,10 @@ returns-in-Number c = λ asked events listed tells is.
     let end = time_some listed.entry.end c.in-Number.end (sym (ap (λ (r : LogRow). r.time) is) ∙ c.in-Number.is) in
     on_ok_weaker c.end_at.result (λ done. (
       done.0,
-      told_ended asked c.args.self.now c.end_at.new.self events tells (Living listed) listed refl (λ number. refl) done.0
-          (subst (λ (x : Option ℕ). KeepsAll asked c.end_at.new.self (map (entry_with_end listed.number x) (entries_in events)))
+      told_ended asked c.args.self.now c.end_at.new.self events tells (Living listed) listed refl (λ number. refl)
+          done.0
+          (subst (λ (x : Option ℕ). KeepsAll asked c.end_at.new.self
+          (map (entry_with_end listed.number x) (entries_in events)))
           (sym end) done.1) done.2,
     )) (c.end_at.ensures asked (entries_in events) listed tells.keeps (ap (λ (r : LogRow). r.number) is)
     (c.in_ok-binding.ensures listed.entry.end None listed is))

@@ -1,3 +1,4 @@
+-- take: after a row the entries are those of the log up to it, and a row of no log is refused.
 use Rattle.std.proofs.Common.{◌≡◌, ◌≤◌, ◌∷◌, ◌++◌, [], refl, sym, ap, subst, arith, rules}
 use Rattle.napt_log_text.specs.declared.{event.LogEvent.{LogEvent, TheVariants.{Ended, Living, Made, Refused}}, log_row.LogField.TheVariants.{Empty, Number}}
 use Rattle.napt_attribution.specs.{SavedLogs.{Follows, Tells, entries_in}, declared.saved_rows.SavedRows.SavedRows}
@@ -18,7 +19,8 @@ returns c = λ asked events event tells is.
       | in-Number-eq9+in_ok-end-in-Number-eq9 w ↦
           let at : c.args.row.now.event ≡ Number 9 = search rules in
           subst (λ (s : SavedRows). P s event) (sym w.self-is)
-          (only_ended c.args.row.now (P w.end.new.self) at (λ l same. w.in_ok-end-in-Number-eq9.ensures asked events l tells same) event is)
+          (only_ended c.args.row.now (P w.end.new.self) at
+          (λ l same. w.in_ok-end-in-Number-eq9.ensures asked events l tells same) event is)
       | in-Number+in-Number+in_ok-other-in-Number w ↦
           let refusal = w.is_refusal.ensures w.if-is_refusal.true in
           let least : 10 ≤ w.in-Number.event = omega (arith, refusal) in

@@ -54,7 +54,8 @@ returns-in-Ok-None g c =
     (record {
       last = c.loop.arrivals;
       handed = was.handed;
-      ended = subst (λ fault. g.A.InputSource.ends c.loop.arrivals fault c.next_input.new.arrivals) (sym c.new.ensures.1)
+      ended = subst (λ fault. g.A.InputSource.ends c.loop.arrivals fault c.next_input.new.arrivals)
+          (sym c.new.ensures.1)
           (rw c.in-Ok-None.field-0-is at c.in-Ok-None.ensures.hands);
     })
     (c.new.ensures.0 ∙ was.clock))
@@ -85,7 +86,8 @@ returns-in_err-serve-in-Ok-Some g c =
       inputs = was.inputs;
       unread = input ∷ [];
       went = was.went ++ ready.went;
-      come = inl (g.met.A.InputSource.hands_more c.args.arrivals.now c.loop.arrivals c.next_input.new.arrivals was.inputs
+      come = inl (g.met.A.InputSource.hands_more c.args.arrivals.now c.loop.arrivals c.next_input.new.arrivals
+          was.inputs
           (input ∷ []) was.handed (rw c.in-Ok-Some.field-0-is at c.in-Ok-Some.ensures.hands));
       last_pool = c.make_ready.new.pool;
       last = c.make_ready.new.self;

@@ -5,7 +5,8 @@ use Rattle.napt_dispatch.proofs.dispatcher.Dispatcher.settle.Goals as goal
 
 pub returns-in-Ok-clause-state : goal.returns-in-Ok-clause-state
 returns-in-Ok-clause-state g c =
-    lets_settle g.D.OutcomeSink.fails g.met.D.OutcomeSink.takes_more c.in_ok-advance_until.ensures.state c.in-Ok.ensures.0
+    lets_settle g.D.OutcomeSink.fails g.met.D.OutcomeSink.takes_more c.in_ok-advance_until.ensures.state
+    c.in-Ok.ensures.0
 
 pub returns-in-Ok-clause-room : goal.returns-in-Ok-clause-room
 returns-in-Ok-clause-room g c = room_idle c.advance_until.new.self c.in_ok-advance_until.ensures.reached

@@ -6,7 +6,8 @@ use Rattle.napt_dispatch.proofs.dispatcher.Dispatcher.take_reply.Goals as goal
 pub returns-in_ok-note-in-Some-One-clause-state : goal.returns-in_ok-note-in-Some-One-clause-state
 returns-in_ok-note-in-Some-One-clause-state g c =
     let inside : c.args.w < length c.args.self.now.queues = rw c.requires.sized c.requires.place in
-    let notes : NoteAnswersPost g.P.LegTrace.tells c.args.w (c.in-Some-One.answer ∷ []) c.args.self.now c.note.new.self =
+    let notes : NoteAnswersPost g.P.LegTrace.tells c.args.w (c.in-Some-One.answer ∷ []) c.args.self.now c.note.new.self
+    =
     notes_more c.args.w c.in-Some-One.answer c.args.self.now c.note.new.self inside
     c.in_ok-note-in-Some-One.ensures.noted [] c.args.self.now (notes_none c.args.w c.args.self.now) in
     record {

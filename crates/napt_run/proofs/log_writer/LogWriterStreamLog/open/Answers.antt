@@ -1,3 +1,4 @@
+-- open: the log begins with its first rows.
 use Rattle.std.proofs.Common.{[], ◌∙◌, ap, string_bytes, subst}
 use Rattle.napt_log_text.specs.Times.{TimeText}
 use Rattle.napt_run.specs.{LogOrigins.LoggedOrigin, RunningLogs.{Adds, LogIsAt, running_log_of}}

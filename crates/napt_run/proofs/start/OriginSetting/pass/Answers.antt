@@ -1,3 +1,4 @@
+-- pass: all inputs of the merged captures go through the run.
 use Rattle.napt_run.specs.Origins.{origin_of}
 use Rattle.napt_run.proofs.BothPassed.{departed}
 use Rattle.napt_run.proofs.start.OriginSetting.pass.Goals as goal

@@ -2,7 +2,7 @@
 use Rattle.std.proofs.{Common.{ℕ, List, Option, add-zero, sym, refl, Err}, lemmas.Result.err_from_is_err_and}
 use Rattle.napt_wire.specs.declared.Side.TheVariants as sides
 use Rattle.napt_records.specs.declared.Fault.TheVariants.{Capture}
-use Rattle.napt_run.{specs.Captures.failed_readings, proofs.{Behind.unread, BothPassed.unread_logs}}
+use Rattle.napt_run.{specs.Captures.failed_readings, proofs.{AfterHeaders.unread, BothPassed.unread_logs}}
 use Rattle.napt_run.proofs.Headers.{header_of, inside_refused, more_after, none_taken, outside_refused}
 use Rattle.napt_run.specs.Origins.{origin_of}
 use Rattle.napt_run.proofs.start.OriginSetting.run_over.Goals as goal
@@ -56,12 +56,12 @@ returns-in_err-theirs g c =
 
 pub returns-clause-runs : goal.returns-clause-runs
 returns-clause-runs g c begun new begins settled =
-    c.run_behind_headers.ensures.runs (g.R.Source.remaining c.args.inside.now)
+    c.run_after_headers.ensures.runs (g.R.Source.remaining c.args.inside.now)
     (g.Q.Source.remaining c.args.outside.now) begun c.in_ok-ours.ensures.header c.in_ok-theirs.ensures.header new begins
 
 pub returns-clause-readings : goal.returns-clause-readings
 returns-clause-readings g c not_run =
-    let (read, is, ours, theirs) = c.run_behind_headers.ensures.readings not_run in (
+    let (read, is, ours, theirs) = c.run_after_headers.ensures.readings not_run in (
       read,
       is,
       more_after _ _ _ (failed_readings sides.Inside read) c.in_ok-ours.ensures.count ours,
@@ -70,5 +70,5 @@ returns-clause-readings g c not_run =
 
 pub returns-clause-logs : goal.returns-clause-logs
 returns-clause-logs g c =
-    c.run_behind_headers.ensures.logs (g.R.Source.remaining c.args.inside.now)
+    c.run_after_headers.ensures.logs (g.R.Source.remaining c.args.inside.now)
     (g.Q.Source.remaining c.args.outside.now) c.in_ok-ours.ensures.header c.in_ok-theirs.ensures.header

@@ -1,9 +1,10 @@
+-- stream: each output has its part of its text, and the log was closed, or flushed after a fault.
 use Rattle.std.proofs.{Common.{List, ℕ, Option, inl, inr, refl}, lemmas.Result.err_from_is_err_and}
 use Rattle.napt_records.specs.declared.Which.TheVariants.{Outside, Inside}
 use Rattle.napt_run.{specs.Origins.{OriginModel, origin_of}, proofs.{BothPassed.before_report, Ends.{capture_ended, inside_is, of_text, outside_is}}}
 use Rattle.napt_run.proofs.start.OriginSetting.stream.Goals as goal
 
--- the log could not be opened
+-- The log could not be opened.
 pub returns-in_err-open : goal.returns-in_err-open
 returns-in_err-open g c =
     let p = err_from_is_err_and c.from_residual.result c.from_residual.ensures.1 in
@@ -21,7 +22,7 @@ returns-in_err-open g c =
       reads = λ not_run. absurd (not_run text.of_run);
     })
 
--- or not be closed
+-- Or the log could not be closed.
 pub returns-in_err-left-in-Ok : goal.returns-in_err-left-in-Ok
 returns-in_err-left-in-Ok g c =
     let residual = c.from_residual-in_err-left-in-Ok in
@@ -34,7 +35,8 @@ returns-in_err-left-in-Ok g c =
     let text = of_text g.K.StreamLog.is_kept g.G.Gate.is_open inside outside fault closed.text in
     let ran = c.in-Ok.ensures in
     rw (p.1, p.2) (record {
-      to_outside = inl (capture_ended g.W.Sink origin inside outside Outside outside_is _ _ fault text.end ran.to_outside);
+      to_outside = inl (capture_ended g.W.Sink origin inside outside Outside outside_is _ _ fault text.end
+          ran.to_outside);
       to_inside = inl (capture_ended g.V.Sink origin inside outside Inside inside_is _ _ fault text.end ran.to_inside);
       log = closed.post origin inside outside c.args.log.now c.open.new.self c.in-Ok.totals.cuts c.requires.ready
           c.in_ok-open.ensures.ok ran.logs;
@@ -44,7 +46,7 @@ returns-in_err-left-in-Ok g c =
       reads = λ not_run. absurd (not_run text.of_run);
     })
 
--- all went well
+-- All went well.
 pub returns-in_ok-left-in-Ok : goal.returns-in_ok-left-in-Ok
 returns-in_ok-left-in-Ok g c =
     let ran = c.in-Ok.ensures in
@@ -60,7 +62,7 @@ returns-in_ok-left-in-Ok g c =
       reads = ran.readings;
     }
 
--- the run failed
+-- The run failed.
 pub returns-in-Err : goal.returns-in-Err
 returns-in-Err g c =
     let ran = c.in-Err.ensures in

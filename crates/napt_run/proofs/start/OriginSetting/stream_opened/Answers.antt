@@ -1,3 +1,4 @@
+-- stream_opened: each output has its part of its text, and the log its rows.
 use Rattle.std.proofs.Common.{sym, ◌∙◌, ap, rules, subst}
 use Rattle.napt_run.{specs.OutputSinks.IsNew, proofs.Ends.of_device}
 use Rattle.napt_run.proofs.start.OriginSetting.stream_opened.Goals as goal

@@ -72,6 +72,8 @@ no_word word (lines.EarlierEntry listed) e a b c d f g h i = g e
 pub returns-in_default : goal.returns-in_default
 returns-in_default c = record {
   read = λ is fits text. absurd (no_word _ is
-      (c.word.ensures ∙ ap (λ ws. get_or ws 0 []) (words_read is _ text)) c.in_default.not-clock c.in_default.not-binding
-      c.in_default.not-redirect c.in_default.not-flow c.in_default.not-log c.in_default.not-entry c.in_default.not-end c.in_default.not-held);
+      (c.word.ensures ∙ ap (λ ws. get_or ws 0 []) (words_read is _ text)) c.in_default.not-clock
+      c.in_default.not-binding
+      c.in_default.not-redirect c.in_default.not-flow c.in_default.not-log c.in_default.not-entry c.in_default.not-end
+      c.in_default.not-held);
 }

@@ -27,7 +27,8 @@ returns-then-is_some-clause-refused c made =
 
 pub returns-in-Flow-clause-refused : goal.returns-in-Flow-clause-refused
 returns-in-Flow-clause-refused c made =
-    let none = subst HasNoLast (ap (λ (s : StateFileModel). s.bindings) c.self.view_is) (c.add_flow.ensures.none made) in
+    let none = subst HasNoLast (ap (λ (s : StateFileModel). s.bindings) c.self.view_is) (c.add_flow.ensures.none made)
+    in
     subst (λ (l : StateLine). CanFollow l c.args.self.now → ⊥) (sym c.in-Flow.is)
     (no_flow_follows c.in-Flow.flow c.args.self.now none)
 

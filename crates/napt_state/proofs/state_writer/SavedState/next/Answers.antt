@@ -40,7 +40,8 @@ returns-in_default-read-clause-entry g c entry rest fits left =
     let read = line_read _ _ _ _ _ _ c.clear.ensures.items c.in-Ok.ensures.bytes left c.in-Ok.ensures.rest
     (line_text-ended entry) in
     let is = subst (IsCut _) c.in-Some.is (strip_suffix_char 10 _ _ c.strip_suffix.ensures.cases (lit< tt)) in
-    let found = c.read.ensures.read entry fits (sym read.0 ∙ sym (c.in-Ok-from_utf8.ensures.cases.0 ∙ c.deref.ensures.value) ∙ is) in
+    let found = c.read.ensures.read entry fits
+    (sym read.0 ∙ sym (c.in-Ok-from_utf8.ensures.cases.0 ∙ c.deref.ensures.value) ∙ is) in
     absurd (none-some _ (sym c.in_default-read.is ∙ found))
 
 pub returns-in_default-read-clause-torn : goal.returns-in_default-read-clause-torn
@@ -66,7 +67,8 @@ returns-then-eq-clause-entry g c entry rest fits left =
     let read = line_read _ _ _ _ _ _ c.clear.ensures.items c.in-Ok.ensures.bytes left c.in-Ok.ensures.rest
     (line_text-ended entry) in
     let is = subst (IsCut _) c.in-Some.is (strip_suffix_char 10 _ _ c.strip_suffix.ensures.cases (lit< tt)) in
-    let found = c.read.ensures.read entry fits (sym read.0 ∙ sym (c.in-Ok-from_utf8.ensures.cases.0 ∙ c.deref.ensures.value) ∙ is) in
+    let found = c.read.ensures.read entry fits
+    (sym read.0 ∙ sym (c.in-Ok-from_utf8.ensures.cases.0 ∙ c.deref.ensures.value) ∙ is) in
     (ap Ok (sym c.in-Some-read.is ∙ found), read.1)
 
 -- A fact that was proved if memory sufficed, where memory did suffice.
@@ -82,7 +84,8 @@ returns-then-eq-clause-exact g c entry all left e =
     let same : c.in-Some-read.entry ≡ entry = cc in
     let again = sufficed c.add_to.result c.add_to.ensures (sym c.is_err.ensures.value ∙ c.if-is_err.false) in
     let bytes = same_bytes _ _ _ c.eq.ensures c.if-eq.true in
-    let line = sym (c.in-Ok-from_utf8.ensures.cases.0 ∙ c.deref.ensures.value) ∙ sym bytes ∙ c.as_str.ensures.value ∙ again
+    let line = sym (c.in-Ok-from_utf8.ensures.cases.0 ∙ c.deref.ensures.value) ∙ sym bytes ∙ c.as_str.ensures.value ∙
+    again
     ∙ ap (λ l. l ++ line_text c.in-Some-read.entry) c.clear-2.ensures.bytes ∙ ap line_text same in
     first_read _ _ _ _ all entry c.clear.ensures.items c.in-Ok.ensures.bytes c.in-Ok.ensures.rest left line
 
@@ -91,7 +94,8 @@ returns-else-eq-clause-entry g c entry rest fits left =
     let read = line_read _ _ _ _ _ _ c.clear.ensures.items c.in-Ok.ensures.bytes left c.in-Ok.ensures.rest
     (line_text-ended entry) in
     let is = subst (IsCut _) c.in-Some.is (strip_suffix_char 10 _ _ c.strip_suffix.ensures.cases (lit< tt)) in
-    let found = c.read.ensures.read entry fits (sym read.0 ∙ sym (c.in-Ok-from_utf8.ensures.cases.0 ∙ c.deref.ensures.value) ∙ is) in
+    let found = c.read.ensures.read entry fits
+    (sym read.0 ∙ sym (c.in-Ok-from_utf8.ensures.cases.0 ∙ c.deref.ensures.value) ∙ is) in
     let both : Some c.in-Some-read.entry ≡ Some entry = sym c.in-Some-read.is ∙ found in
     let same : c.in-Some-read.entry ≡ entry = cc in
     let again = sufficed c.add_to.result c.add_to.ensures (sym c.is_err.ensures.value ∙ c.if-is_err.false) in

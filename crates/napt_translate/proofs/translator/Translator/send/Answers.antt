@@ -1,3 +1,4 @@
+-- send: a packet from inside goes out through the binding that the definition gives it, or is dropped for its cause.
 use Rattle.std.{proofs.Common.{◌≡◌, ◌↔◌, ℕ, Bool, true, false, not, List, Option, Some, None, Result, Ok, Err, OnOk, refl, sym, ◌∙◌, ap, subst}, specs.Option.is_some}
 use Rattle.napt_wire.specs.declared.{Cause.Cause, Endpoint.Endpoint}
 use Rattle.napt_config.specs.Rules.{RulesInvariant, block_of}

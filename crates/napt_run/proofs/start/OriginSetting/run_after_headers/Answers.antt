@@ -1,10 +1,11 @@
+-- run_after_headers: what is read after the headers of both captures goes through the run.
 use Rattle.std.proofs.Common.{◌≡◌, ℕ, ◌+◌, List, Option, Some, sym, ◌∙◌, ap, subst}
 use Rattle.napt_records.specs.{NewStreams.{IsMergerNew, IsStreamNew}, StreamMergers.IsMergerLive}
 use Rattle.napt_wire.specs.declared.Side.TheVariants as sides
-use Rattle.napt_run.{specs.{Captures.failed_readings, Streams.IsBehindHeader}, proofs.Begun.{begun_live, stream_begun}}
-use Rattle.napt_run.proofs.{Behind.{reads_of, runs_to}, BothPassed.logs_to, start.OriginSetting.run_behind_headers.{Given.Over, Goals.After-pass-passed}}
+use Rattle.napt_run.{specs.{Captures.failed_readings, Streams.IsAfterHeader}, proofs.OpenStreams.{begun_live, stream_begun}}
+use Rattle.napt_run.proofs.{AfterHeaders.{reads_of, runs_to}, BothPassed.logs_to, start.OriginSetting.run_after_headers.{Given.Over, Goals.After-pass-passed}}
 use Rattle.napt_run.specs.Origins.{origin_of}
-use Rattle.napt_run.proofs.start.OriginSetting.run_behind_headers.Goals as goal
+use Rattle.napt_run.proofs.start.OriginSetting.run_after_headers.Goals as goal
 
 live : (g : Over) (c : After-pass-passed g) → IsMergerLive c.new-inputs.result
 live g c =
@@ -13,8 +14,8 @@ live g c =
     c.new-inputs.ensures.outside_first
 
 begun : (g : Over) (c : After-pass-passed g) (bytes others : Option (List ℕ)) →
-    IsBehindHeader g.R.Source c.args.records.inside bytes c.args.inside.now →
-    IsBehindHeader g.Q.Source c.args.records.outside others c.args.outside.now →
+    IsAfterHeader g.R.Source c.args.records.inside bytes c.args.inside.now →
+    IsAfterHeader g.Q.Source c.args.records.outside others c.args.outside.now →
     (b o : List ℕ) → bytes ≡ Some b → others ≡ Some o → IsMergerNew c.new-inputs.result b o
 begun g c bytes others ours theirs b o is same = record {
   inside_begun = subst (λ s. IsStreamNew s (Some b)) (sym c.new-inputs.ensures.inside)

@@ -15,12 +15,12 @@ use Rattle.napt_records.proofs.ReaderRests.{StopsBy-then}
 use Rattle.napt_laws.specs.Dispatching.{IsFrontOf}
 use Rattle.napt_rules.specs.Prelude.{Arrival}
 use Rattle.napt_sequential.specs.Inputs.{InputsCame}
-use Rattle.napt_run.{specs.OutputSinks.{AreTimes, FailsBy, FailsToBegin, IsNew, IsSettled, SinkBegins, SinkTakes, TimedOutcomes, records_text}, proofs.Fronts.{capture_is, front_of, times_of}}
+use Rattle.napt_run.{specs.OutputSinks.{AreTimes, FailsBy, FailsToBegin, IsNew, IsSettled, SinkBegins, SinkTakes, TimedOutcome, records_text}, proofs.Fronts.{capture_is, front_of, times_of}}
 use Rattle.napt_run.specs.{OutputSinkLaws.{appends_none, breaks_more, grows_more, grows_none, records_text-append, times_first, times_second}, Outputs.{Breaks, OutputGrows}}
 use Rattle.napt_run.specs.CaptureRuns.{FailsAfter, PassesAll, PassesOr, RunPassesHalted}
 use Rattle.napt_run.specs.{LogLaws.held, Posts.{AtMostOneMore, ExtentPost, FailedPost, OutputEnds, RunsTo, capture_to, may_have_ended, output_text_by}, Runs.{IfHeld, run_left_of}, Files.files_until}
 use Rattle.napt_run.specs.{Streams.{AreTaken, IsStreamFaultOf, IsOfRun, IsReading, IsSettledBy, capture_text, side_of}, declared.{output.Output.Output, output_sinks.Leaving.Leaving, capture_run.Totals.Totals}}
-use Rattle.napt_run.proofs.{Begun.{ReadBy, read_somehow, read_to_fault, read_well, told}, Breaks.first_within, Counted.all_counted, Ends.{IfHeld-by, IsCapture, broken, ends, grown, grown_if, headed, inside_is, none_held, outside_is, same_text}, Files.{begun_files, files_large}}
+use Rattle.napt_run.proofs.{OpenStreams.{ReadBy, read_somehow, read_to_fault, read_well, told}, Breaks.first_within, OutcomeCounts.all_counted, Ends.{IfHeld-by, IsCapture, broken, ends, grown, grown_if, headed, inside_is, none_held, outside_is, same_text}, Files.{begun_files, files_large}}
 
 -- WHAT IS KNOWN OF THE CAPTURES
 
@@ -77,13 +77,14 @@ module _ {D : Type 0} {S : sink.Ghosts D} (origin : OriginModel) (side : Side) (
   pub broken_behind : (fault : WriteFault) → Breaks mid Left fault new →
       (p : Breaks old (capture_text origin side inputs) fault new) × (length file_header ≤ p.count)
   broken_behind fault p =
-      subst (λ (l : List ℕ). (p : Breaks old l fault new) × (length file_header ≤ p.count)) (capture_is origin side inputs)
+      subst (λ (l : List ℕ). (p : Breaks old l fault new) × (length file_header ≤ p.count))
+      (capture_is origin side inputs)
       (breaks_more old mid new _ _ fault begun p, first_within old mid new _ _ fault begun p)
 
--- where the run or its log failed an output has its header at least
+-- If the run or its log failed, an output has at least its header.
 module _ {D : Type 0} {S : sink.Ghosts D} (origin : OriginModel) (inside outside : Option (List ℕ)) (which : Which)
     (old new : Output D S) where
-  -- it has what left of a front of the inputs; or, where writing it failed, a part of that
+  -- It has what left of some first inputs, or a part of that if writing it failed.
   pub record HasSome : Type 0 where
     pub inputs : List Arrival
     pub front : IfHeld inside outside (λ all. IsFrontOf inputs all.arrivals)
@@ -101,11 +102,13 @@ module _ {D : Type 0} {S : sink.Ghosts D} (origin : OriginModel) (inside outside
       ⊎ ((fault : WriteFault) × (p : Breaks old (capture_text origin (side_of which) inputs) fault new)
       × (length file_header ≤ p.count)) → OutputEnds (capture_to which origin) which inside outside result old new
   halted_at result never extent failed inputs front (inl p) =
-      grown _ which inside outside result old new inputs _ (same_text origin which (may_have_ended result) inputs) front p
+      grown _ which inside outside result old new inputs _ (same_text origin which (may_have_ended result) inputs)
+      front p
       (λ all. extent all inputs _ (length (capture_text origin (side_of which) inputs))
       (headed origin (side_of which) inputs)) (λ is. failed (inl is)) (λ settled. absurd (never settled))
   halted_at result never extent failed inputs front (inr (fault, p, begun)) =
-      broken _ which inside outside result old new inputs _ (same_text origin which (may_have_ended result) inputs) front
+      broken _ which inside outside result old new inputs _ (same_text origin which (may_have_ended result) inputs)
+      front
       fault p (λ all. extent all inputs p.count (length (capture_text origin (side_of which) inputs)) begun)
       (λ is. failed (inr is)) never
 
@@ -122,12 +125,13 @@ module _ {D : Type 0} {S : sink.Ghosts D} (origin : OriginModel) (inside outside
   halted_ends of (Err (Write Inside fault)) run p = absurd run
   halted_ends of (Err (Write Report fault)) run p = absurd run
 
-  -- or all that these inputs leave, and it is flushed
+  -- Or it has all that these inputs leave, and it is flushed.
   pub settled_ends : (result : Result (Unit {0}) Fault) (inputs : List Arrival) →
       output_text_by (capture_to which origin) result inputs ≡ capture_text origin (side_of which) inputs →
       IfHeld inside outside (λ all. IsFrontOf inputs all.arrivals) →
       OutputGrows old (capture_text origin (side_of which) inputs) new → S.is_flushed new.device.now →
-      IfHeld inside outside (λ all. ExtentPost which result all inputs (length (capture_text origin (side_of which) inputs))
+      IfHeld inside outside (λ all. ExtentPost which result all inputs
+      (length (capture_text origin (side_of which) inputs))
       (length (capture_text origin (side_of which) inputs))) →
       (S.failed new.device.now ≡ S.failed old.device.now → FailedPost which result (S.failed old.device.now)
       (S.failed new.device.now)) → OutputEnds (capture_to which origin) which inside outside result old new
@@ -155,7 +159,7 @@ module _ {R Q : Type 0} {G : source.Ghosts R} {H : source.Ghosts Q} (begin end :
   front inputs first later mid whole handed =
       IfHeld-by (λ all. IsFrontOf first all.arrivals) bytes others (front_at inputs first later mid whole handed)
 
-  -- they are all inputs
+  -- They are all inputs.
   pub whole_is : (inputs : List Arrival) (cuts : CutFlags) →
       InputsCame HandsOutInputs MergeEndsWith begin inputs None end →
       cuts.inside ≡ cut_of end.inside → cuts.outside ≡ cut_of end.outside →
@@ -176,7 +180,7 @@ module _ {R Q : Type 0} {G : source.Ghosts R} {H : source.Ghosts Q} (begin end :
       is same) (StopsBy-then fault (λ stops. of_files ∙ stops) (came_fault begin end b o
       inputs (record { side = side; fault = fault }) (begun b o is same) came))
 
-  -- they are all before the fault
+  -- They are all before the fault.
   pub refused_held : (side : Side) (fault : CaptureFault) (inputs : List Arrival) →
       InputsCame HandsOutInputs MergeEndsWith begin inputs (Some (record { side = side; fault = fault })) end →
       IfHeld bytes others (λ all. Refuses side fault all inputs)
@@ -201,14 +205,15 @@ module _ {W V : Type 0} {S : sink.Ghosts W} {T : sink.Ghosts V} (origin : Origin
   abbrev GrownInside : List Arrival → Type 0
   GrownInside inputs = OutputGrows start.to_inside (capture_text origin sides.Inside inputs) new.to_inside
 
-  -- a capture had a fault
+  -- A capture had a fault.
   pub to_fault : (side : Side) (fault : CaptureFault) (inputs : List Arrival) →
       IfHeld bytes others (λ all. Refuses side fault all inputs) → GrownOutside inputs → GrownInside inputs →
       IsSettled new → To (Err (Capture side fault))
   to_fault side fault inputs refused ours theirs settled =
       let R : MergedInputs → Type 0 = λ all. Refuses side fault all inputs in
       let first = held R (λ all. IsFrontOf inputs all.arrivals) bytes others (λ all r. r.taken.0) refused in
-      let extent : (size : ℕ) → IfHeld bytes others (λ all. IsReadFault fault (Ended side fault all inputs) × (size ≡ size)) =
+      let extent : (size : ℕ) → IfHeld bytes others
+      (λ all. IsReadFault fault (Ended side fault all inputs) × (size ≡ size)) =
       λ size. held R (λ all. IsReadFault fault (Ended side fault all inputs) × (size ≡ size)) bytes others
       (λ all r. (r.taken.1, refl)) refused in
       record {
@@ -219,11 +224,12 @@ module _ {W V : Type 0} {S : sink.Ghosts W} {T : sink.Ghosts V} (origin : Origin
         told = tt;
       }
 
-  -- the output to the outside failed, and the one to the inside has the text of a front; or it was not begun
+  -- The output to the outside failed, and the one to the inside has the text of some first inputs, or it was not begun.
   pub fails_outside : start.to_outside.written ≡ 0 → (fault : WriteFault) (inputs : List Arrival) →
       IfHeld bytes others (λ all. IsFrontOf inputs all.arrivals) →
       Breaks start.to_outside (capture_text origin sides.Outside inputs) fault new.to_outside →
-      OutputEnds (capture_to Inside origin) Inside bytes others (Err (Write Outside fault)) start.to_inside new.to_inside →
+      OutputEnds (capture_to Inside origin) Inside bytes others (Err (Write Outside fault)) start.to_inside
+      new.to_inside →
       To (Err (Write Outside fault))
   fails_outside none fault inputs first broke kept = record {
     to_outside = broken _ Outside bytes others (Err (Write Outside fault)) start.to_outside new.to_outside inputs _ refl
@@ -233,10 +239,11 @@ module _ {W V : Type 0} {S : sink.Ghosts W} {T : sink.Ghosts V} (origin : Origin
     told = tt;
   }
 
-  -- the output to the inside failed
+  -- The output to the inside failed.
   pub fails_inside : start.to_inside.written ≡ 0 → (fault : WriteFault) (inputs : List Arrival) →
       IfHeld bytes others (λ all. IsFrontOf inputs all.arrivals) → GrownOutside inputs →
-      Breaks start.to_inside (capture_text origin sides.Inside inputs) fault new.to_inside → To (Err (Write Inside fault))
+      Breaks start.to_inside (capture_text origin sides.Inside inputs) fault new.to_inside →
+      To (Err (Write Inside fault))
   fails_inside none fault inputs first ours broke = record {
     to_outside = grown _ Outside bytes others (Err (Write Inside fault)) start.to_outside new.to_outside inputs _ refl
         first ours (λ all. refl) (λ is. is) (λ settled. absurd settled);
@@ -246,7 +253,7 @@ module _ {W V : Type 0} {S : sink.Ghosts W} {T : sink.Ghosts V} (origin : Origin
     told = tt;
   }
 
-  -- the headers could not be written
+  -- The headers could not be written.
   pub unheaded : IsNew start → (fault : Fault) → FailsToBegin start fault new → To (Err fault)
   unheaded is_new (Write Outside fault) (broke, same) =
       let none = none_held bytes others in
@@ -255,7 +262,8 @@ module _ {W V : Type 0} {S : sink.Ghosts W} {T : sink.Ghosts V} (origin : Origin
       new.to_outside) (sym (append-nil file_header) ∙ capture_is origin sides.Outside []) broke)
       (subst (λ (o : Output V T). OutputEnds (capture_to Inside origin) Inside bytes others (Err (Write Outside fault))
       start.to_inside o) (sym same)
-      (ends _ Inside bytes others (Err (Write Outside fault)) start.to_inside start.to_inside [] _ refl none 0 (omega arith)
+      (ends _ Inside bytes others (Err (Write Outside fault)) start.to_inside start.to_inside [] _ refl none 0
+      (omega arith)
       (appends_none _) (λ all. inr (refl, omega (arith, counted, broke.within))) refl refl
       (λ settled. absurd settled)))
   unheaded is_new (Write Inside fault) (wrote, broke) =
@@ -269,7 +277,8 @@ module _ {W V : Type 0} {S : sink.Ghosts W} {T : sink.Ghosts V} (origin : Origin
   unheaded is_new (Capture side fault) p = absurd p
   unheaded is_new (Run fault) p = absurd p
 
-pub none_read : {W V : Type 0} {S : sink.Ghosts W} {T : sink.Ghosts V} (start new : Leaving W V S T) (fault : Fault) → FailsToBegin start fault new →
+pub none_read : {W V : Type 0} {S : sink.Ghosts W} {T : sink.Ghosts V} (start new : Leaving W V S T) (fault : Fault) →
+    FailsToBegin start fault new →
     (let told : Result Totals Fault = Err fault in IsReading told (Ok tt))
 none_read start new (Write Outside fault) p = tt
 none_read start new (Write Inside fault) p = tt
@@ -278,7 +287,7 @@ none_read start new (Write Log fault) p = absurd p
 none_read start new (Capture side fault) p = absurd p
 none_read start new (Run fault) p = absurd p
 
--- a header of a capture was refused
+-- A header of a capture was refused.
 pub unread : {W V : Type 0} {S : sink.Ghosts W} {T : sink.Ghosts V} (origin : OriginModel)
     (bytes others : Option (List ℕ)) (start mid : Leaving W V S T) → SinkBegins start mid → IsSettled mid →
     (side : Side) (fault : CaptureFault) → IfHeld bytes others (λ all. Refuses side fault all []) →
@@ -301,18 +310,18 @@ module _ {R Q W V : Type 0} {G : source.Ghosts R} {H : source.Ghosts Q} {S : sin
       (run_left_of origin inputs)
   times inputs mid handed = grind (arith, common_steps, nat_tests, times_of, handed_timely)
 
-  grown_outside : (inputs : List Arrival) (left : List TimedOutcomes) → left ≡ run_left_of origin inputs →
+  grown_outside : (inputs : List Arrival) (left : List TimedOutcome) → left ≡ run_left_of origin inputs →
       OutputGrows mid.to_outside (records_text sides.Outside left) new.to_outside →
       OutputGrows start.to_outside (capture_text origin sides.Outside inputs) new.to_outside
   grown_outside inputs left is p = grown_behind origin sides.Outside inputs start.to_outside mid.to_outside
-      new.to_outside begins.to_outside (subst (λ (l : List TimedOutcomes). OutputGrows mid.to_outside
+      new.to_outside begins.to_outside (subst (λ (l : List TimedOutcome). OutputGrows mid.to_outside
       (records_text sides.Outside l) new.to_outside) is p)
 
-  grown_inside : (inputs : List Arrival) (left : List TimedOutcomes) → left ≡ run_left_of origin inputs →
+  grown_inside : (inputs : List Arrival) (left : List TimedOutcome) → left ≡ run_left_of origin inputs →
       OutputGrows mid.to_inside (records_text sides.Inside left) new.to_inside →
       OutputGrows start.to_inside (capture_text origin sides.Inside inputs) new.to_inside
   grown_inside inputs left is p = grown_behind origin sides.Inside inputs start.to_inside mid.to_inside
-      new.to_inside begins.to_inside (subst (λ (l : List TimedOutcomes). OutputGrows mid.to_inside
+      new.to_inside begins.to_inside (subst (λ (l : List TimedOutcome). OutputGrows mid.to_inside
       (records_text sides.Inside l) new.to_inside) is p)
 
   well : (totals : Totals) → PassesAll origin begin mid end new totals →
@@ -323,7 +332,8 @@ module _ {R Q W V : Type 0} {G : source.Ghosts R} {H : source.Ghosts Q} {S : sin
       let all = times inputs whole.came.last whole.came.handed in
       let is = whole_is begin end bytes others begun inputs totals.cuts whole.came p.cut_inside p.cut_outside in
       let Is : MergedInputs → Type 0 = λ all. all ≡ record { arrivals = inputs; end = Ok totals.cuts } in
-      let first = held Is (λ all. IsFrontOf inputs all.arrivals) bytes others (λ all same. rw same ([], append-nil inputs))
+      let first = held Is (λ all. IsFrontOf inputs all.arrivals) bytes others
+      (λ all same. rw same ([], append-nil inputs))
       is in
       let extent : (size : ℕ) → IfHeld bytes others (λ all. IsOk all.end × (inputs ≡ all.arrivals) × (size ≡ size)) =
       λ size. held Is (λ all. IsOk all.end × (inputs ≡ all.arrivals) × (size ≡ size)) bytes others
@@ -346,12 +356,12 @@ module _ {R Q W V : Type 0} {G : source.Ghosts R} {H : source.Ghosts Q} {S : sin
         };
       }
 
-  -- the outputs told a fault
+  -- The outputs reported a fault.
   record Early (fault : Fault) : Type 0 where
     went_is : List Arrival
     first_is : List Arrival
-    first : List TimedOutcomes
-    later : List TimedOutcomes
+    first : List TimedOutcome
+    later : List TimedOutcome
     middle : Leaving W V S T
     front_went : IfHeld bytes others (λ all. IsFrontOf went_is all.arrivals)
     front_first : IfHeld bytes others (λ all. IsFrontOf first_is all.arrivals)
@@ -361,7 +371,7 @@ module _ {R Q W V : Type 0} {G : source.Ghosts R} {H : source.Ghosts Q} {S : sin
     took_inside : OutputGrows mid.to_inside (records_text sides.Inside first) middle.to_inside
     failed : FailsBy middle later fault new
 
-  early : (fault : Fault) (inputs : List Arrival) (went : List TimedOutcomes) →
+  early : (fault : Fault) (inputs : List Arrival) (went : List TimedOutcome) →
       HasCome HandsOutInputs MergeEndsWith begin inputs end → IsFrontOf went (run_left_of origin inputs) →
       FailsAfter mid went fault new → Early fault
   early fault inputs went come front_is f =
@@ -370,7 +380,7 @@ module _ {R Q W V : Type 0} {G : source.Ghosts R} {H : source.Ghosts Q} {S : sin
       let went_of = front_of origin inputs went front_is in
       let split : f.first ++ (f.others ++ rest) ≡ run_left_of origin inputs =
       sym (append_assoc f.first f.others rest)
-      ∙ ap (λ (l : List TimedOutcomes). l ++ rest) (sym f.went_is) ∙ is in
+      ∙ ap (λ (l : List TimedOutcome). l ++ rest) (sym f.went_is) ∙ is in
       let begun_of = front_of origin inputs f.first (f.others ++ rest, split) in
       let all = subst AreTimes (sym split) (times inputs at handed) in
       let first_times = times_first f.first (f.others ++ rest) all in
@@ -395,8 +405,8 @@ module _ {R Q W V : Type 0} {G : source.Ghosts R} {H : source.Ghosts Q} {S : sin
         ) later_times;
       }
 
-  -- the text of both parts
-  text_of_both : (side : Side) (first later : List TimedOutcomes) →
+  -- The text of both parts.
+  text_of_both : (side : Side) (first later : List TimedOutcome) →
       records_text side first ++ records_text side later ≡ records_text side (first ++ later)
   text_of_both side first later = sym (records_text-append side first later)
 
@@ -406,13 +416,14 @@ module _ {R Q W V : Type 0} {G : source.Ghosts R} {H : source.Ghosts Q} {S : sin
   outside_broke fault e = broken_behind origin sides.Outside e.went_is start.to_outside mid.to_outside new.to_outside
       begins.to_outside fault (subst (λ (l : List ℕ). Breaks mid.to_outside l fault new.to_outside)
       (text_of_both sides.Outside e.first e.later
-      ∙ ap (λ (l : List TimedOutcomes). records_text sides.Outside l) e.both_are)
+      ∙ ap (λ (l : List TimedOutcome). records_text sides.Outside l) e.both_are)
       (breaks_more mid.to_outside e.middle.to_outside new.to_outside _ _ fault e.took_outside e.failed.0))
 
   inside_kept : (fault : WriteFault) (e : Early (Write Outside fault)) →
       OutputGrows start.to_inside (capture_text origin sides.Inside e.first_is) new.to_inside
   inside_kept fault e = grown_inside e.first_is e.first e.first_are
-      (subst (λ (l : List ℕ). OutputGrows mid.to_inside l new.to_inside) (append-nil (records_text sides.Inside e.first))
+      (subst (λ (l : List ℕ). OutputGrows mid.to_inside l new.to_inside)
+      (append-nil (records_text sides.Inside e.first))
       (grows_more mid.to_inside e.middle.to_inside new.to_inside _ _ e.took_inside e.failed.1))
 
   outside_wrote : (fault : WriteFault) (e : Early (Write Inside fault)) →
@@ -426,15 +437,16 @@ module _ {R Q W V : Type 0} {G : source.Ghosts R} {H : source.Ghosts Q} {S : sin
       × (length file_header ≤ p.count)
   inside_broke fault e = broken_behind origin sides.Inside e.went_is start.to_inside mid.to_inside new.to_inside
       begins.to_inside fault (subst (λ (l : List ℕ). Breaks mid.to_inside l fault new.to_inside)
-      (text_of_both sides.Inside e.first e.later ∙ ap (λ (l : List TimedOutcomes). records_text sides.Inside l) e.both_are)
+      (text_of_both sides.Inside e.first e.later ∙
+      ap (λ (l : List TimedOutcome). records_text sides.Inside l) e.both_are)
       (breaks_more mid.to_inside e.middle.to_inside new.to_inside _ _ fault e.took_inside e.failed.1))
 
-  -- the run itself failed, or its log; an output may have failed before
+  -- The run itself failed, or its log; an output may have failed before.
   abbrev Halts : Type 0
   Halts = HasSome origin bytes others Outside start.to_outside new.to_outside
       × HasSome origin bytes others Inside start.to_inside new.to_inside
 
-  halted : (inputs : List Arrival) (went : List TimedOutcomes) → HasCome HandsOutInputs MergeEndsWith begin inputs end →
+  halted : (inputs : List Arrival) (went : List TimedOutcome) → HasCome HandsOutInputs MergeEndsWith begin inputs end →
       IsFrontOf went (run_left_of origin inputs) → SinkTakes mid went new → Halts
   halted inputs went come front_is took =
       let (at, handed) = came_somehow begin end bytes others begun inputs come in
@@ -455,12 +467,22 @@ module _ {R Q W V : Type 0} {G : source.Ghosts R} {H : source.Ghosts Q} {S : sin
 
   failed : (fault : Fault) → Early fault → Halts
   failed (Write Outside fault) e = (
-    record { inputs = e.went_is; front = e.front_went; left = inr (fault, (outside_broke fault e).0, (outside_broke fault e).1) },
+    record {
+      inputs = e.went_is;
+      front = e.front_went;
+      left =
+          inr (fault, (outside_broke fault e).0, (outside_broke fault e).1);
+    },
     record { inputs = e.first_is; front = e.front_first; left = inl (inside_kept fault e) },
   )
   failed (Write Inside fault) e = (
     record { inputs = e.went_is; front = e.front_went; left = inl (outside_wrote fault e) },
-    record { inputs = e.went_is; front = e.front_went; left = inr (fault, (inside_broke fault e).0, (inside_broke fault e).1) },
+    record {
+      inputs = e.went_is;
+      front = e.front_went;
+      left =
+          inr (fault, (inside_broke fault e).0, (inside_broke fault e).1);
+    },
   )
   failed (Write Report fault) e = absurd e.failed
   failed (Write Log fault) e = absurd e.failed
@@ -488,11 +510,14 @@ module _ {R Q W V : Type 0} {G : source.Ghosts R} {H : source.Ghosts Q} {S : sin
       let all = times p.inputs p.came.last p.came.handed in
       to_fault origin bytes others start new side fault p.inputs
       (refused_held begin end bytes others begun side fault p.inputs p.came)
-      (grown_outside p.inputs _ refl (p.took.to_outside all)) (grown_inside p.inputs _ refl (p.took.to_inside all)) p.settled
+      (grown_outside p.inputs _ refl (p.took.to_outside all)) (grown_inside p.inputs _ refl (p.took.to_inside all))
+      p.settled
   runs_to (Err (Write Outside fault)) p =
       let e = early (Write Outside fault) p.inputs p.went p.come p.front p.failed in
-      fails_outside origin bytes others start new is_new.none_outside fault e.went_is e.front_went (outside_broke fault e).0
-      (grown _ Inside bytes others (Err (Write Outside fault)) start.to_inside new.to_inside e.first_is _ refl e.front_first
+      fails_outside origin bytes others start new is_new.none_outside fault e.went_is e.front_went
+      (outside_broke fault e).0
+      (grown _ Inside bytes others (Err (Write Outside fault)) start.to_inside new.to_inside e.first_is _ refl
+      e.front_first
       (inside_kept fault e) (λ all. inl refl) (λ is. is) (λ settled. absurd settled))
   runs_to (Err (Write Inside fault)) p =
       let e = early (Write Inside fault) p.inputs p.went p.come p.front p.failed in
@@ -502,16 +527,17 @@ module _ {R Q W V : Type 0} {G : source.Ghosts R} {H : source.Ghosts Q} {S : sin
   runs_to (Err (Write Log fault)) p = halts_to (Write Log fault) tt (halts p)
   runs_to (Err (Run fault)) p = halts_to (Run fault) tt (halts p)
 
--- and how many reads failed
+-- The number of reads that failed.
 module _ {R Q W V : Type 0} {G : source.Ghosts R} {H : source.Ghosts Q} {S : sink.Ghosts W} {T : sink.Ghosts V}
-    (origin : OriginModel) (begin end : StreamMerger R Q G H) (mid new : Leaving W V S T) (live : IsMergerLive begin) where
-  pub reads_of : (result : Result Totals Fault) → PassesOr origin begin mid end new result →
-      (¬ IsOfRun result) → (read : Result (Unit {0}) Fault) × IsReading result read × ReadBy begin end live read
-  reads_of (Ok totals) p not_run = (Ok tt, refl, read_well begin end live p.well.whole.inputs p.well.whole.came)
-  reads_of (Err (Capture side fault)) p not_run =
-      (told side fault, refl, read_to_fault begin end live p.inputs (record { side = side; fault = fault }) p.came)
-  reads_of (Err (Write Outside fault)) p not_run = read_somehow begin end live p.inputs p.come
-  reads_of (Err (Write Inside fault)) p not_run = read_somehow begin end live p.inputs p.come
-  reads_of (Err (Write Report fault)) p not_run = absurd p
-  reads_of (Err (Write Log fault)) p not_run = absurd (not_run tt)
-  reads_of (Err (Run fault)) p not_run = absurd (not_run tt)
+    (origin : OriginModel) (begin end : StreamMerger R Q G H) (mid new : Leaving W V S T) (live : IsMergerLive begin)
+  where
+    pub reads_of : (result : Result Totals Fault) → PassesOr origin begin mid end new result →
+        (¬ IsOfRun result) → (read : Result (Unit {0}) Fault) × IsReading result read × ReadBy begin end live read
+    reads_of (Ok totals) p not_run = (Ok tt, refl, read_well begin end live p.well.whole.inputs p.well.whole.came)
+    reads_of (Err (Capture side fault)) p not_run =
+        (told side fault, refl, read_to_fault begin end live p.inputs (record { side = side; fault = fault }) p.came)
+    reads_of (Err (Write Outside fault)) p not_run = read_somehow begin end live p.inputs p.come
+    reads_of (Err (Write Inside fault)) p not_run = read_somehow begin end live p.inputs p.come
+    reads_of (Err (Write Report fault)) p not_run = absurd p
+    reads_of (Err (Write Log fault)) p not_run = absurd (not_run tt)
+    reads_of (Err (Run fault)) p not_run = absurd (not_run tt)

@@ -3,7 +3,7 @@ use Rattle.std.proofs.{Common.{◌≡◌, ℕ, Bool, true, false, ◌&&◌, ◌|
 use Rattle.std.specs.{List.list_any, BTreeMap.is_at}
 use Rattle.napt_wire.specs.declared.Endpoint.{Endpoint}
 use Rattle.napt_account.specs.{Questions.is_meant, declared.question.Party.Party}
-use Rattle.napt_attribution.specs.{Asked.{is_asked_about, is_party, party_cmp}, declared.requests.HolderRequest.HolderRequest}
+use Rattle.napt_attribution.specs.{RequestParties.{is_asked_about, is_party, party_cmp}, declared.requests.HolderRequest.HolderRequest}
 
 meant_one : (external : Endpoint) (address : ℕ) (number : Option ℕ) →
     is_meant (record { address = address; number = number }) external
@@ -41,7 +41,8 @@ pub one_more : (asked : List HolderRequest) (i : ℕ) (d : HolderRequest) → i 
     (address, number)) true old → new ≡ list_any (names address number) (take (i + 1) asked)
 one_more asked i d less old new address number was is =
     let one : HolderRequest = get_or asked i d in
-    is ∙ (ap₂ (λ (a b : Bool). cond a true b) (party_at address one.request.party.address one.request.party.number number) was
+    is ∙ (ap₂ (λ (a b : Bool). cond a true b)
+    (party_at address one.request.party.address one.request.party.number number) was
     ∙ (or_flip (names address number one) (list_any (names address number) (take i asked))
     ∙ sym (list_any_more (names address number) asked i d less)))
 

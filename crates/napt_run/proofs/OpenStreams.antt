@@ -10,16 +10,13 @@ use Rattle.napt_records.specs.{NewStreams.IsStreamNew, StreamMergers.{IsMergerLi
 use Rattle.napt_records.specs.declared.{stream_merger.{StreamMerger.StreamMerger, SideFault.SideFault}, stream.RecordStream.RecordStream}
 use Rattle.napt_records.proofs.HeadersRead.{came_counts, came_failed, came_same}
 use Rattle.napt_rules.specs.Prelude.{Arrival}
-use Rattle.napt_run.specs.{Captures.failed_readings, Streams.{IsBehindHeader, IsOfReading}}
+use Rattle.napt_run.specs.{Captures.failed_readings, Streams.{IsAfterHeader, IsOfReading}}
 use Rattle.napt_sequential.specs.Inputs.{InputsCame}
 
 -- THE START
 
-pub none_is : {P : Type 0} {X : Type 0} (x : X) → None ≡ Some x → P
-none_is x is = absurd (let no : None ≡ Some x = is in cc)
-
 pub stream_begun : {R : Type 0} {G : Ghosts R} (stream : RecordStream R G) (records : RecordReader) (source : R)
-    (bytes : Option (List ℕ)) → IsBehindHeader G records bytes source → stream.records ≡ records →
+    (bytes : Option (List ℕ)) → IsAfterHeader G records bytes source → stream.records ≡ records →
     stream.live.source.now ≡ source → stream.live.fault ≡ None → stream.cut ≡ None → IsStreamNew stream bytes
 stream_begun stream records source bytes behind same value live cut = grind (arith, common_steps, nat_tests)
 
