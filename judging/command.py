@@ -14,7 +14,7 @@ from judging.log import Log
 from judging.packets import SIDES, Prefixes
 from judging.pairing import Given
 from judging.replay import Replay
-from judging.requirements import REQUIREMENTS
+from judging.rules import REQUIREMENTS
 from reading.captures import BAD_WORDS, STANDARD_INPUT, Fault
 from reading.program import Words, address, files_of, prefix, run_program, say
 

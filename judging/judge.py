@@ -8,8 +8,7 @@ from collections.abc import Iterator
 from judging.gateway import MOST_KEPT, Gateway, Incoming
 from judging.packets import PROTOCOLS, Plan, dotted
 from judging.pairing import Given, Pairing
-from judging.requirements import REQUIREMENTS
-from judging.rules import End, Rules
+from judging.rules import REQUIREMENTS, End, Rules
 from reading.captures import SECOND
 
 

@@ -1,7 +1,12 @@
 """The rule of each requirement, on each occasion that pairs show. A rule is given a moment, of the kinds that its
-signature names. What it asks is in requirements.csv, with the section of the RFC; rules that differ in a word have
-that word there, too, which is `word` here."""
+signature names. What it asks is in requirements.csv: the name, level (RFC 2119) and section of each requirement, what
+traffic shows it, its rule with the word that it is given, `word` here, the protocol that it is of, where it is of one,
+and whether it is of segments, which a gateway does not show that ends connections itself."""
 import collections
+import csv
+import dataclasses
+import pathlib
+import typing
 
 from judging.gateway import ADDRESS_PORT, AFTER_ERROR, ELSEWHERE, LEAST, LEAST_HIGH_PORT, NO_ONE, RESET, SEGMENT
 from judging.gateway import SIMULTANEOUS, SOON, SUDDEN, TIMER, UNREFRESHED, Departure, Error, Fragmentable, Fragmented
@@ -457,3 +462,36 @@ class Rules(Row):
         if came.is_in_order == (self.word == "in"):
             made = [f"made of them: {packet.name} ({packet.text()})" for packet in it.pair.made]
             self.judge(it.pair.departure is not None, it.pair, f"in the pieces {', '.join(came.pieces)}", *made)
+
+
+@dataclasses.dataclass(frozen=True)
+class Requirement:
+    """A requirement. Its rule is a method of its row, for moments of the kinds that the signature names."""
+
+    name: str
+    level: str
+    section: str
+    asks: str
+    shown_by: str
+    rule: str
+    protocol: int | None
+    is_of_segments: bool
+
+    @property
+    def rfc(self) -> int:
+        return int(self.name.split()[0])
+
+    @property
+    def method(self) -> str:
+        return self.rule.split()[0]
+
+    @property
+    def moments(self) -> tuple:
+        kind = typing.get_type_hints(getattr(Rules, self.method))["it"]
+        return typing.get_args(kind) or (kind,)
+
+
+NUMBERS = {name: number for number, name in PROTOCOLS.items()}
+with open(pathlib.Path(__file__).with_name("requirements.csv"), encoding="utf-8", newline="") as file:
+    REQUIREMENTS = [Requirement(*words, NUMBERS.get(protocol), bool(is_of_segments))
+                    for *words, protocol, is_of_segments in list(csv.reader(file))[1:]]
