@@ -359,8 +359,8 @@ class Gateway:
 
     def __init__(self, prefixes: Prefixes, plan: Plan, judge):
         self.prefixes, self.pool, self.ends_connections = prefixes, plan.pool, plan.ends_connections
-        # how many are alike of what was told, whether enough neighbours with one address were, and who follows what
-        # comes from outside
+        # what was told, with how many are alike; whether enough neighbours with one address were told; and who follows
+        # what comes from outside
         self.judge, self.tell, self.alike = judge, judge.tell, judge.alike
         self.has_neighbours, self.follow = False, None
         # mappings by protocol and inside endpoint, and by protocol and external endpoint; and of each host the last
@@ -668,6 +668,7 @@ class Gateway:
         kind, is_usual = session.kind if session else mapping.kind_to(remote), False
         if is_known and target:
             self.note_life(pair, mapping, kind, gap, quiet)
+            # no rule tells apart those of a protocol to which nothing happened
             is_usual = not (mapping.error or mapping.refused) and (
                 protocol != TCP or session and not session.reset and not came.is_syn)
         if not (is_usual and self.has_enough(protocol)):

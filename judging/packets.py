@@ -279,14 +279,14 @@ class Side:
         return False
 
     def packets_of(self, capture: Capture, file: int) -> Iterator[list[Packet]]:
-        """Yields the packets of a capture, those of one order in one batch."""
-        name, depth, named, keeps_data = self.name, self.plan.depth, self.interface, self.keeps_data
+        """Yields the packets of a capture in batches, those of one order in one batch."""
+        name, depth, only, keeps_data = self.name, self.plan.depth, self.interface, self.keeps_data
         is_double, ahead = name in self.plan.doubles, self.plan.ahead if name == "outside" else 0
         batch, latest = [], -MOST_TIME
         for number, frame in enumerate(capture.frames(), 1):
             time, data, original, interface = frame
             link = interface.link
-            if named and interface.name != named:
+            if only and interface.name != only:
                 continue
             try:
                 data, original = packet_in(link, data, original)
