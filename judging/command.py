@@ -14,9 +14,9 @@ from judging.log import Log
 from judging.packets import SIDES, Prefixes
 from judging.pairing import Given
 from judging.replay import Replay
-from judging.requirements import REQUIREMENTS
-from reading.captures import BAD_WORDS, STANDARD_INPUT, Fault, file_of, shown
-from reading.program import Words, address, prefix, run_program, say
+from judging.rules import REQUIREMENTS
+from reading.captures import BAD_WORDS, STANDARD_INPUT, Fault
+from reading.program import Words, address, files_of, prefix, run_program, say
 
 # the number is the first in CHANGES
 VERSION = "0.1.0\nnot proved: tested by tests/judge"
@@ -69,22 +69,9 @@ def read_twice(paths: list[str], room: str) -> list[str]:
     return [str(kept) if it == STANDARD_INPUT else it for it in paths]
 
 
-def refuse_twice(given: argparse.Namespace) -> bool:
-    """Refuses a file that is named twice on one side, and returns whether one is named on both."""
-    files = {side: {} for side in SIDES}
-    for side, named in files.items():
-        for path in getattr(given, side):
-            if (file := file_of(path)) in named:
-                again = f"{shown(path)} is the capture {shown(named[file])} once more"
-                raise Fault(BAD_WORDS, f"{again}: its packets would be there twice")
-            if file:
-                named[file] = path
-    return bool(files["inside"].keys() & files["outside"].keys()) and given.inside_interface is None
-
-
 def run(given: argparse.Namespace, program: str):
     """Judges, and writes to standard output."""
-    is_one_file = refuse_twice(given)
+    is_one_file = bool(files_of(given.inside).keys() & files_of(given.outside).keys()) and not given.inside_interface
     names = selected(given.only) if given.only else [it.name for it in REQUIREMENTS]
     with tempfile.TemporaryDirectory(prefix="judge-") as room:
         files = [read_twice(getattr(given, side), room) for side in SIDES]

@@ -23,9 +23,12 @@ ANSWER_TO_SYN, ANSWER = 12 * SECOND, 3 * SECOND
 # a gateway's timers may be so much longer than they must. Mappings that are over then are looked for each time that
 # the second has passed
 MARGIN, SWEEP = 600 * SECOND, 600 * SECOND
+MOST_LIFE = LONGEST + MARGIN
 # how many refusals are kept whose reason is known at the end, how many endpoints of the gateway itself, and ended
 # mappings of a number
 MOST_UNDECIDED, MOST_ENDS, MOST_ENDED = 256, 10_000, 4
+# how many of what is alike are told: as many occasions as are kept as evidence
+MOST_KEPT, LEAST_HIGH_PORT = 5, 1024
 # what every host and every link takes whole (RFC 791)
 LEAST_MTU = 576
 # kinds of filtering (RFC 4787, section 5)
@@ -36,8 +39,8 @@ NO_ONE = "not one"
 # mapping; by the timer; at another host
 STRANGER, SIMULTANEOUS, SEGMENT, RESET, AFTER_ERROR, SUDDEN, UNREFRESHED, TIMER, ELSEWHERE = (
     "stranger", "simultaneous", "segment", "reset", "after an error", "sudden", "not refreshed", "timer", "elsewhere")
-# what all segments of connections to which nothing happened have, so that no rule tells them apart
-USUAL = "usual"
+# sessions of a mapping that is not of TCP
+NO_SESSIONS = {}
 
 
 class Session:
@@ -55,18 +58,18 @@ class Session:
         return self.reset is not None or self.closed_out and self.closed_in
 
     def take(self, pair: Pair, is_out: bool):
-        """Takes a segment that went through."""
-        flags, self.last = pair.arrival.flags, pair.time
-        if flags & (SYN | FIN | RST):
-            opens, closes = bool(flags & SYN), bool(flags & FIN)
+        """Takes the flags of a segment that went through."""
+        flags = pair.arrival.flags
+        if flags & SYN:
             # the SYN of the inside may have left before the captures
-            self.opened_out |= opens and (is_out or bool(flags & ACK))
-            self.opened_in |= opens and not is_out
-            self.closed_out |= closes and is_out
-            self.closed_in |= closes and not is_out
-            self.reset = pair if flags & RST else self.reset
-            is_open = self.opened_out and self.opened_in and not self.is_closing
-            self.kind = ESTABLISHED if is_open else TRANSITORY
+            self.opened_out |= is_out or bool(flags & ACK)
+            self.opened_in |= not is_out
+        if flags & FIN:
+            self.closed_out |= is_out
+            self.closed_in |= not is_out
+        self.reset = pair if flags & RST else self.reset
+        is_open = self.opened_out and self.opened_in and not self.is_closing
+        self.kind = ESTABLISHED if is_open else TRANSITORY
 
 
 class Mapping:
@@ -81,7 +84,8 @@ class Mapping:
 
     def __init__(self, inside: Endpoint, external: Endpoint, pair: Pair, is_unsure: bool = False):
         self.protocol, self.inside, self.external = pair.protocol, inside, external
-        self.tried, self.is_unsure, self.last, self.sessions = (), is_unsure, None, {}
+        self.tried, self.is_unsure, self.last = (), is_unsure, None
+        self.sessions = {} if pair.protocol == TCP else NO_SESSIONS
         self.last_out = self.last_any = pair.time
         self.begin(pair)
 
@@ -98,14 +102,17 @@ class Mapping:
         if time - self.last_any > self.longest_gap:
             self.longest_gap = time - self.last_any
         self.last_any = time
+        if self.last and self.last[1] == remote:
+            # one that is there already takes no more memory
+            remote = self.last[1]
         self.last = (pair.way, remote, came.flags, time, came.file, came.number, left.file, left.number)
 
     def begin(self, pair: Pair):
         """It is made, or made again after its timer."""
         self.first, self.remotes, self.longest_gap = pair.time, {}, 0
         self.error, self.refused, self.sent, self.received = None, None, 0, 0
-        for remote in [at for at, it in self.sessions.items() if pair.time - it.last >= LEAST[it.kind]]:
-            del self.sessions[remote]
+        if self.sessions:
+            self.sessions = {at: it for at, it in self.sessions.items() if pair.time - it.last < LEAST[it.kind]}
 
     def kind_to(self, remote: Endpoint | None) -> str:
         """Returns the kind of timer that holds for a remote."""
@@ -133,7 +140,8 @@ class Mapping:
 
     def is_over(self, time: int) -> bool:
         """Whether hardly any gateway still has it."""
-        return time - self.last_any > LEAST[self.age(time)[0]] + MARGIN
+        quiet = time - self.last_any - MARGIN
+        return quiet > SHORTEST and quiet > LEAST[self.age(time)[0]]
 
 
 # MOMENTS IN WHICH A REQUIREMENT CAN BE MET OR BROKEN
@@ -155,18 +163,26 @@ class Departure(Moment):
     """A packet that left by a mapping that is new, or to a remote that is new to it; as it was before. `others` are
     the live mappings of the same endpoint with other numbers, `holders` the live mappings of other endpoints with this
     number, and `rival` one of another endpoint that lives with the number that this one lacks, for other remotes.
-    `before` is the last mapping that had its number. `siblings` are live mappings of the host of the same protocol,
-    `cousins` of others."""
+    `before` is the last mapping that had its number."""
 
     inside: Endpoint
     external: Endpoint
     remote: Endpoint
     mapping: Mapping | None
     is_new: bool
+    is_new_remote: bool
     others: list
     holders: list
     rival: Mapping | None = None
     before: Mapping | None = None
+
+
+@dataclasses.dataclass(slots=True)
+class Neighbours(Moment):
+    """A packet that left from an external address by a new mapping, whose host has other live mappings: `siblings` of
+    the same protocol, or `cousins` of others."""
+
+    address: int
     siblings: tuple = ()
     cousins: tuple = ()
 
@@ -186,6 +202,13 @@ class Incoming(Moment):
     is_let_in: bool = False
     cause: str | None = None
     holder: Seen | None = None
+
+
+@dataclasses.dataclass(slots=True)
+class Kept(Moment):
+    """A packet of UDP that came in by a mapping from which several had left."""
+
+    mapping: Mapping
 
 
 @dataclasses.dataclass(slots=True)
@@ -336,9 +359,12 @@ class Gateway:
 
     def __init__(self, prefixes: Prefixes, plan: Plan, judge):
         self.prefixes, self.pool, self.ends_connections = prefixes, plan.pool, plan.ends_connections
-        self.judge, self.tell = judge, judge.tell
-        # mappings by protocol and inside endpoint, and by protocol and external endpoint; and the last mapping of each
-        # host by protocol
+        # what was told, with how many are alike; whether enough neighbours with one address were told; and who follows
+        # what comes from outside
+        self.judge, self.tell, self.alike = judge, judge.tell, judge.alike
+        self.has_neighbours, self.follow = False, None
+        # mappings by protocol and inside endpoint, and by protocol and external endpoint; and of each host the last
+        # mapping by protocol
         self.mappings, self.of_host = collections.defaultdict(dict), {}
         self.lifetimes, self.filters = Lifetimes(), {UDP: Filter(), TCP: Filter()}
         # what waits for an answer of the gateway's own, by the time of its end; refusals whose reason is known at the
@@ -348,42 +374,52 @@ class Gateway:
         # endpoints from which packets left alone, and those of nobody to which packets came
         self.alone, self.nobodys = collections.Counter(), set()
 
-    def take(self, item: Pair | Departed):
-        """Takes a pair, or what departed alone, in order of time."""
-        if item.time > self.now:
-            self.now = item.time
-        if self.waiting:
-            self.end_waits(self.now)
-        if type(item) is Departed:
-            self.take_alone(item)
-        elif item.how == LIKELY:
-            self.doubt(item)
-        else:
-            if self.now - self.swept > SWEEP:
-                self.sweep()
-            self.take_pair(item)
+    def take(self, items: list[Pair | Departed]):
+        """Takes pairs, and what departed alone, in order of time."""
+        for item in items:
+            if item.time > self.now:
+                self.now = item.time
+            if self.waiting and self.waiting[0][0] < self.now:
+                self.end_waits(self.now)
+            if type(item) is Departed:
+                self.take_alone(item)
+            elif item.how is LIKELY:
+                self.doubt(item)
+            else:
+                if self.now - self.swept > SWEEP:
+                    self.sweep()
+                self.take_pair(item)
+
+    def has_enough(self, key: object) -> bool:
+        """Whether enough of what has a key was told, so that one more is only counted."""
+        group = self.alike.get(key)
+        if group is None or group[0] < MOST_KEPT:
+            return False
+        group[0] += 1
+        return True
 
     def take_pair(self, pair: Pair):
         came, left, way = pair.arrival, pair.departure, pair.way
-        key = left and alike(pair)
-        if key is None or not self.judge.has_enough(key):
+        key = left and alike(pair, came, left)
+        if not self.has_enough(key):
             self.tell(pair, key)
         if came.pieces:
             self.tell(Fragmented(pair))
-        if came.may_fragment and came.protocol == UDP and way is OUT and pair.how is SURE:
-            self.tell(Fragmentable(pair))
-        if way is OUT and left:
-            if came.length > self.largest and not came.pieces and not left.pieces:
-                self.largest = came.length
-        elif way is OUT and not came.may_fragment and came.length > LEAST_MTU and came.kind in (OF_UDP, OF_TCP):
-            self.wait(TooLarge(pair))
+        if way is OUT:
+            if came.may_fragment and came.protocol == UDP and pair.how is SURE:
+                self.tell(Fragmentable(pair))
+            if left:
+                if came.length > self.largest and not came.pieces and not left.pieces:
+                    self.largest = came.length
+            elif not came.may_fragment and came.length > LEAST_MTU and came.kind in (OF_UDP, OF_TCP):
+                self.wait(TooLarge(pair))
         # one that was cut may have a wrong checksum, for which it was dropped
-        if pair.how == ALTERED or came.is_cut and not left:
+        if pair.how is ALTERED or came.is_cut and not left:
             return
-        if came.kind == ERROR:
+        if came.kind in (OF_TCP, OF_UDP, QUERY):
+            (self.take_out if way is OUT else self.take_in if way is IN else self.take_hairpin)(pair, came, left)
+        elif came.kind is ERROR:
             self.take_error(pair)
-        elif came.kind in (OF_UDP, OF_TCP, QUERY):
-            (self.take_out if way is OUT else self.take_in if way is IN else self.take_hairpin)(pair)
 
     def with_end(self, protocol: int, end: Endpoint) -> tuple[Mapping, ...]:
         """Returns the mappings with an inside or external endpoint."""
@@ -391,11 +427,13 @@ class Gateway:
 
     def add(self, mapping: Mapping):
         """Adds a mapping, in the place of old ones that its number had, of which some are kept."""
-        for end in (mapping.inside, mapping.external):
-            found = self.with_end(mapping.protocol, end)
-            if end is mapping.external and len(found) >= MOST_ENDED:
-                found = tuple(it for it in found if it.must_live(mapping.first)) or found[-1:]
-            self.mappings[mapping.protocol][end] = (*found, mapping)
+        # a row that is added to an empty one is itself, and takes no more memory
+        table, alone = self.mappings[mapping.protocol], (mapping,)
+        table[mapping.inside] = table.get(mapping.inside, ()) + alone
+        found = table.get(mapping.external, ())
+        if len(found) >= MOST_ENDED:
+            found = tuple(it for it in found if it.must_live(mapping.first)) or found[-1:]
+        table[mapping.external] = found + alone
 
     def doubt(self, pair: Pair):
         """Concludes nothing from mappings whose packet it may be, since several hosts sent the same."""
@@ -455,17 +493,21 @@ class Gateway:
         """Forgets mappings that are over for long."""
         now = self.swept = self.now
         for protocol, found in self.mappings.items():
-            self.mappings[protocol] = {end: it for end, it in found.items() if not all(one.is_over(now) for one in it)}
-        self.of_host = {key: it for key, it in self.of_host.items() if not it.is_over(now)}
+            self.mappings[protocol] = {
+                end: them for end, them in found.items()
+                if not (them[-1].is_over(now) and all(it.is_over(now) for it in them))}
+        for host, found in list(self.of_host.items()):
+            self.of_host[host] = live = {protocol: it for protocol, it in found.items() if not it.is_over(now)}
+            if not live:
+                del self.of_host[host]
 
     # OUT
 
-    def take_out(self, pair: Pair):
-        came = pair.arrival
-        if came.kind == QUERY and came.type not in QUERIES:
+    def take_out(self, pair: Pair, came: Packet, left: Packet | None):
+        if came.kind is QUERY and came.type not in QUERIES:
             return
-        if pair.departure:
-            self.leave(pair, (came.destination[0], 0) if came.kind == QUERY else came.destination)
+        if left:
+            self.leave(pair, (came.destination[0], 0) if came.kind is QUERY else came.destination)
         elif came.is_clean and not came.pieces and (came.may_fragment or came.length <= LEAST_MTU):
             if not (came.protocol == TCP and self.ends_connections):
                 self.wait(Unforwarded(pair))
@@ -473,10 +515,12 @@ class Gateway:
     def leave(self, pair: Pair, remote: Endpoint):
         """Takes a packet that left from an external endpoint, as a hairpin too."""
         protocol, time, external = pair.protocol, pair.time, pair.departure.source
-        mine = self.with_end(protocol, pair.arrival.source)
-        is_alone = len(mine) == 1 and mine[0].external == external
-        mapping = mine[0] if is_alone else next((it for it in mine if it.external == external), None)
-        is_usual = is_alone and remote in mapping.remotes and mapping.must_live(time)
+        mine, mapping, is_usual = self.mappings[protocol].get(pair.arrival.source, ()), None, False
+        if len(mine) == 1 and mine[0].external == external:
+            mapping = mine[0]
+            is_usual = remote in mapping.remotes and mapping.must_live(time)
+        elif mine:
+            mapping = next((it for it in mine if it.external == external), None)
         if not is_usual and not (mapping and mapping.is_unsure):
             mapping = self.leave_anew(pair, remote, mapping, mine)
         if protocol == TCP and not mapping.is_unsure:
@@ -489,30 +533,38 @@ class Gateway:
     def leave_anew(self, pair: Pair, remote: Endpoint, mapping: Mapping | None, mine: tuple[Mapping, ...]) -> Mapping:
         """Tells of a packet that left by a mapping that is new, or to a new remote, and returns its mapping."""
         protocol, time, inside, external = pair.protocol, pair.time, pair.arrival.source, pair.departure.source
-        holders, others, foreign, live = self.with_end(protocol, external), (), (), ()
+        holders, others, foreign = self.mappings[protocol].get(external, ()), (), ()
         if mine:
             others = [it for it in mine if it.external != external and not it.is_unsure and it.must_live(time)]
         if holders:
             foreign = [it for it in holders if it.inside != inside and not it.is_unsure]
-            live = [it for it in foreign if it.must_live(time)]
         is_new = mapping is None or not mapping.must_live(time)
-        it = Departure(pair, inside, external, remote, mapping, is_new, others, live)
-        if is_new:
-            self.add_neighbours(it, foreign)
-        self.lose_others(it)
-        self.tell(it)
+        is_new_remote = mapping is None or remote not in mapping.remotes
+        # a number that is kept, and that nobody else has, says as much as any other
+        key = None
+        if not others and not foreign and external[1] == inside[1]:
+            key = Departure, protocol, is_new, is_new_remote, inside[1] < LEAST_HIGH_PORT
+        if not self.has_enough(key):
+            live = [it for it in foreign if it.must_live(time)]
+            it = Departure(pair, inside, external, remote, mapping, is_new, is_new_remote, others, live)
+            if is_new and not key:
+                self.add_rivals(it, foreign)
+            if others:
+                self.lose_others(it)
+            self.tell(it, key)
+        if is_new and len(self.pool) > 1:
+            self.tell_neighbours(pair, inside, external[0])
         if mapping is None:
             mapping = Mapping(inside, external, pair)
             self.add(mapping)
         elif is_new:
             mapping.begin(pair)
         if is_new:
-            self.of_host[inside[0], protocol] = mapping
+            self.of_host.setdefault(inside[0], {})[protocol] = mapping
         return mapping
 
-    def add_neighbours(self, it: Departure, foreign: list[Mapping]):
-        """Adds to a departure by a new mapping what else lives: of its host, and with the number that it may have
-        wanted."""
+    def add_rivals(self, it: Departure, foreign: list[Mapping]):
+        """Adds to a departure by a new mapping who has, or had, the number that it wanted or got."""
         time = it.pair.time
         if it.external[1] != it.inside[1]:
             for other in self.with_end(it.protocol, (it.external[0], it.inside[1])):
@@ -522,20 +574,26 @@ class Gateway:
                     break
         if foreign:
             it.before = max((o for o in foreign if o not in it.holders), key=lambda o: o.last_out, default=None)
-        if len(self.pool) > 1:
-            for protocol in PROTOCOLS:
-                other = self.of_host.get((it.inside[0], protocol))
-                if not other or not other.must_live(time):
-                    continue
-                if protocol != it.protocol:
-                    it.cousins += (other,)
-                elif other.inside != it.inside:
-                    it.siblings = (other,)
+
+    def tell_neighbours(self, pair: Pair, inside: Endpoint, address: int):
+        """Tells what else lives of a host from which a packet left by a new mapping."""
+        found, siblings, cousins = self.of_host.get(inside[0], {}), (), ()
+        for protocol in PROTOCOLS:
+            other = found.get(protocol)
+            if not other or self.has_neighbours and other.external[0] == address or not other.must_live(pair.time):
+                continue
+            if protocol != pair.protocol:
+                cousins += (other,)
+            elif other.inside != inside:
+                siblings = (other,)
+        if siblings or cousins:
+            self.tell(Neighbours(pair, address, siblings, cousins))
+            self.has_neighbours = self.judge.has_shown(Neighbours)
 
     def lose_others(self, it: Departure):
         """A remote that sees another number than before shows that the mapping of that was gone, or that there never
         was one mapping."""
-        for o in it.others if it.protocol != TCP or not self.ends_connections else ():
+        for o in () if it.protocol == TCP and self.ends_connections else it.others:
             newer = it.mapping is None or it.mapping.last_any < o.last_any
             if it.remote in o.remotes and newer and (it.pair.time - o.last_any >= SOON or o.error):
                 session = o.sessions.get(it.remote)
@@ -543,28 +601,29 @@ class Gateway:
                 self.refuse(Incoming(it.pair, o, session, o.kind_to(it.remote), gap, gap))
 
     def session_out(self, mapping: Mapping, pair: Pair, remote: Endpoint):
-        flags, session = pair.arrival.flags, mapping.sessions.get(remote)
+        came, session = pair.arrival, mapping.sessions.get(remote)
+        flags = came.flags
         if session is None or flags & (SYN | ACK) == SYN and session.is_closing:
             session = mapping.sessions[remote] = Session()
         if session.reset and pair.way is OUT and not flags & (SYN | RST):
             self.tell(Incoming(pair, mapping, session, session.kind, is_let_in=True, cause=RESET))
-        session.take(pair, True)
+        session.last = pair.time
+        if flags & (SYN | FIN | RST):
+            session.take(pair, True)
         if flags & ACK:
-            session.acknowledged = pair.arrival.acknowledged
+            session.acknowledged = came.acknowledged
 
     # IN
 
-    def take_in(self, pair: Pair):
-        came = pair.arrival
-        if not (came.kind == QUERY and came.type in QUERIES or came.pieces) and came.is_clean:
-            remote = (came.source[0], 0) if came.kind == QUERY else came.source
-            self.come(pair, remote, pair.departure and pair.departure.destination)
+    def take_in(self, pair: Pair, came: Packet, left: Packet | None):
+        if not (came.kind is QUERY and came.type in QUERIES or came.pieces) and came.is_clean:
+            self.come(pair, (came.source[0], 0) if came.kind is QUERY else came.source, left and left.destination)
 
     def come(self, pair: Pair, remote: Endpoint, target: Endpoint | None):
         """Takes a packet to an external endpoint, from outside or as a hairpin, that went to an inside endpoint or
         nowhere."""
         came, time, mapping = pair.arrival, pair.time, None
-        holders = self.with_end(came.protocol, came.destination)
+        holders = self.mappings[came.protocol].get(came.destination, ())
         if came.protocol == TCP and self.ends_connections:
             if came.is_syn and not holders:
                 self.wait(Unsolicited(pair))
@@ -600,36 +659,48 @@ class Gateway:
 
     def come_to(self, pair: Pair, mapping: Mapping, remote: Endpoint, target: Endpoint | None):
         """Takes a packet to the external endpoint of a mapping."""
-        time, last = pair.time, mapping.remotes.get(remote)
-        self.judge.follow(pair, mapping, last is not None)
-        session = mapping.sessions.get(remote)
+        time, came, last = pair.time, pair.arrival, mapping.remotes.get(remote)
+        protocol, session, is_known = mapping.protocol, mapping.sessions.get(remote), last is not None
+        if self.follow:
+            self.follow(pair, mapping, is_known)
         quiet = time - (session.last if session else mapping.last_any)
-        gap = time - (session.last if session else mapping.last_out if last is None else last)
-        kind = session.kind if session else mapping.kind_to(remote)
-        is_usual = last is not None and target and session and not (
-            session.reset or mapping.error or mapping.refused or pair.arrival.flags & SYN)
-        if last is not None and target and gap < LONGEST + MARGIN:
-            if kind == OF_UDP and mapping.sent == 1 and not mapping.received:
-                self.lifetimes.alive_alone = max(self.lifetimes.alive_alone, quiet)
-            if quiet > self.lifetimes.longest(kind):
-                self.lifetimes.alive[kind] = (quiet, mapping.last_pair, pair)
-        if not (is_usual and self.judge.has_enough(USUAL)):
-            it = Incoming(pair, mapping, session, kind, gap, quiet, last is not None, bool(target))
-            if not target and it.is_known:
+        gap = time - (session.last if session else last if is_known else mapping.last_out)
+        kind, is_usual = session.kind if session else mapping.kind_to(remote), False
+        if is_known and target:
+            self.note_life(pair, mapping, kind, gap, quiet)
+            # no rule tells apart those of a protocol to which nothing happened
+            is_usual = not (mapping.error or mapping.refused) and (
+                protocol != TCP or session and not session.reset and not came.is_syn)
+        if not (is_usual and self.has_enough(protocol)):
+            it = Incoming(pair, mapping, session, kind, gap, quiet, is_known, bool(target))
+            if not target and is_known:
                 self.refuse(it)
                 return
-            if not it.is_known:
+            if not is_known:
                 it.cause = STRANGER
-                if mapping.protocol in self.filters and not any(remote[0] == tried[0] for tried in mapping.tried):
+                if protocol in self.filters and not any(remote[0] == tried[0] for tried in mapping.tried):
                     self.note_filter(it, remote)
-            self.tell(it, USUAL if is_usual else None)
+            self.tell(it, protocol if is_usual else None)
         if not target:
             mapping.refused = pair
             return
         mapping.use(pair, remote)
         mapping.received += 1
-        if mapping.protocol == TCP:
-            (session or mapping.sessions.setdefault(remote, Session())).take(pair, False)
+        if protocol == TCP:
+            if not session:
+                session = mapping.sessions[remote] = Session()
+            session.last = time
+            if came.flags & (SYN | FIN | RST):
+                session.take(pair, False)
+
+    def note_life(self, pair: Pair, mapping: Mapping, kind: str, gap: int, quiet: int):
+        """Notes how long a mapping lived by which a packet of a known remote came in."""
+        if kind == OF_UDP and mapping.sent > 1:
+            self.tell(Kept(pair, mapping))
+        elif kind == OF_UDP and not mapping.received and gap < MOST_LIFE:
+            self.lifetimes.alive_alone = max(self.lifetimes.alive_alone, quiet)
+        if gap < MOST_LIFE and quiet > self.lifetimes.longest(kind):
+            self.lifetimes.alive[kind] = (quiet, mapping.last_pair, pair)
 
     def note_filter(self, it: Incoming, remote: Endpoint):
         """Notes whether a stranger was let in by a mapping that must be live."""
@@ -681,8 +752,8 @@ class Gateway:
 
     # HAIRPINS AND ERRORS
 
-    def take_hairpin(self, pair: Pair):
-        came, left, time = pair.arrival, pair.departure, pair.time
+    def take_hairpin(self, pair: Pair, came: Packet, left: Packet | None):
+        time = pair.time
         if came.kind == QUERY or not came.is_clean or came.protocol == TCP and self.ends_connections:
             return
         owner = next((it for it in self.with_end(came.protocol, came.destination) if it.must_live(time)), None)
@@ -720,8 +791,8 @@ class Gateway:
         elif left and live:
             it.is_right = any(o.external == left.quoted.destination for o in with_it)
             it.is_own_source = left.source[0] in self.pool
-        if pair.way is IN and with_it:
-            self.judge.follow(pair, it.mapping or with_it[-1], True)
+        if self.follow and pair.way is IN and with_it:
+            self.follow(pair, it.mapping or with_it[-1], True)
         self.tell(it)
         noted = it.host if left else live if quoted.protocol == UDP and it.is_from_remote else None
         if pair.way is IN and noted and not is_bad:
@@ -738,11 +809,10 @@ class Gateway:
         return senders and it.mapping
 
 
-def alike(pair: Pair) -> tuple:
+def alike(pair: Pair, came: Packet, left: Packet) -> tuple:
     """Returns what all pairs have that no rule about pairs can tell from this one."""
-    came, left = pair.arrival, pair.departure
     return (
-        pair.way, pair.how, pair.protocol, came.kind, came.sum_ok, left.sum_ok, came.is_offloaded, left.is_offloaded,
+        pair.way, pair.how, came.kind, came.protocol, came.sum_ok, left.sum_ok, came.is_offloaded, left.is_offloaded,
         left.header_ok, came.ttl - left.ttl, came.may_fragment == left.may_fragment, came.payload == left.payload,
         came.payload > 0 and came.destination[1] in GATEWAY_PORTS)
 

@@ -5,12 +5,10 @@ import dataclasses
 import itertools
 from collections.abc import Iterator
 
-from judging.gateway import Gateway, Incoming, Mapping
+from judging.gateway import MOST_KEPT, Gateway, Incoming
 from judging.packets import PROTOCOLS, Plan, dotted
-from judging.pairing import Departed, Given, Pair, Pairing
-from judging.requirements import REQUIREMENTS
-from judging.rows import MOST_KEPT
-from judging.rules import End, Rules
+from judging.pairing import Given, Pairing
+from judging.rules import REQUIREMENTS, End, Rules
 from reading.captures import SECOND
 
 
@@ -30,27 +28,19 @@ class Judge:
         # of what is alike how many they are, and the first one: the rules judge some, and that for all others
         self.alike = {}
         self.gateway = Gateway(given.prefixes, plan, self)
-        self.pairing = Pairing(given.prefixes, plan, self.take)
-
-    def take(self, item: Pair | Departed):
-        self.gateway.take(item)
-
-    def follow(self, pair: Pair, mapping: Mapping, is_known: bool):
-        """Takes a packet from outside with the mapping that its number stands for; is_known: something was sent to its
-        remote before."""
-
-    def has_enough(self, key: object) -> bool:
-        """Counts one more moment with a key, and returns whether enough of them were told."""
-        if (group := self.alike.get(key)) is None:
-            return False
-        group[0] += 1
-        return group[0] > MOST_KEPT
+        self.pairing = Pairing(given.prefixes, plan, self.gateway.take)
 
     def tell(self, moment, key: object = None):
         """Judges a moment. Of those with one key no rule tells one from another."""
-        if key and key not in self.alike:
+        if key in self.alike:
+            self.alike[key][0] += 1
+        elif key:
             self.alike[key] = [1, as_it_was(moment)]
         self.judge(moment)
+
+    def has_shown(self, kind: type) -> bool:
+        """Whether more moments of a kind that meet its requirements show nothing more, where mappings have to live."""
+        return all(len(rule.__self__.shown) >= MOST_KEPT for rule in self.rules[kind, None])
 
     def judge(self, moment):
         kind, protocol = type(moment), moment.protocol

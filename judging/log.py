@@ -51,10 +51,14 @@ class Log(Judge):
 
     def __init__(self, given: Given, plan: Plan):
         super().__init__(given, plan)
-        self.open, self.entries = {}, []
+        self.open, self.entries, self.pairing.take = {}, [], self.take
 
-    def take(self, item: Pair | Departed):
-        super().take(item)
+    def take(self, items: list[Pair | Departed]):
+        self.gateway.take(items)
+        for item in items:
+            self.take_one(item)
+
+    def take_one(self, item: Pair | Departed):
         if item.departure and item.how in (SURE, CONNECTION) and item.arrival.kind in (OF_TCP, OF_UDP, QUERY):
             came, left = item.arrival, item.departure
             if item.way is not IN and left.source[0] not in self.given.prefixes:

@@ -7,8 +7,7 @@ import zlib
 from collections.abc import Iterator
 from typing import NamedTuple
 
-from reading.captures import COOKED, COOKED_2, MOST_CAPTURED, RAW_IP, SECOND, SENT, Capture, Copies, Frame, LeftOut
-from reading.captures import packet_in
+from reading.captures import COOKED, COOKED_2, MOST_TIME, SECOND, SENT, Capture, Copies, Frame, LeftOut, packet_in
 
 SIDES = ("inside", "outside")
 ICMP, TCP, UDP = 1, 6, 17
@@ -19,12 +18,16 @@ FIN, SYN, RST, ACK = 1, 2, 4, 16
 FLAGS = ((SYN, "S"), (ACK, "A"), (FIN, "F"), (RST, "R"))
 # types of ICMP messages (RFC 792, 4884)
 QUERIES, REPLIES, ERRORS = (8, 13, 17), (0, 14, 18), (3, 11, 12)
-HEADER, ICMP_HEADER = struct.Struct("!BxHHHBBxxII"), struct.Struct("!BBxxHH")
-UDP_HEADER, TCP_HEADER = struct.Struct("!HHHH"), struct.Struct("!HHIIBBxxH")
+# headers, as the words of 32 bits whose sum is looked at; and what else of them is read
+HEADER, UDP_HEADER, TCP_HEADER = struct.Struct("!5I"), struct.Struct("!2I"), struct.Struct("!5I")
+ICMP_HEADER = struct.Struct("!BBxxHH")
+QUOTED_HEADER, QUOTED_PORTS = struct.Struct("!xxHHxxxBxxII"), struct.Struct("!HHxxH")
 DONT_FRAGMENT, MORE_FRAGMENTS, FRAGMENT = 0x4000, 0x2000, 0x3FFF
 # pieces of a datagram come within so long (RFC 1122, section 3.3.2), and copies of a packet at two places of a machine
 MOST_APART, COPY_WITHIN = 30 * SECOND, SECOND // 1000
 MOST_GROUPS, MOST_COPIES, MOST_ADDRESSES = 10_000, 1000, 1_000_000
+# packets that are handed on together, and bytes of which zlib adds up more at once than can be converted
+BATCH, LONG, EXACT = 128, 512, 256
 
 Endpoint = tuple[int, int]
 
@@ -54,8 +57,16 @@ def ends_text(protocol: int, source: Endpoint, destination: Endpoint, flags: int
 def is_right(data: bytes, more: int = 0) -> bool:
     """Whether the one's complement sum of the 16-bit words, and of what else is summed, is that of a right checksum
     (RFC 1071)."""
+    if len(data) > LONG:
+        return (sum_of_bytes(data[::2]) * 256 + sum_of_bytes(data[1::2]) + more) % 0xFFFF == 0
     number = int.from_bytes(data, "big")
     return ((number << 8 if len(data) & 1 else number) + more) % 0xFFFF == 0
+
+
+def sum_of_bytes(data: bytes) -> int:
+    """Returns the sum of bytes. A half of adler32 is one more than the sum of up to 256 of them, and is made in less
+    time than a number of so many bytes."""
+    return sum((zlib.adler32(data[at : at + EXACT]) & 0xFFFF) - 1 for at in range(0, len(data), EXACT))
 
 
 class Prefixes(dict):
@@ -89,11 +100,16 @@ class Quoted(NamedTuple):
 class Packet:
     """A packet. Ends are pairs of address and port; of a query both have its identifier. `sum_ok` is None where there
     is no checksum that can be looked at, `is_sent` where the frame does not tell whether the captured machine sent it.
-    `content` is what no translator changes, the ends apart."""
+    `content` is what no translator changes, the ends apart; `order` is the latest time in its capture up to it."""
 
-    number = file = flags = sequence = acknowledged = type = code = payload = 0
-    kind, pieces, is_in_order, is_offloaded, is_cut = OTHER, (), True, False, False
-    sum_ok = quoted = is_sent = data = None
+    __slots__ = (
+        "side", "file", "number", "time", "order", "kind", "protocol", "source", "destination", "identification", "ttl",
+        "length", "may_fragment", "header_ok", "sum_ok", "is_offloaded", "is_cut", "is_sent", "flags", "sequence",
+        "acknowledged", "payload", "content", "pieces", "__dict__",
+    )
+    # what few packets have
+    type = code = 0
+    is_in_order, quoted, data = True, None, None
 
     @property
     def is_syn(self) -> bool:
@@ -130,78 +146,79 @@ class Packet:
     def key(self, is_out: bool) -> tuple:
         """Returns the content with the end of the remote, which is the destination of what goes out."""
         far = self.destination if is_out else self.source
-        if self.kind == QUERY:
+        if self.kind is QUERY:
             return self.content, far[0]
-        if self.kind == ERROR:
+        if self.kind is ERROR:
             end = self.quoted.source if is_out else self.quoted.destination
             return self.content, far[0], end[0] if self.quoted.protocol == ICMP else end
         return self.content, far
 
 
-def packet_of(data: bytes, side: str, time: int, depth: int | None = None) -> Packet | None:
+def packet_of(
+    data: bytes, side: str, time: int, depth: int | None = None, file: int = 0, number: int = 0,
+) -> Packet | None:
     """Returns the packet of an IPv4 datagram, or None where it is none. Payloads are compared up to a depth, in bytes,
     of the datagram."""
-    first, total, identification, fragment, ttl, protocol, source, destination = HEADER.unpack_from(data)
-    header, size = (first & 15) * 4, len(data)
-    if header < 20 or size < header or first >> 4 != 4:
+    first, second, third, source, destination = HEADER.unpack_from(data)
+    header, total, size = (first >> 24 & 15) * 4, first & 0xFFFF, len(data)
+    if header < 20 or size < header or first >> 28 != 4:
         return None
     packet = Packet()
-    packet.side, packet.time, packet.identification = side, time, identification
-    packet.ttl, packet.protocol, packet.may_fragment = ttl, protocol, not fragment & DONT_FRAGMENT
-    packet.source, packet.destination = (source, 0), (destination, 0)
-    packet.header_ok = int.from_bytes(data[:header], "big") % 0xFFFF == 0
+    packet.side, packet.file, packet.number, packet.time = side, file, number, time
+    packet.is_sent, packet.pieces = None, ()
+    packet.identification, packet.ttl, packet.protocol = second >> 16, third >> 24, third >> 16 & 0xFF
+    packet.may_fragment = not second & DONT_FRAGMENT
     # a length of 0 is left to the network card
     packet.length = total = total if total >= header else size
-    if not fragment & FRAGMENT:
-        fill(packet, data[header:total], total - header, depth and depth - header)
+    if header == 20:
+        packet.header_ok = (first + second + third + source + destination) % 0xFFFF == 0
     else:
-        packet.kind, packet.data = PIECE, data[header:total]
-        packet.offset = (fragment & 0x1FFF) * 8, bool(fragment & MORE_FRAGMENTS)
+        packet.header_ok = is_right(data[:header])
+        data, total, depth = data[:20] + data[header:], total + 20 - header, depth and depth + 20 - header
+    if not second & FRAGMENT:
+        fill(packet, source, destination, data if size <= total else data[:total], total, depth)
+    else:
+        packet.kind, packet.data = PIECE, data[20:total]
+        packet.source, packet.destination = (source, 0), (destination, 0)
+        packet.offset = (second & 0x1FFF) * 8, bool(second & MORE_FRAGMENTS)
     return packet
 
 
-def fill(packet: Packet, body: bytes, length: int, depth: int | None = None):
-    """Fills in the transport header and what is behind it. The body is shorter than its length where it was cut."""
-    source, destination, protocol, size = packet.source[0], packet.destination[0], packet.protocol, len(body)
-    begin = sequence = first = second = 0
-    if size < length:
-        packet.is_cut = True
-    if protocol == TCP and size >= 20:
-        near, far, sequence, second, offset, first, checksum = TCP_HEADER.unpack_from(body)
-        packet.source, packet.destination, packet.kind = (source, near), (destination, far), OF_TCP
-        packet.flags = first = first & 63
-        packet.sequence, packet.acknowledged, begin = sequence, second, (offset >> 4) * 4
-        if size == length:
-            judge_sum(packet, body, checksum, source + destination + TCP + length)
-    elif protocol == UDP and size >= 8:
-        near, far, told, checksum = UDP_HEADER.unpack_from(body)
-        packet.source, packet.destination, packet.kind, begin = (source, near), (destination, far), OF_UDP, 8
-        if 8 <= told <= length:
-            body, length = body[:told], told
-            if checksum and len(body) == told:
-                judge_sum(packet, body, checksum, source + destination + UDP + told)
-    elif protocol == ICMP and size >= 8:
-        first, second, identifier, number = ICMP_HEADER.unpack_from(body)
-        packet.type, packet.code, begin = first, second, 8
-        packet.sum_ok = None if packet.is_cut else is_right(body)
-        if first in ERRORS and (quoted := quoted_in(body[8:])):
-            packet.kind, packet.quoted = ERROR, quoted
-            packet.content = ERROR, quoted.protocol, quoted.identification
+def fill(packet: Packet, source: int, destination: int, data: bytes, total: int, depth: int | None = None):
+    """Fills in the transport header, which is behind 20 bytes, and what follows. The data is shorter than its total
+    where it was cut."""
+    protocol, size, begin, kind, content = packet.protocol, len(data), 20, OTHER, None
+    packet.is_cut, is_summed, sum_ok, is_offloaded = size < total, False, None, False
+    ports = sequence = first = second = flags = 0
+    if protocol == TCP and size >= 40:
+        ports, sequence, second, fifth, checksum = TCP_HEADER.unpack_from(data, 20)
+        kind, begin, first, is_summed = OF_TCP, 20 + (fifth >> 28) * 4, fifth >> 16 & 63, size == total
+        flags, words, rest, checksum = first, ports + sequence + second + fifth + checksum, 40, checksum >> 16
+    elif protocol == UDP and size >= 28:
+        ports, words = UDP_HEADER.unpack_from(data, 20)
+        kind, begin, rest, told, checksum, words = OF_UDP, 28, 28, words >> 16, words & 0xFFFF, ports + words
+        if 8 <= told <= total - 20:
+            total, data = 20 + told, data[: 20 + told]
+            is_summed = checksum and len(data) == total
+    elif protocol == ICMP and size >= 28:
+        first, second, identifier, number = ICMP_HEADER.unpack_from(data, 20)
+        packet.type, packet.code, begin = first, second, 28
+        sum_ok = None if size < total else is_right(data[20:])
+        if first in ERRORS and (quoted := quoted_in(data[28:])):
+            kind, packet.quoted, content = ERROR, quoted, (ERROR, quoted.protocol, quoted.identification)
         elif first in QUERIES or first in REPLIES:
-            packet.kind, packet.sequence, sequence = QUERY, number, number
-            packet.source, packet.destination = (source, identifier), (destination, identifier)
-    packet.payload = payload = length - begin
-    if packet.kind is not ERROR:
-        packet.content = protocol, first, second, sequence, payload, payload and zlib.crc32(body[begin:depth])
-
-
-def judge_sum(packet: Packet, body: bytes, checksum: int, pseudo: int):
-    """Finds whether a checksum is right. One that is the sum of the pseudo header alone is yet to be made, by the
-    card: nothing is known of it."""
-    number = int.from_bytes(body, "big")
-    packet.sum_ok = ((number << 8 if len(body) & 1 else number) + pseudo) % 0xFFFF == 0
-    if not packet.sum_ok and (checksum - pseudo) % 0xFFFF == 0:
-        packet.sum_ok, packet.is_offloaded = None, True
+            kind, sequence, ports = QUERY, number, identifier << 16 | identifier
+    if is_summed:
+        pseudo = source + destination + protocol + total - 20
+        sum_ok = is_right(data[rest:], words + pseudo) if total > rest else (words + pseudo) % 0xFFFF == 0
+        if not sum_ok and (checksum - pseudo) % 0xFFFF == 0:
+            # it is the sum of the pseudo header alone, and yet to be made by the card: nothing is known of it
+            sum_ok, is_offloaded = None, True
+    packet.kind, packet.sum_ok, packet.is_offloaded, packet.flags = kind, sum_ok, is_offloaded, flags
+    packet.source, packet.destination = (source, ports >> 16), (destination, ports & 0xFFFF)
+    packet.sequence, packet.acknowledged, packet.payload = sequence, second, total - begin
+    packet.content = content or (
+        protocol, first, second, sequence, total - begin, total > begin and zlib.crc32(data[begin:depth]))
 
 
 def quoted_in(data: bytes) -> Quoted | None:
@@ -209,8 +226,8 @@ def quoted_in(data: bytes) -> Quoted | None:
     header = (data[0] & 15) * 4 if data else 0
     if len(data) < 28 or data[0] >> 4 != 4 or header < 20 or len(data) < header + 8:
         return None
-    _, total, identification, _, _, protocol, source, destination = HEADER.unpack_from(data)
-    near, far, _, checksum = UDP_HEADER.unpack_from(data, header)
+    total, identification, protocol, source, destination = QUOTED_HEADER.unpack_from(data)
+    near, far, checksum = QUOTED_PORTS.unpack_from(data, header)
     body, sum_ok, is_whole = data[header:total], None, len(data) >= total >= header + 8
     if protocol == ICMP:
         near = far = int.from_bytes(data[header + 4 : header + 6], "big")
@@ -242,53 +259,63 @@ class Side:
         self.read, self.doubles, self.least_cut = 0, 0, None
         self.copies, self.seen, self.groups = Copies(), {}, {}
 
-    def streams(self) -> list[Iterator[Packet]]:
-        """Opens the captures, and returns the packets of each by time, pieces of a datagram put together."""
+    def streams(self) -> list[Iterator[list[Packet]]]:
+        """Opens the captures, and returns the packets of each in batches, pieces of a datagram put together."""
         captures = [Capture(it) for it in self.files]
         return [self.packets_of(it, at if len(captures) > 1 else 0) for at, it in enumerate(captures, 1)]
 
     def is_copy(self, frame: Frame, data: bytes) -> bool:
         """Whether the same packet was there just before: at another interface, or, where each is there twice, in the
         same way."""
-        if frame.interface.link == COOKED_2:
+        if frame[3].link == COOKED_2:
             return self.copies.has(frame, data)
-        last = self.seen.pop(data, None)
+        time, last = frame[0], self.seen.pop(data, None)
         if len(self.seen) > MOST_COPIES:
             del self.seen[next(iter(self.seen))]
-        if last is not None and frame.time - last <= COPY_WITHIN:
+        if last is not None and time - last <= COPY_WITHIN:
             self.doubles += 1
             return True
-        self.seen[data] = frame.time
+        self.seen[data] = time
         return False
 
-    def packets_of(self, capture: Capture, file: int) -> Iterator[Packet]:
-        name, depth, interface, is_double = self.name, self.plan.depth, self.interface, self.name in self.plan.doubles
-        ahead, keeps_data = self.plan.ahead if name == "outside" else 0, self.keeps_data
+    def packets_of(self, capture: Capture, file: int) -> Iterator[list[Packet]]:
+        """Yields the packets of a capture in batches, those of one order in one batch."""
+        name, depth, only, keeps_data = self.name, self.plan.depth, self.interface, self.keeps_data
+        is_double, ahead = name in self.plan.doubles, self.plan.ahead if name == "outside" else 0
+        batch, latest = [], -MOST_TIME
         for number, frame in enumerate(capture.frames(), 1):
-            if interface and frame.interface.name != interface:
+            time, data, original, interface = frame
+            link = interface.link
+            if only and interface.name != only:
                 continue
             try:
-                data, original = packet_in(frame)
+                data, original = packet_in(link, data, original)
             except LeftOut:
                 continue
-            link = frame.interface.link
             if (is_double or link == COOKED_2) and self.is_copy(frame, data):
                 continue
             if original > len(data):
                 self.least_cut = min(self.least_cut or len(data), len(data))
-            packet = packet_of(data, name, frame.time - ahead, depth)
+            packet = packet_of(data, name, time - ahead, depth, file, number)
             if packet is None:
                 continue
-            packet.number, packet.file = number, file
-            if link in (COOKED, COOKED_2):
-                packet.is_sent = frame.data[1 if link == COOKED else 10] == SENT
+            if link == COOKED or link == COOKED_2:
+                packet.is_sent = frame[1][1 if link == COOKED else 10] == SENT
             if packet.kind is PIECE:
                 if (packet := self.put_together(packet)) is None:
                     continue
             elif keeps_data:
                 packet.data = data
-            self.read += 1
-            yield packet
+            if packet.time > latest:
+                latest = packet.time
+                if len(batch) >= BATCH:
+                    self.read += len(batch)
+                    yield batch
+                    batch = []
+            packet.order = latest
+            batch.append(packet)
+        self.read += len(batch)
+        yield batch
 
     def put_together(self, piece: Packet) -> Packet | None:
         """Returns the datagram of a piece at the time of its last one, once all are there (RFC 791, section 3.2), or
@@ -312,13 +339,5 @@ class Side:
         whole.pieces, whole.time, whole.is_in_order = tuple(it.name for it in group), piece.time, group == in_place
         whole.kind, whole.length, whole.data = OTHER, len(data) + 20, None
         whole.header_ok = all(it.header_ok for it in group)
-        fill(whole, data, len(data))
+        fill(whole, whole.source[0], whole.destination[0], bytes(20) + data, 20 + len(data))
         return whole
-
-
-def write_capture(path, records: list[tuple[int, bytes]]):
-    """Writes a capture of raw IP of times in nanoseconds and packets."""
-    with open(path, "wb") as file:
-        file.write(struct.pack("<IHHIIII", 0xA1B23C4D, 2, 4, 0, 0, MOST_CAPTURED, RAW_IP))
-        for time, data in records:
-            file.write(struct.pack("<IIII", *divmod(time, SECOND), len(data), len(data)) + data)

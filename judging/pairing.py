@@ -1,8 +1,9 @@
 """Pairs what arrived at a gateway with what left it, while both captures are read."""
+import bisect
 import collections
 import dataclasses
-import functools
 import itertools
+import operator
 import statistics
 from collections.abc import Callable, Iterator
 from typing import NamedTuple
@@ -26,6 +27,7 @@ KEEPS = 20
 GATEWAY_PORTS = {21, 69, 111, 554, 1720, 1723, 5060, 6667}
 # packets of each side from which the pool and the difference of the clocks are found
 SAMPLE = 10_000
+ORDER = operator.attrgetter("order")
 
 
 class Pair:
@@ -134,24 +136,24 @@ class Given:
         return Plan(set(pool), ahead, depth, doubles, is_ending, self.is_one_file)
 
 
-def merged(first: Iterator[Packet], second: Iterator[Packet]) -> Iterator[Packet]:
-    """Yields the packets of two captures by time (in half of the time of heapq.merge)."""
-    one, other = next(first, None), next(second, None)
-    while one and other:
-        if one.time <= other.time:
-            yield one
-            one = next(first, None)
-        else:
-            yield other
-            other = next(second, None)
-    yield from filter(None, (one, other))
-    yield from first
-    yield from second
+def merged(streams: list[Iterator[list[Packet]]]) -> Iterator[list[Packet]]:
+    """Yields the packets of captures by time, at equal times in the order of the captures, in batches. What is out of
+    its order in a capture comes behind what was before it there."""
+    heads = [next(it, []) for it in streams]
+    while any(heads):
+        end, batch = min(it[-1].order for it in heads if it), []
+        for at, head in enumerate(heads):
+            place = bisect.bisect_right(head, end, key=ORDER)
+            batch += head[:place]
+            heads[at] = head[place:] or next(streams[at], [])
+        batch.sort(key=ORDER)
+        yield batch
 
 
 def sampled(side: Side, begin: int = 0) -> list[Packet]:
     """Returns the first packets of a side from a time on."""
-    return list(itertools.islice((it for it in functools.reduce(merged, side.streams()) if it.time >= begin), SAMPLE))
+    packets = itertools.chain.from_iterable(merged(side.streams()))
+    return list(itertools.islice((it for it in packets if it.time >= begin), SAMPLE))
 
 
 def pool_of(inside: list[Packet], outside: list[Packet], prefixes: Prefixes) -> set[int]:
@@ -219,10 +221,11 @@ def refuse(packets: list[list[Packet]], prefixes: Prefixes):
 
 class Pairing:
     """Pairs the packets of both sides. `take` gets pairs in the order in which they arrived, and what departed alone
-    in its place, each once it is known what became of it: what has not left within the window never will."""
+    in its place, each once it is known what became of it: what has not left within the window never will. It gets many
+    at once, which takes less time, but those from before the pool grew before that."""
 
-    def __init__(self, prefixes: Prefixes, plan: Plan, take: Callable):
-        self.prefixes, self.plan, self.pool, self.take = prefixes, plan, plan.pool, take
+    def __init__(self, prefixes: Prefixes, plan: Plan, take: Callable[[list], None]):
+        self.prefixes, self.plan, self.pool, self.take, self.known = prefixes, plan, plan.pool, take, []
         # what waits for its departure, by its content
         self.waiting = {OUT: {}, IN: {}, HAIRPIN: {}}
         self.departures, self.queue, self.silent = collections.deque(), collections.deque(), []
@@ -232,19 +235,21 @@ class Pairing:
         self.identifications = [0, 0]
         self.pairs = self.not_judged = 0
 
-    def run(self, streams: list[Iterator[Packet]]):
+    def run(self, streams: list[Iterator[list[Packet]]]):
         """Pairs the packets of both sides until they end."""
         departures, queue, slack = self.departures, self.queue, TWO_CLOCKS if self.plan.ahead else ONE_CLOCK
-        for packet in functools.reduce(merged, streams):
-            now = packet.time
-            while departures and departures[0].time + slack <= now:
-                self.depart(departures.popleft())
-            if packet.side == "inside":
-                self.take_inside(packet)
-            else:
-                self.take_outside(packet)
-            while queue and ((head := queue[0]).departure or head.time + WINDOW < now or head.leak):
-                self.decide(queue.popleft())
+        for batch in merged(streams):
+            for packet in batch:
+                now = packet.time
+                while departures and departures[0].time + slack <= now:
+                    self.depart(departures.popleft())
+                if packet.side == "inside":
+                    self.take_inside(packet)
+                else:
+                    self.take_outside(packet)
+                while queue and ((head := queue[0]).departure or head.time + WINDOW < now or head.leak):
+                    self.decide(queue.popleft())
+            self.hand_on()
         while departures:
             self.depart(departures.popleft())
         while queue:
@@ -252,7 +257,13 @@ class Pairing:
         if len(self.silent) > FEW_SILENT and self.silent[-1].time - self.silent[0].time > LONG_SILENT:
             self.not_judged += len(self.silent)
             self.silent.clear()
-        self.take_silent()
+        self.known += self.silent
+        self.hand_on()
+
+    def hand_on(self):
+        """Hands on what is known."""
+        self.take(self.known)
+        self.known = []
 
     def take_inside(self, packet: Packet):
         destination = packet.destination[0]
@@ -275,17 +286,12 @@ class Pairing:
             # where neither is in the pool, the source may be an address of it that was not seen yet
             self.departures.append(packet)
 
-    def take_silent(self):
-        for item in self.silent:
-            self.take(item)
-        self.silent.clear()
-
     def decide(self, item: Pair | Departed):
-        """Hands on an item whose fate is known. Arrivals of which nothing left, and the gateway's own packets after
-        them, wait until something leaves again."""
+        """Notes an item whose fate is known. Arrivals of which nothing left, and the gateway's own packets after them,
+        wait until something leaves again."""
         if item.departure and not self.silent and not item.arrival.pieces:
             self.pairs += 1
-            self.take(item)
+            self.known.append(item)
             return
         if type(item) is Pair:
             if item.arrival.pieces:
@@ -300,9 +306,8 @@ class Pairing:
                 return
             is_silent = bool(self.silent) and not item.is_leak
         if not is_silent:
-            if self.silent:
-                self.take_silent()
-            self.take(item)
+            self.known += *self.silent, item
+            self.silent.clear()
         elif len(self.silent) < MOST_SILENT:
             self.silent.append(item)
         else:
@@ -325,7 +330,9 @@ class Pairing:
                 self.leak(packet)
             elif pair := self.chosen(OUT, packet.key(True), packet):
                 pair.departure = packet
-                self.pool.add(source)
+                if source not in self.pool:
+                    self.hand_on()
+                    self.pool.add(source)
             elif source in self.pool:
                 if destination in self.pool and (pair := self.chosen(HAIRPIN, packet.content, packet)):
                     pair.leak, pair.how = packet, None

@@ -10,10 +10,10 @@ import tempfile
 from judging.gateway import ADDRESS, ADDRESS_PORT, ESTABLISHED, INDEPENDENT, LEAST, OF_ICMP, RESET, TIMER, TRANSITORY
 from judging.gateway import Incoming, Mapping
 from judging.judge import Judge
-from judging.packets import ERROR, ICMP, OF_UDP, QUERY, TCP, UDP, Endpoint, Packet, Plan, dotted, write_capture
+from judging.packets import ERROR, ICMP, OF_UDP, QUERY, TCP, UDP, Endpoint, Packet, Plan, dotted
 from judging.pairing import IN, Departed, Given, Pair
 from judging.rows import BY_DEFINITION, Row
-from reading.captures import BAD_WORDS, SECOND, Fault
+from reading.captures import BAD_WORDS, SECOND, Fault, write_capture
 
 FILTERS = {INDEPENDENT: "independent", ADDRESS: "address", ADDRESS_PORT: "address-port"}
 TIMERS = {"udp": OF_UDP, "tcp-established": ESTABLISHED, "tcp-transitory": TRANSITORY, "icmp": OF_ICMP}
@@ -92,6 +92,7 @@ class Replay(Judge):
     def __init__(self, given: Given, plan: Plan, explain: str):
         super().__init__(given, plan, keeps_data=True)
         self.explain, self.sent, self.followed, self.timed_out = explain, [], [], set()
+        self.pairing.take, self.gateway.follow = self.take, self.follow
 
     def tell(self, moment, key: object = None):
         if type(moment) is Incoming and moment.cause in (TIMER, RESET):
@@ -99,13 +100,15 @@ class Replay(Judge):
         super().tell(moment, key)
 
     def follow(self, pair: Pair, mapping: Mapping, is_known: bool):
+        """Takes a packet from outside with the mapping that its number stands for; is_known: something was sent to its
+        remote before."""
         if pair.way is IN and pair.arrival.data:
             self.followed.append(Followed(pair, mapping.inside, rows_of(pair, mapping, is_known)))
 
-    def take(self, item: Pair | Departed):
-        super().take(item)
-        if type(item) is Pair and item.way is not IN and item.arrival.data:
-            self.sent.append((item.time, item.arrival.data))
+    def take(self, items: list[Pair | Departed]):
+        self.gateway.take(items)
+        pairs = (it for it in items if type(it) is Pair and it.way is not IN and it.arrival.data)
+        self.sent += ((it.time, it.arrival.data) for it in pairs)
 
     def run(self) -> "Replay":
         super().run()

@@ -3,7 +3,7 @@ import collections
 import heapq
 import itertools
 
-from judging.gateway import SURELY, Lifetimes, Mapping
+from judging.gateway import MOST_KEPT, SURELY, Lifetimes, Mapping
 from judging.pairing import Pair
 from reading.captures import SECOND
 
@@ -14,8 +14,8 @@ BY_PAIRS, BY_DEFINITION = "pairs", "definition"
 AT_ONCE = 2 * SECOND
 # of so many packets one may be missing because a queue was full
 FEW = 1000
-# occasions that are kept as evidence, those that count only if mappings lived, and what a rule keeps until the end
-MOST_KEPT, MOST_ASSUMED, MOST_LATER = 5, 64, 64
+# occasions that count only if mappings lived, and what a rule keeps until the end
+MOST_ASSUMED, MOST_LATER = 64, 64
 
 
 class Row:

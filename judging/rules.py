@@ -1,11 +1,16 @@
 """The rule of each requirement, on each occasion that pairs show. A rule is given a moment, of the kinds that its
-signature names. What it asks is in requirements.csv, with the section of the RFC; rules that differ in a word have
-that word there, too, which is `word` here."""
+signature names. What it asks is in requirements.csv: the name, level (RFC 2119) and section of each requirement, what
+traffic shows it, its rule with the word that it is given, `word` here, the protocol that it is of, where it is of one,
+and whether it is of segments, which a gateway does not show that ends connections itself."""
 import collections
+import csv
+import dataclasses
+import pathlib
+import typing
 
-from judging.gateway import ADDRESS_PORT, AFTER_ERROR, ELSEWHERE, LEAST, NO_ONE, RESET, SEGMENT, SIMULTANEOUS, SOON
-from judging.gateway import SUDDEN, TIMER, UNREFRESHED, Departure, Error, Fragmentable, Fragmented, Gateway, Incoming
-from judging.gateway import TooLarge, Turned, Unforwarded, Unsolicited
+from judging.gateway import ADDRESS_PORT, AFTER_ERROR, ELSEWHERE, LEAST, LEAST_HIGH_PORT, NO_ONE, RESET, SEGMENT
+from judging.gateway import SIMULTANEOUS, SOON, SUDDEN, TIMER, UNREFRESHED, Departure, Error, Fragmentable, Fragmented
+from judging.gateway import Gateway, Incoming, Kept, Neighbours, TooLarge, Turned, Unforwarded, Unsolicited
 from judging.packets import ERROR, ICMP, OF_TCP, OF_UDP, PROTOCOLS, RST, SYN, TCP, UDP, Plan, dotted
 from judging.pairing import ALTERED, GATEWAY_PORTS, HAIRPIN, IN, OUT, SURE, Departed, Pair
 from judging.rows import Row
@@ -17,7 +22,7 @@ MOST_DATAGRAMS, FEW_CHANGED, NEAR = 10_000, 8, 2
 REST, SILENT, ANSWERED = 120 * SECOND, 6 * SECOND, 12 * SECOND
 # a fragment of a datagram may be about in the network for so long
 FRAGMENTS_LIVE = 120 * SECOND
-ETHERNET_MTU, LEAST_HIGH_PORT = 1500, 1024
+ETHERNET_MTU = 1500
 # a timer was seen to be long enough where a mapping lived for such a part of it
 NEARLY = 0.95
 
@@ -44,8 +49,7 @@ class Rules(Row):
             if not self.met and self.memory["kept"]:
                 self.needs = f"an endpoint whose number was changed (all {self.memory['kept']} kept theirs)"
             return
-        time, mapping, remote = it.pair.time, it.mapping, it.remote
-        is_new_remote = mapping is None or remote not in mapping.remotes
+        time, mapping, remote, is_new_remote = it.pair.time, it.mapping, it.remote, it.is_new_remote
         for other in it.others:
             if remote in other.remotes:
                 is_older = mapping is None or mapping.last_any < other.last_any
@@ -58,7 +62,7 @@ class Rules(Row):
             if it.protocol == ICMP or it.external[1] != it.inside[1]:
                 self.meets(mapping.last_pair, it.pair)
             else:
-                self.memory["kept"] += 1
+                self.memory["kept"] += self.weight
 
     def one_identifier(self, it: Departure):
         self.same_endpoint_for_each_remote(it)
@@ -81,12 +85,12 @@ class Rules(Row):
         if it.is_new and it.external[1] != it.inside[1]:
             self.judge((it.external[1] ^ it.inside[1]) & 1 == 0, it.pair)
 
-    def one_address(self, it: Departure | End):
+    def one_address(self, it: Neighbours | End):
         """For all endpoints of one protocol (siblings), or also of others (cousins)."""
         if type(it) is End:
             self.needs = "" if len(it.plan.pool) > 1 else "two external addresses"
         for other in getattr(it, self.word):
-            self.judge(other.external[0] == it.external[0], it.pair, live=[other])
+            self.judge(other.external[0] == it.address, it.pair, live=[other])
 
     def numbers_rest(self, it: Departure | End):
         """The mapping lived at least as long as others did, and at most until others were gone."""
@@ -165,18 +169,17 @@ class Rules(Row):
         elif alive and alive[0] >= least * NEARLY:
             self.meets(*alive[1:])
 
-    def packets_out_refresh(self, it: Incoming | End):
+    def packets_out_refresh(self, it: Incoming | Kept | End):
         """They do where a mapping that was never quiet for the gateway's timer is older."""
         ages = self.memory.setdefault("ages", {})
         if type(it) is Incoming:
-            mapping = it.mapping
             if it.cause == UNREFRESHED:
                 self.breaks(it.holder, it.pair)
-            elif it.is_let_in and it.is_known and mapping.sent > 1:
-                gap = max(mapping.longest_gap, it.pair.time - mapping.last_any) // SECOND
-                age = it.pair.time - mapping.first
-                if age > ages.get(gap, (10 * SECOND,))[0]:
-                    ages[gap] = (age, mapping.last_pair, it.pair)
+        elif type(it) is Kept:
+            time, mapping = it.pair.time, it.mapping
+            gap, age = max(mapping.longest_gap, time - mapping.last_any) // SECOND, time - mapping.first
+            if age > ages.get(gap, (10 * SECOND,))[0]:
+                ages[gap] = (age, mapping.last_pair, it.pair)
         elif it.lifetimes.is_one(OF_UDP):
             for gap, (age, *evidence) in sorted(ages.items()):
                 if gap * SECOND < it.lifetimes.shortest(OF_UDP) < age:
@@ -459,3 +462,36 @@ class Rules(Row):
         if came.is_in_order == (self.word == "in"):
             made = [f"made of them: {packet.name} ({packet.text()})" for packet in it.pair.made]
             self.judge(it.pair.departure is not None, it.pair, f"in the pieces {', '.join(came.pieces)}", *made)
+
+
+@dataclasses.dataclass(frozen=True)
+class Requirement:
+    """A requirement. Its rule is a method of its row, for moments of the kinds that the signature names."""
+
+    name: str
+    level: str
+    section: str
+    asks: str
+    shown_by: str
+    rule: str
+    protocol: int | None
+    is_of_segments: bool
+
+    @property
+    def rfc(self) -> int:
+        return int(self.name.split()[0])
+
+    @property
+    def method(self) -> str:
+        return self.rule.split()[0]
+
+    @property
+    def moments(self) -> tuple:
+        kind = typing.get_type_hints(getattr(Rules, self.method))["it"]
+        return typing.get_args(kind) or (kind,)
+
+
+NUMBERS = {name: number for number, name in PROTOCOLS.items()}
+with open(pathlib.Path(__file__).with_name("requirements.csv"), encoding="utf-8", newline="") as file:
+    REQUIREMENTS = [Requirement(*words, NUMBERS.get(protocol), bool(is_of_segments))
+                    for *words, protocol, is_of_segments in list(csv.reader(file))[1:]]

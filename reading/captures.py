@@ -21,6 +21,8 @@ FEW = 10
 STANDARD_INPUT = "-"
 # what a frame and a block of pcapng have at most, in bytes; more is a fault of the file (napt refuses longer records)
 MOST_CAPTURED, MOST_BLOCK = 262_144, 16_777_216
+# how many bytes are read at once
+ROOM = 1 << 16
 # of a pcap (pcap-savefile(5)), by its first four bytes: the byte order, and the nanoseconds of a unit of fractions
 PCAP = {
     b"\xd4\xc3\xb2\xa1": ("<", 1000),
@@ -40,7 +42,9 @@ UNREAD = (OSError, EOFError, zlib.error, lzma.LZMAError)
 # link types (www.tcpdump.org/linktypes.html). Those with an ether type: the length of the header, and where the ether type stands
 COOKED, COOKED_2, RAW_IP = 113, 276, 101
 WITH_ETHER_TYPE = {1: (14, 12), COOKED: (16, 14), COOKED_2: (20, 0)}
-RAW = (12, 14, RAW_IP, 228, 229)
+RAW = (RAW_IP, 12, 14, 228, 229)
+# what a capture of raw IP begins with whose times are in nanoseconds
+RAW_HEADER = struct.pack("<IHHIIII", 0xA1B23C4D, 2, 4, 0, 0, MOST_CAPTURED, RAW_IP)
 # what a cooked frame tells of a packet that the captured machine sent
 SENT = 4
 # what an IPv4 header has up to its destination (RFC 791), in bytes
@@ -77,22 +81,15 @@ class Interface:
     outputs: collections.Counter = dataclasses.field(default_factory=collections.Counter)
 
 
-@dataclasses.dataclass(slots=True)
-class Frame:
-    """A frame: its time in nanoseconds, its bytes, its length before it was cut, and its interface."""
-
-    time: int
-    data: bytes
-    original: int
-    interface: Interface
+# a frame: its time in nanoseconds, its bytes, its length before it was cut, and its interface
+Frame = tuple[int, bytes, int, Interface]
 
 
 class Capture:
-    """A capture that is read from its beginning to its end: its interfaces and its first and last time, as far as it is read."""
+    """A capture that is read from its beginning to its end, and its interfaces, as far as it is read."""
 
     def __init__(self, path):
-        self.path, self.name, self.is_cut, self.untimed = path, shown(path), False, 0
-        self.interfaces, self.first, self.last = [], MOST_TIME, -1
+        self.path, self.name, self.is_cut, self.untimed, self.interfaces = path, shown(path), False, 0, []
         try:
             self.stream = opened(path)
             self.magic = self.stream.read(4)
@@ -125,14 +122,7 @@ class Capture:
         return None
 
     def frames(self):
-        first, last = MOST_TIME, -1
-        for frame in self.pcapng_frames() if self.magic == SECTION else self.pcap_frames():
-            if 0 <= frame.time < first:
-                first = frame.time
-            if last < frame.time < MOST_TIME:
-                last = frame.time
-            yield frame
-        self.first, self.last = first, last
+        return self.pcapng_frames() if self.magic == SECTION else self.pcap_frames()
 
     def outputs(self):
         """Returns the outputs that got a tenth of the capture's packets or more: those of strangers do not count."""
@@ -147,20 +137,30 @@ class Capture:
         # the high half tells of checksums behind frames
         interface = Interface(struct.unpack(f"{order}16xI", header)[0] & 0xFFFF)
         self.interfaces.append(interface)
-        unpack, read = struct.Struct(f"{order}IIII").unpack, self.stream.read
-        try:
-            while len(head := read(16)) == 16:
-                seconds, fraction, captured, original = unpack(head)
+        unpack, buffer, at, end = struct.Struct(f"{order}IIII").unpack_from, b"", 0, 0
+        while True:
+            if (begin := at + 16) <= end:
+                seconds, fraction, captured, original = unpack(buffer, at)
+                if (behind := begin + captured) <= end:
+                    at = behind
+                    yield seconds * SECOND + fraction * unit, buffer[begin:at], original, interface
+                    continue
                 if captured > MOST_CAPTURED:
                     raise self.damaged(f"a record of {captured} bytes")
-                data = read(captured)
-                if len(data) < captured:
-                    break
-                yield Frame(seconds * SECOND + fraction * unit, data, original, interface)
-            # it is cut unless it ends behind a record
-            self.is_cut |= bool(head)
+            if not (more := self.more()):
+                break
+            buffer, at = buffer[at:] + more, 0
+            end = len(buffer)
+        # it is cut unless it ends behind a record
+        self.is_cut |= at < end
+
+    def more(self):
+        """Returns what comes next of the bytes, or nothing where they end."""
+        try:
+            return self.stream.read1(ROOM)
         except EOFError:
             self.is_cut = True
+            return b""
         except UNREAD as error:
             raise self.unread(error) from error
 
@@ -212,7 +212,13 @@ class Decompressed:
 
     def read(self, count):
         data = self.process.stdout.read(count)
-        if len(data) < count and self.process.wait():
+        return data if len(data) == count else self.ended(data)
+
+    def read1(self, count):
+        return self.process.stdout.read1(count) or self.ended(b"")
+
+    def ended(self, data):
+        if self.process.wait():
             raise EOFError(data)
         return data
 
@@ -249,7 +255,7 @@ def packet_of(order, kind, body, interfaces):
         raise IndexError(captured)
     interface = interfaces[number]
     time = (high << 32 | low) * SECOND // interface.ticks + interface.offset * SECOND
-    return Frame(time, body[20 : 20 + captured], original, interface)
+    return time, body[20 : 20 + captured], original, interface
 
 
 def number_at(data, at):
@@ -274,17 +280,17 @@ def after_link_header(link, data):
     raise LeftOut(OTHERS.get(ether_type) or f"of ether type 0x{ether_type:04x}")
 
 
-def packet_in(frame):
+def packet_in(link, data, original):
     """Returns the IPv4 packet of a frame, without link headers, and how long it was before the frame was cut."""
-    at = 0 if frame.interface.link in RAW else after_link_header(frame.interface.link, frame.data)
-    packet = frame.data[at:]
-    size = len(packet)
+    if link not in RAW:
+        at = after_link_header(link, data)
+        data, original = data[at:], original - at
+    size = len(data)
     if size < LEAST_HEADER:
         raise LeftOut("IPv4 packets that end before their addresses do")
-    if packet[0] >> 4 != 4:
-        raise LeftOut("IPv6" if packet[0] >> 4 == 6 else f"of IP version {packet[0] >> 4}")
-    original = frame.original - at
-    return packet, original if original > size else size
+    if data[0] >> 4 != 4:
+        raise LeftOut("IPv6" if data[0] >> 4 == 6 else f"of IP version {data[0] >> 4}")
+    return data, original if original > size else size
 
 
 class Copies:
@@ -304,17 +310,29 @@ class Copies:
 
     def has(self, frame, packet):
         """Whether the frame may be one more of a packet that went the same way; of version 2 at another interface."""
-        self.forget(frame.time)
-        is_named = frame.interface.link == COOKED_2
-        place, way = (frame.data[4:8], frame.data[10]) if is_named else (None, frame.data[1])
+        time, data, _, interface = frame
+        self.forget(time)
+        place, way = (data[4:8], data[10]) if interface.link == COOKED_2 else (None, data[1])
         key = (way == SENT, packet)
         for places in self.seen.get(key, ()):
             if place is None or place not in places:
                 places.add(place)
                 return True
         self.seen[key].append({place})
-        self.order.append((frame.time, key))
+        self.order.append((time, key))
         return False
+
+
+def record(time, packet, original):
+    """Returns the record of a packet for a capture that begins with RAW_HEADER; `original` is its length before it was cut."""
+    return struct.pack("<IIII", *divmod(time, SECOND), len(packet), original) + packet
+
+
+def write_capture(path, packets):
+    """Writes a capture of packets, each with its time."""
+    with open(path, "wb") as file:
+        file.write(RAW_HEADER)
+        file.writelines(record(time, data, len(data)) for time, data in packets)
 
 
 def date(time):

@@ -8,7 +8,7 @@ import signal
 import sys
 from collections.abc import Callable
 
-from reading.captures import BAD_OUTPUT, BAD_WORDS, Fault
+from reading.captures import BAD_OUTPUT, BAD_WORDS, Fault, file_of, shown
 
 
 class Words(argparse.ArgumentParser):
@@ -35,6 +35,18 @@ def address(text: str) -> ipaddress.IPv4Address:
         return ipaddress.IPv4Address(text)
     except ValueError as error:
         raise argparse.ArgumentTypeError(f"{text!r} is no address, as 203.0.113.1 is one") from error
+
+
+def files_of(paths: list[str]) -> dict[tuple, str]:
+    """Returns the paths of captures by what tells each from other files. One that is named twice is refused."""
+    named = {}
+    for path in paths:
+        if (file := file_of(path)) in named:
+            again = f"{shown(path)} is the capture {shown(named[file])} again"
+            raise Fault(BAD_WORDS, f"{again}: its packets would be there twice")
+        if file:
+            named[file] = path
+    return named
 
 
 def say(program: str, line: object):

@@ -10,8 +10,8 @@ import subprocess
 import tempfile
 import time
 
-from judging.packets import SIDES, write_capture
-from reading.captures import SECOND, Capture
+from judging.packets import SIDES
+from reading.captures import SECOND, Capture, write_capture
 
 ARP, IPV4, ALL_FRAMES = 0x0806, 0x0800, 3
 ASKS, ANSWERS = 1, 2
@@ -68,9 +68,9 @@ class Napt(Device):
         subprocess.run(self.call + words, check=True, stderr=subprocess.DEVNULL)
         answer = None
         for name in SIDES:
-            for frame in Capture(str(room / f"out-{name}")).frames():
-                self.kept[name].append((frame.time + 1, frame.data))
-                answer = answer or found and found(name, frame.data)
+            for at, data, *_ in Capture(str(room / f"out-{name}")).frames():
+                self.kept[name].append((at + 1, data))
+                answer = answer or found and found(name, data)
         return answer
 
     def close(self):
