@@ -12,7 +12,7 @@ from judging.gateway import ADDRESS, ADDRESS_PORT, INDEPENDENT
 from judging.judge import Judge
 from judging.log import Log
 from judging.packets import SIDES, Prefixes
-from judging.pairing import Given
+from judging.pairing import Setup
 from judging.replay import Replay
 from judging.rules import REQUIREMENTS
 from reading.captures import BAD_WORDS, STANDARD_INPUT, Fault
@@ -77,7 +77,7 @@ def run(given: argparse.Namespace, program: str):
         files = [read_twice(getattr(given, side), room) for side in SIDES]
         pool, interfaces = given.pool and set(map(int, given.pool)), (given.inside_interface, given.outside_interface)
         prefixes, kind = Prefixes(given.inside_prefix), KINDS.get(given.filter)
-        what = Given(*files, prefixes, pool, kind, interfaces, is_one_file)
+        what = Setup(*files, prefixes, pool, kind, interfaces, is_one_file)
         more = [given.explain or explain_of(program)] if given.command == "replay" else []
         judge = COMMANDS[given.command](what, what.plan(), *more).run()
     for line in judge.notes():

@@ -9,7 +9,7 @@ import itertools
 
 from judging.packets import ACK, ERROR, FIN, ICMP, OF_TCP, OF_UDP, QUERIES, QUERY, REPLIES, RST, SYN, TCP, UDP
 from judging.packets import PROTOCOLS, Endpoint, Packet, Plan, Prefixes
-from judging.pairing import ALTERED, GATEWAY_PORTS, HAIRPIN, IN, LIKELY, OUT, SURE, Departed, Pair, Seen
+from judging.pairing import ALTERED, GATEWAY_PORTS, HAIRPIN, IN, LIKELY, OUT, SURE, UnmatchedDeparture, Pair, Seen
 from reading.captures import SECOND
 
 # kinds of mappings and sessions, and their least timers (RFC 4787, REQ-5; RFC 5508, REQ-2; RFC 5382, REQ-5)
@@ -205,7 +205,7 @@ class Incoming(Moment):
 
 
 @dataclasses.dataclass(slots=True)
-class Kept(Moment):
+class Refreshed(Moment):
     """A packet of UDP that came in by a mapping from which several had left."""
 
     mapping: Mapping
@@ -239,7 +239,7 @@ class Error(Moment):
 
 
 @dataclasses.dataclass(slots=True)
-class Turned(Moment):
+class Hairpin(Moment):
     """A packet from inside to the live external endpoint of an inside host: `mine` are the sender's live mappings.
     `opens` says which kinds of filtering let it in for sure, `is_untranslated` whether it came in with its inside
     source."""
@@ -255,7 +255,7 @@ class Waiting(Moment):
     """What waits for so long for a packet of the gateway's own that answers it, and how long the captures go on after
     it."""
 
-    answer: Departed | None = None
+    answer: UnmatchedDeparture | None = None
     span: int = ANSWER
 
 
@@ -374,14 +374,14 @@ class Gateway:
         # endpoints from which packets left alone, and those of nobody to which packets came
         self.alone, self.nobodys = collections.Counter(), set()
 
-    def take(self, items: list[Pair | Departed]):
+    def take(self, items: list[Pair | UnmatchedDeparture]):
         """Takes pairs, and what departed alone, in order of time."""
         for item in items:
             if item.time > self.now:
                 self.now = item.time
             if self.waiting and self.waiting[0][0] < self.now:
                 self.end_waits(self.now)
-            if type(item) is Departed:
+            if type(item) is UnmatchedDeparture:
                 self.take_alone(item)
             elif item.how is LIKELY:
                 self.doubt(item)
@@ -443,7 +443,7 @@ class Gateway:
             for it in self.with_end(came.protocol, end):
                 it.is_unsure = True
 
-    def take_alone(self, item: Departed):
+    def take_alone(self, item: UnmatchedDeparture):
         """Takes a packet that left without having arrived."""
         packet = item.packet
         if item.is_leak:
@@ -696,7 +696,7 @@ class Gateway:
     def note_life(self, pair: Pair, mapping: Mapping, kind: str, gap: int, quiet: int):
         """Notes how long a mapping lived by which a packet of a known remote came in."""
         if kind == OF_UDP and mapping.sent > 1:
-            self.tell(Kept(pair, mapping))
+            self.tell(Refreshed(pair, mapping))
         elif kind == OF_UDP and not mapping.received and gap < MOST_LIFE:
             self.lifetimes.alive_alone = max(self.lifetimes.alive_alone, quiet)
         if gap < MOST_LIFE and quiet > self.lifetimes.longest(kind):
@@ -765,7 +765,7 @@ class Gateway:
         mine = [it for it in senders if it.must_live(time)]
         is_untranslated = bool(left) and left.source[0] in self.prefixes
         if left or came.protocol != TCP or came.is_syn:
-            self.tell(Turned(pair, owner, mine, open_for(senders, owner), is_untranslated))
+            self.tell(Hairpin(pair, owner, mine, open_for(senders, owner), is_untranslated))
         if left and not is_untranslated:
             self.leave(pair, came.destination)
             self.come(pair, left.source, left.destination)

@@ -7,7 +7,7 @@ from collections.abc import Iterator
 
 from judging.gateway import MOST_KEPT, Gateway, Incoming
 from judging.packets import PROTOCOLS, Plan, dotted
-from judging.pairing import Given, Pairing
+from judging.pairing import Setup, Pairing
 from judging.rules import REQUIREMENTS, End, Rules
 from reading.captures import SECOND
 
@@ -15,7 +15,7 @@ from reading.captures import SECOND
 class Judge:
     """Judges the pairs of two captures."""
 
-    def __init__(self, given: Given, plan: Plan, keeps_data: bool = False):
+    def __init__(self, given: Setup, plan: Plan, keeps_data: bool = False):
         self.given, self.plan = given, plan
         self.inside, self.outside = given.sides(plan, keeps_data)
         self.rows = {it.name: Rules(it) for it in REQUIREMENTS}

@@ -7,7 +7,7 @@ from typing import TextIO
 from judging.gateway import LEAST, OF_ICMP, TRANSITORY
 from judging.judge import Judge
 from judging.packets import ICMP, OF_TCP, OF_UDP, QUERY, TCP, UDP, Endpoint, Packet, Plan, dotted
-from judging.pairing import CONNECTION, IN, OUT, SURE, Departed, Given, Pair
+from judging.pairing import CONNECTION, IN, OUT, SURE, UnmatchedDeparture, Setup, Pair
 from reading.captures import date
 
 FIELDS = (
@@ -49,16 +49,16 @@ class Log(Judge):
     nobody else sent by it, or was sent to, and it was never silent for as long as a timer may be. When the gateway
     ended it no capture shows."""
 
-    def __init__(self, given: Given, plan: Plan):
+    def __init__(self, given: Setup, plan: Plan):
         super().__init__(given, plan)
         self.open, self.entries, self.pairing.take = {}, [], self.take
 
-    def take(self, items: list[Pair | Departed]):
+    def take(self, items: list[Pair | UnmatchedDeparture]):
         self.gateway.take(items)
         for item in items:
             self.take_one(item)
 
-    def take_one(self, item: Pair | Departed):
+    def take_one(self, item: Pair | UnmatchedDeparture):
         if item.departure and item.how in (SURE, CONNECTION) and item.arrival.kind in (OF_TCP, OF_UDP, QUERY):
             came, left = item.arrival, item.departure
             if item.way is not IN and left.source[0] not in self.given.prefixes:

@@ -60,7 +60,7 @@ class Pair:
         return f"{came.name}>{left.name} ({came.text()} {changed})"
 
 
-class Departed:
+class UnmatchedDeparture:
     """A packet that left without having arrived: the gateway's own, or one whose arrival is not in the captures."""
 
     departure = leak = None
@@ -102,7 +102,7 @@ class Seen(NamedTuple):
 
 
 @dataclasses.dataclass
-class Given:
+class Setup:
     """What is judged: the files of each side, the inside prefixes, and what the user knows: the pool, the kind of
     filtering that was configured, and the names of the interfaces of both sides in the captures."""
 
@@ -286,7 +286,7 @@ class Pairing:
             # where neither is in the pool, the source may be an address of it that was not seen yet
             self.departures.append(packet)
 
-    def decide(self, item: Pair | Departed):
+    def decide(self, item: Pair | UnmatchedDeparture):
         """Notes an item whose fate is known. Arrivals of which nothing left, and the gateway's own packets after them,
         wait until something leaves again."""
         if item.departure and not self.silent and not item.arrival.pieces:
@@ -386,7 +386,7 @@ class Pairing:
 
     def leave_alone(self, packet: Packet):
         """Notes a departure without an arrival, by what may still be found to be its arrival."""
-        item = Departed(packet)
+        item = UnmatchedDeparture(packet)
         if not self.is_made_of_pieces(item):
             self.queue.append(item)
             for key in keys_alone(packet) if packet.side == "outside" else ():
@@ -399,9 +399,9 @@ class Pairing:
                 pair.leak = packet
                 self.drop(pair)
                 break
-        self.queue.append(Departed(packet, is_leak=True))
+        self.queue.append(UnmatchedDeparture(packet, is_leak=True))
 
-    def forget(self, item: Departed):
+    def forget(self, item: UnmatchedDeparture):
         for key in keys_alone(item.packet) if item.packet.side == "outside" and not item.is_leak else ():
             self.alone[key].remove(item)
             if not self.alone[key]:
@@ -420,7 +420,7 @@ class Pairing:
                     item.is_claimed, pair.departure, pair.how = True, item.packet, how
                     return
 
-    def is_made_of_pieces(self, item: Departed) -> bool:
+    def is_made_of_pieces(self, item: UnmatchedDeparture) -> bool:
         """Whether a departure was made of the pieces of a datagram that waits; that notes it."""
         left = item.packet
         for pair in self.in_pieces:

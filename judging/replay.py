@@ -11,7 +11,7 @@ from judging.gateway import ADDRESS, ADDRESS_PORT, ESTABLISHED, INDEPENDENT, LEA
 from judging.gateway import Incoming, Mapping
 from judging.judge import Judge
 from judging.packets import ERROR, ICMP, OF_UDP, QUERY, TCP, UDP, Endpoint, Packet, Plan, dotted
-from judging.pairing import IN, Departed, Given, Pair
+from judging.pairing import IN, UnmatchedDeparture, Setup, Pair
 from judging.rows import BY_DEFINITION, Row
 from reading.captures import BAD_WORDS, SECOND, Fault, write_capture
 
@@ -89,7 +89,7 @@ def rows_of(pair: Pair, mapping: Mapping, is_known: bool) -> list[str]:
 class Replay(Judge):
     """A judge whose verdicts on what comes in are those of napt's definition."""
 
-    def __init__(self, given: Given, plan: Plan, explain: str):
+    def __init__(self, given: Setup, plan: Plan, explain: str):
         super().__init__(given, plan, keeps_data=True)
         self.explain, self.sent, self.followed, self.timed_out = explain, [], [], set()
         self.pairing.take, self.gateway.follow = self.take, self.follow
@@ -105,7 +105,7 @@ class Replay(Judge):
         if pair.way is IN and pair.arrival.data:
             self.followed.append(Followed(pair, mapping.inside, rows_of(pair, mapping, is_known)))
 
-    def take(self, items: list[Pair | Departed]):
+    def take(self, items: list[Pair | UnmatchedDeparture]):
         self.gateway.take(items)
         pairs = (it for it in items if type(it) is Pair and it.way is not IN and it.arrival.data)
         self.sent += ((it.time, it.arrival.data) for it in pairs)

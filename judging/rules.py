@@ -10,9 +10,9 @@ import typing
 
 from judging.gateway import ADDRESS_PORT, AFTER_ERROR, ELSEWHERE, LEAST, LEAST_HIGH_PORT, NO_ONE, RESET, SEGMENT
 from judging.gateway import SIMULTANEOUS, SOON, SUDDEN, TIMER, UNREFRESHED, Departure, Error, Fragmentable, Fragmented
-from judging.gateway import Gateway, Incoming, Kept, Neighbours, TooLarge, Turned, Unforwarded, Unsolicited
+from judging.gateway import Gateway, Incoming, Refreshed, Neighbours, TooLarge, Hairpin, Unforwarded, Unsolicited
 from judging.packets import ERROR, ICMP, OF_TCP, OF_UDP, PROTOCOLS, RST, SYN, TCP, UDP, Plan, dotted
-from judging.pairing import ALTERED, GATEWAY_PORTS, HAIRPIN, IN, OUT, SURE, Departed, Pair
+from judging.pairing import ALTERED, GATEWAY_PORTS, HAIRPIN, IN, OUT, SURE, UnmatchedDeparture, Pair
 from judging.rows import Row
 from reading.captures import SECOND
 
@@ -169,13 +169,13 @@ class Rules(Row):
         elif alive and alive[0] >= least * NEARLY:
             self.meets(*alive[1:])
 
-    def packets_out_refresh(self, it: Incoming | Kept | End):
+    def packets_out_refresh(self, it: Incoming | Refreshed | End):
         """They do where a mapping that was never quiet for the gateway's timer is older."""
         ages = self.memory.setdefault("ages", {})
         if type(it) is Incoming:
             if it.cause == UNREFRESHED:
                 self.breaks(it.holder, it.pair)
-        elif type(it) is Kept:
+        elif type(it) is Refreshed:
             time, mapping = it.pair.time, it.mapping
             gap, age = max(mapping.longest_gap, time - mapping.last_any) // SECOND, time - mapping.first
             if age > ages.get(gap, (10 * SECOND,))[0]:
@@ -278,7 +278,7 @@ class Rules(Row):
 
     # HAIRPINS
 
-    def turns_back(self, it: Turned | End):
+    def turns_back(self, it: Hairpin | End):
         """If the filter of the one to whom it is sent lets the sender in. Which filter the gateway has is known at the
         end."""
         if type(it) is End:
@@ -291,7 +291,7 @@ class Rules(Row):
         else:
             self.keep("missing", it.opens, it.mapping.last_pair, it.pair, [it.mapping.age(it.pair.time)])
 
-    def turns_back_translated(self, it: Turned):
+    def turns_back_translated(self, it: Hairpin):
         left = it.pair.departure
         if it.is_untranslated:
             self.breaks(it.pair)
@@ -383,8 +383,8 @@ class Rules(Row):
         elif it.way is OUT and it.departure:
             self.meets(it)
 
-    def no_leak(self, it: Departed | End):
-        if type(it) is Departed:
+    def no_leak(self, it: UnmatchedDeparture | End):
+        if type(it) is UnmatchedDeparture:
             self.breaks(it)
             return
         if departures := it.rows["3022 forward"].met:
