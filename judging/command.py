@@ -8,8 +8,8 @@ import sys
 import tempfile
 
 from judging import report
-from judging.gateway import ADDRESS, ADDRESS_PORT, INDEPENDENT
 from judging.judge import Judge
+from judging.lifetimes import ADDRESS, ADDRESS_PORT, INDEPENDENT
 from judging.log import Log
 from judging.packets import SIDES, Prefixes
 from judging.pairing import Setup

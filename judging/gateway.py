@@ -1,357 +1,35 @@
-"""What pairs show of a gateway: its mappings, how long they live and whom they let in. Numbers are taken as the
-gateway chose them. A mapping must be live while the least timer that the RFCs allow has not ended since its last
-packet out; only then a packet that does not come in speaks against the gateway. What else follows depends on the
-gateway's own timers and filter, which are known at the end."""
+"""What pairs show of a gateway: its mappings, how long they live and whom they let in. What does not follow from the
+least timers that the RFCs allow depends on the gateway's own timers and filter, which are known at the end."""
 import collections
-import dataclasses
 import heapq
 import itertools
 
-from judging.packets import ACK, ERROR, FIN, ICMP, OF_TCP, OF_UDP, QUERIES, QUERY, REPLIES, RST, SYN, TCP, UDP
-from judging.packets import PROTOCOLS, Endpoint, Packet, Plan, Prefixes
-from judging.pairing import ALTERED, GATEWAY_PORTS, HAIRPIN, IN, LIKELY, OUT, SURE, UnmatchedDeparture, Pair, Seen
+from judging.lifetimes import ADDRESS, ADDRESS_PORT, INDEPENDENT, SOON, SURELY, Filter, Lifetimes
+from judging.mappings import LEAST, LONGEST, MARGIN, Mapping, Session
+from judging.moments import AFTER_ERROR, ELSEWHERE, RESET, SEGMENT, SIMULTANEOUS, STRANGER, SUDDEN, TIMER, UNREFRESHED
+from judging.moments import Departure, Error, Fragmentable, Fragmented, Hairpin, Incoming, Neighbours, Refreshed
+from judging.moments import TooLarge, Unforwarded, Unsolicited, Waiting
+from judging.packets import ACK, ERROR, FIN, ICMP, OF_TCP, OF_UDP, PROTOCOLS, QUERIES, QUERY, REPLIES, RST, SYN, TCP
+from judging.packets import UDP, Endpoint, Packet, Plan, Prefixes
+from judging.pairing import ALTERED, GATEWAY_PORTS, HAIRPIN, IN, LIKELY, OUT, SURE, Pair, UnmatchedDeparture
 from reading.captures import SECOND
 
-# kinds of mappings and sessions, and their least timers (RFC 4787, REQ-5; RFC 5508, REQ-2; RFC 5382, REQ-5)
-OF_ICMP, ESTABLISHED, TRANSITORY = "icmp", "established", "transitory"
-LEAST = {OF_UDP: 120 * SECOND, OF_ICMP: 60 * SECOND, ESTABLISHED: 7440 * SECOND, TRANSITORY: 240 * SECOND}
-LONGEST, SHORTEST = max(LEAST.values()), min(LEAST.values())
-# a reply within so long cannot be late for a timer; and for so long a mapping lives of which nothing else is known
-SOON, SURELY = 5 * SECOND, 10 * SECOND
-# what is asked of the gateway's own packets is kept so long: the answer to a SYN (RFC 5382, REQ-4), and any other
-ANSWER_TO_SYN, ANSWER = 12 * SECOND, 3 * SECOND
-# a gateway's timers may be so much longer than they must. Mappings that are over then are looked for each time that
-# the second has passed
-MARGIN, SWEEP = 600 * SECOND, 600 * SECOND
+# a packet that comes in after a longer time says nothing about a timer
 MOST_LIFE = LONGEST + MARGIN
-# how many refusals are kept whose reason is known at the end, how many endpoints of the gateway itself, and ended
-# mappings of a number
-MOST_UNDECIDED, MOST_ENDS, MOST_ENDED = 256, 10_000, 4
-# how many of what is alike are told: as many occasions as are kept as evidence
-MOST_KEPT, LEAST_HIGH_PORT = 5, 1024
-# what every host and every link takes whole (RFC 791)
+# mappings that are over are looked for each time that so much time has passed
+SWEEP = 600 * SECOND
+# so many refusals are kept whose reason is known only at the end
+MOST_UNDECIDED = 256
+# so many endpoints of the gateway itself are kept
+MOST_ENDS = 10_000
+# so many mappings of a number that have ended are kept
+MOST_ENDED = 4
+# of moments that are alike so many are told, as many as the occasions that are kept as evidence
+MOST_KEPT = 5
+# a port below this one must stay below it (RFC 4787, REQ-3a)
+LEAST_HIGH_PORT = 1024
+# every host and every link takes a datagram of this length whole (RFC 791)
 LEAST_MTU = 576
-# kinds of filtering (RFC 4787, section 5)
-INDEPENDENT, ADDRESS, ADDRESS_PORT = "endpoint-independent", "address-dependent", "address- and port-dependent"
-NO_ONE = "not one"
-# why a packet to an external endpoint did not come in: not before something was sent there; a SYN that meets a SYN; a
-# segment of a live connection; after a RST; after an ICMP error; at once; though packets out had refreshed the
-# mapping; by the timer; at another host
-STRANGER, SIMULTANEOUS, SEGMENT, RESET, AFTER_ERROR, SUDDEN, UNREFRESHED, TIMER, ELSEWHERE = (
-    "stranger", "simultaneous", "segment", "reset", "after an error", "sudden", "not refreshed", "timer", "elsewhere")
-# sessions of a mapping that is not of TCP
-NO_SESSIONS = {}
-
-
-class Session:
-    """A connection through a mapping of TCP, by its flags (RFC 7857, section 2), and the kind of timer that holds for
-    it."""
-
-    __slots__ = ("opened_out", "opened_in", "closed_out", "closed_in", "reset", "last", "acknowledged", "met", "kind")
-
-    def __init__(self):
-        self.opened_out = self.opened_in = self.closed_out = self.closed_in = self.met = False
-        self.reset, self.last, self.acknowledged, self.kind = None, 0, None, TRANSITORY
-
-    @property
-    def is_closing(self) -> bool:
-        return self.reset is not None or self.closed_out and self.closed_in
-
-    def take(self, pair: Pair, is_out: bool):
-        """Takes the flags of a segment that went through."""
-        flags = pair.arrival.flags
-        if flags & SYN:
-            # the SYN of the inside may have left before the captures
-            self.opened_out |= is_out or bool(flags & ACK)
-            self.opened_in |= not is_out
-        if flags & FIN:
-            self.closed_out |= is_out
-            self.closed_in |= not is_out
-        self.reset = pair if flags & RST else self.reset
-        is_open = self.opened_out and self.opened_in and not self.is_closing
-        self.kind = ESTABLISHED if is_open else TRANSITORY
-
-
-class Mapping:
-    """A mapping of an inside endpoint to an external one. `remotes` has when a packet last left for each, `tried` the
-    external endpoints to which it sent hairpins. One that is not sure was there before a packet left, or has packets
-    that may be of others: nothing is concluded from it."""
-
-    __slots__ = (
-        "protocol", "inside", "external", "first", "last_out", "last_any", "longest_gap", "last", "remotes", "tried",
-        "sessions", "error", "refused", "sent", "received", "is_unsure",
-    )
-
-    def __init__(self, inside: Endpoint, external: Endpoint, pair: Pair, is_unsure: bool = False):
-        self.protocol, self.inside, self.external = pair.protocol, inside, external
-        self.tried, self.is_unsure, self.last = (), is_unsure, None
-        self.sessions = {} if pair.protocol == TCP else NO_SESSIONS
-        self.last_out = self.last_any = pair.time
-        self.begin(pair)
-
-    @property
-    def last_pair(self) -> Seen:
-        """The last packet that went through."""
-        way, remote, flags, time, *numbers = self.last
-        ends = (remote, self.external, self.inside) if way is IN else (self.inside, remote, self.external)
-        return Seen(way, self.protocol, *ends, flags, time, numbers)
-
-    def use(self, pair: Pair, remote: Endpoint):
-        """A packet goes through."""
-        came, left, time = pair.arrival, pair.departure, pair.time
-        if time - self.last_any > self.longest_gap:
-            self.longest_gap = time - self.last_any
-        self.last_any = time
-        if self.last and self.last[1] == remote:
-            # one that is there already takes no more memory
-            remote = self.last[1]
-        self.last = (pair.way, remote, came.flags, time, came.file, came.number, left.file, left.number)
-
-    def begin(self, pair: Pair):
-        """It is made, or made again after its timer."""
-        self.first, self.remotes, self.longest_gap = pair.time, {}, 0
-        self.error, self.refused, self.sent, self.received = None, None, 0, 0
-        if self.sessions:
-            self.sessions = {at: it for at, it in self.sessions.items() if pair.time - it.last < LEAST[it.kind]}
-
-    def kind_to(self, remote: Endpoint | None) -> str:
-        """Returns the kind of timer that holds for a remote."""
-        if self.protocol != TCP:
-            return OF_UDP if self.protocol == UDP else OF_ICMP
-        session = self.sessions.get(remote)
-        return session.kind if session else TRANSITORY
-
-    def age(self, time: int) -> tuple[str, int]:
-        """Returns the kind of the timer that ends last, and how long it has run."""
-        if self.protocol != TCP:
-            return self.kind_to(None), time - self.last_out
-        end, kind = time - LONGEST, TRANSITORY
-        for it in self.sessions.values():
-            if it.last + LEAST[it.kind] > end:
-                end, kind = it.last + LEAST[it.kind], it.kind
-        return kind, time - end + LEAST[kind]
-
-    def must_live(self, time: int) -> bool:
-        """Whether no timer that the RFCs allow can have ended it."""
-        if time - self.last_out < SHORTEST and (self.sessions or self.protocol != TCP):
-            return True
-        kind, gap = self.age(time)
-        return gap < LEAST[kind]
-
-    def is_over(self, time: int) -> bool:
-        """Whether hardly any gateway still has it."""
-        quiet = time - self.last_any - MARGIN
-        return quiet > SHORTEST and quiet > LEAST[self.age(time)[0]]
-
-
-# MOMENTS IN WHICH A REQUIREMENT CAN BE MET OR BROKEN
-
-
-@dataclasses.dataclass(slots=True)
-class Moment:
-    """What became of an arrival."""
-
-    pair: Pair
-
-    @property
-    def protocol(self) -> int:
-        return self.pair.protocol
-
-
-@dataclasses.dataclass(slots=True)
-class Departure(Moment):
-    """A packet that left by a mapping that is new, or to a remote that is new to it; as it was before. `others` are
-    the live mappings of the same endpoint with other numbers, `holders` the live mappings of other endpoints with this
-    number, and `rival` one of another endpoint that lives with the number that this one lacks, for other remotes.
-    `before` is the last mapping that had its number."""
-
-    inside: Endpoint
-    external: Endpoint
-    remote: Endpoint
-    mapping: Mapping | None
-    is_new: bool
-    is_new_remote: bool
-    others: list
-    holders: list
-    rival: Mapping | None = None
-    before: Mapping | None = None
-
-
-@dataclasses.dataclass(slots=True)
-class Neighbours(Moment):
-    """A packet that left from an external address by a new mapping, whose host has other live mappings: `siblings` of
-    the same protocol, or `cousins` of others."""
-
-    address: int
-    siblings: tuple = ()
-    cousins: tuple = ()
-
-
-@dataclasses.dataclass(slots=True)
-class Incoming(Moment):
-    """A packet to the external endpoint of a mapping: whether it came in, or why not. `gap` is how long ago its
-    session, or a packet to its remote, was there, `quiet` the same of the mapping. `is_known`: something was sent to
-    its remote before."""
-
-    mapping: Mapping
-    session: Session | None = None
-    kind: str = ""
-    gap: int = 0
-    quiet: int = 0
-    is_known: bool = True
-    is_let_in: bool = False
-    cause: str | None = None
-    holder: Seen | None = None
-
-
-@dataclasses.dataclass(slots=True)
-class Refreshed(Moment):
-    """A packet of UDP that came in by a mapping from which several had left."""
-
-    mapping: Mapping
-
-
-@dataclasses.dataclass(slots=True)
-class Error(Moment):
-    """An ICMP error about a mapping: `mapping` is the live one that its quoted datagram belongs to, where there is
-    one, `host` the one to which it went. `is_known` says whether anybody had the quoted endpoint."""
-
-    mapping: Mapping | None
-    is_known: bool
-    is_bad: bool
-    is_from_remote: bool
-    host: Mapping | None = None
-    is_right: bool = True
-    is_own_source: bool = False
-
-    @property
-    def protocol(self) -> int:
-        return self.pair.arrival.quoted.protocol
-
-    def is_good(self, way: str, *needed) -> bool:
-        """Whether it goes a way, has nothing for which it may be dropped, and what is needed is there."""
-        return self.pair.way is way and not self.is_bad and all(needed)
-
-    @property
-    def live(self) -> list[Mapping]:
-        """What has to live so that the gateway may not drop it."""
-        return [self.mapping] if self.mapping and not self.pair.departure else []
-
-
-@dataclasses.dataclass(slots=True)
-class Hairpin(Moment):
-    """A packet from inside to the live external endpoint of an inside host: `mine` are the sender's live mappings.
-    `opens` says which kinds of filtering let it in for sure, `is_untranslated` whether it came in with its inside
-    source."""
-
-    mapping: Mapping
-    mine: list
-    opens: tuple
-    is_untranslated: bool
-
-
-@dataclasses.dataclass(slots=True)
-class Waiting(Moment):
-    """What waits for so long for a packet of the gateway's own that answers it, and how long the captures go on after
-    it."""
-
-    answer: UnmatchedDeparture | None = None
-    span: int = ANSWER
-
-
-@dataclasses.dataclass(slots=True)
-class Unsolicited(Waiting):
-    """A SYN from outside that was not let in, and a RST, or an error about it, that refuses it."""
-
-    span: int = ANSWER_TO_SYN
-
-    def is_answer(self, packet: Packet) -> bool:
-        came = self.pair.arrival
-        if packet.kind == OF_TCP:
-            return bool(packet.flags & RST) and is_reply(packet, came)
-        is_error = packet.kind == ERROR and packet.side == came.side
-        return is_error and (packet.quoted.source, packet.quoted.destination) == (came.source, came.destination)
-
-
-class TooLarge(Waiting):
-    """A packet with DF that did not leave, and the gateway's 'fragmentation needed' to its sender."""
-
-    def is_answer(self, packet: Packet) -> bool:
-        is_needed = (packet.side, packet.kind, packet.type, packet.code) == ("inside", ERROR, 3, 4)
-        return is_needed and packet.destination[0] == self.pair.arrival.source[0]
-
-
-class Unforwarded(Waiting):
-    """A good packet from inside that did not leave, and a segment of the gateway's own that refuses it."""
-
-    def is_answer(self, packet: Packet) -> bool:
-        return packet.kind == OF_TCP and is_reply(packet, self.pair.arrival)
-
-
-class Fragmented(Moment):
-    """A datagram that came in pieces."""
-
-
-class Fragmentable(Moment):
-    """A datagram without DF that left."""
-
-
-def is_reply(packet: Packet, came: Packet) -> bool:
-    return (packet.destination, packet.source) == (came.source, came.destination)
-
-
-class Lifetimes:
-    """How long mappings of each kind were seen to live, and after how long they were gone, with the packets that show
-    it."""
-
-    def __init__(self):
-        self.alive, self.lost = {}, {}
-        # of mappings from which one packet went out, and none came in
-        self.alive_alone = 0
-
-    def lose(self, it: Incoming):
-        if it.kind not in self.lost or it.gap < self.lost[it.kind][0]:
-            self.lost[it.kind] = (it.gap, it.holder, it.pair)
-
-    def longest(self, kind: str) -> int:
-        return self.alive[kind][0] if kind in self.alive else 0
-
-    def shortest(self, kind: str) -> int | None:
-        """Returns after how long one was gone, or None."""
-        return self.lost[kind][0] if kind in self.lost else None
-
-    def is_one(self, kind: str) -> bool:
-        """Whether one timer explains what was seen: it was gone after longer than any other lived."""
-        return kind in self.lost and self.longest(kind) <= self.lost[kind][0]
-
-
-class Filter:
-    """Who was let in by live mappings: other ports of a remote to which something was sent, and other addresses."""
-
-    def __init__(self):
-        self.seen, self.counts = {it: ([], []) for it in ("port", "address")}, collections.Counter()
-
-    def note(self, which: str, is_let_in: bool, *evidence):
-        self.counts[which, is_let_in] += 1
-        if len(self.seen[which][is_let_in]) < 2:
-            self.seen[which][is_let_in].append(evidence)
-
-    @property
-    def kind(self) -> str | None:
-        """Returns the kind of filtering, or None where it is not known."""
-        port_in, port_out, address_in, address_out = (
-            self.counts[which, is_let_in] for which in self.seen for is_let_in in (True, False))
-        if address_in and address_out or not address_in and port_in and port_out:
-            return NO_ONE
-        if address_in:
-            return INDEPENDENT
-        if port_in:
-            return ADDRESS if address_out else None
-        return ADDRESS_PORT if port_out else None
-
-    def occasions(self, is_let_in: bool) -> list[tuple]:
-        """Returns the evidence of those that were let in, or not."""
-        return self.seen["port"][is_let_in] + self.seen["address"][is_let_in]
 
 
 class Gateway:
@@ -359,23 +37,23 @@ class Gateway:
 
     def __init__(self, prefixes: Prefixes, plan: Plan, judge):
         self.prefixes, self.pool, self.ends_connections = prefixes, plan.pool, plan.ends_connections
-        # what was told, with how many are alike; whether enough neighbours with one address were told; and who follows
-        # what comes from outside
+        # the judge counts the moments that are alike
         self.judge, self.tell, self.alike = judge, judge.tell, judge.alike
+        # these are whether enough neighbours with one address were told, and who follows what comes from outside
         self.has_neighbours, self.follow = False, None
-        # mappings by protocol and inside endpoint, and by protocol and external endpoint; and of each host the last
-        # mapping by protocol
+        # these are the mappings of each protocol by their inside and external endpoints, and the last mapping of each
+        # host by its protocol
         self.mappings, self.of_host = collections.defaultdict(dict), {}
         self.lifetimes, self.filters = Lifetimes(), {UDP: Filter(), TCP: Filter()}
-        # what waits for an answer of the gateway's own, by the time of its end; refusals whose reason is known at the
-        # end
+        # these are the moments that wait for an answer of the gateway's own, by the time at which they have waited long
+        # enough, and the refusals whose reason is known only at the end
         self.waiting, self.undecided, self.order = [], [], itertools.count()
         self.likely = self.now = self.swept = self.largest = self.errors_of_remotes = self.lost = 0
-        # endpoints from which packets left alone, and those of nobody to which packets came
+        # these are endpoints from which packets left without an arrival, and endpoints of nobody to which packets came
         self.alone, self.nobodys = collections.Counter(), set()
 
     def take(self, items: list[Pair | UnmatchedDeparture]):
-        """Takes pairs, and what departed alone, in order of time."""
+        """Takes pairs, and departures without an arrival, in order of time."""
         for item in items:
             if item.time > self.now:
                 self.now = item.time
@@ -391,7 +69,7 @@ class Gateway:
                 self.take_pair(item)
 
     def has_enough(self, key: object) -> bool:
-        """Whether enough of what has a key was told, so that one more is only counted."""
+        """Returns whether enough moments with a key were told. One more is then only counted."""
         group = self.alike.get(key)
         if group is None or group[0] < MOST_KEPT:
             return False
@@ -413,7 +91,7 @@ class Gateway:
                     self.largest = came.length
             elif not came.may_fragment and came.length > LEAST_MTU and came.kind in (OF_UDP, OF_TCP):
                 self.wait(TooLarge(pair))
-        # one that was cut may have a wrong checksum, for which it was dropped
+        # a packet that was cut may have a wrong checksum, for which the gateway dropped it
         if pair.how is ALTERED or came.is_cut and not left:
             return
         if came.kind in (OF_TCP, OF_UDP, QUERY):
@@ -426,8 +104,8 @@ class Gateway:
         return self.mappings[protocol].get(end, ())
 
     def add(self, mapping: Mapping):
-        """Adds a mapping, in the place of old ones that its number had, of which some are kept."""
-        # a row that is added to an empty one is itself, and takes no more memory
+        """Adds a mapping, which takes the place of old mappings with its number. Some of these are kept."""
+        # a tuple that is added to an empty tuple is itself, and takes no more memory
         table, alone = self.mappings[mapping.protocol], (mapping,)
         table[mapping.inside] = table.get(mapping.inside, ()) + alone
         found = table.get(mapping.external, ())
@@ -436,7 +114,7 @@ class Gateway:
         table[mapping.external] = found + alone
 
     def doubt(self, pair: Pair):
-        """Concludes nothing from mappings whose packet it may be, since several hosts sent the same."""
+        """Marks the mappings to which a packet may belong as unsure, since several hosts sent the same."""
         self.likely += 1
         came, left = pair.arrival, pair.departure
         for end in (came.destination, left.destination) if pair.way is IN else (came.source, left.source):
@@ -465,16 +143,16 @@ class Gateway:
 
     @property
     def lost_arrivals(self) -> int:
-        """How many packets left whose arrival is not in the captures. What leaves from an endpoint of the gateway
-        itself, to which packets come that go nowhere, does not count."""
+        """Returns how many packets left whose arrival is not in the captures. A packet that leaves from an endpoint of
+        the gateway itself, to which packets come that go nowhere, does not count."""
         return self.lost + sum(count for end, count in self.alone.items() if end not in self.nobodys)
 
     def wait(self, moment: Waiting):
-        """Waits for an answer of the gateway's own."""
+        """Lets a moment wait for an answer of the gateway's own."""
         heapq.heappush(self.waiting, (moment.pair.time + moment.span, next(self.order), moment))
 
     def end_waits(self, now: int):
-        """Tells what waited long enough for an answer."""
+        """Tells the moments that have waited long enough for an answer."""
         while self.waiting and self.waiting[0][0] < now:
             self.tell(heapq.heappop(self.waiting)[2])
 
@@ -490,7 +168,7 @@ class Gateway:
             self.tell(incoming)
 
     def sweep(self):
-        """Forgets mappings that are over for long."""
+        """Forgets mappings that have been over for a long time."""
         now = self.swept = self.now
         for protocol, found in self.mappings.items():
             self.mappings[protocol] = {
@@ -513,7 +191,7 @@ class Gateway:
                 self.wait(Unforwarded(pair))
 
     def leave(self, pair: Pair, remote: Endpoint):
-        """Takes a packet that left from an external endpoint, as a hairpin too."""
+        """Takes a packet that left from an external endpoint, which may be a hairpin."""
         protocol, time, external = pair.protocol, pair.time, pair.departure.source
         mine, mapping, is_usual = self.mappings[protocol].get(pair.arrival.source, ()), None, False
         if len(mine) == 1 and mine[0].external == external:
@@ -540,7 +218,7 @@ class Gateway:
             foreign = [it for it in holders if it.inside != inside and not it.is_unsure]
         is_new = mapping is None or not mapping.must_live(time)
         is_new_remote = mapping is None or remote not in mapping.remotes
-        # a number that is kept, and that nobody else has, says as much as any other
+        # a number that is kept, and that nobody else has, says as much as any other such number
         key = None
         if not others and not foreign and external[1] == inside[1]:
             key = Departure, protocol, is_new, is_new_remote, inside[1] < LEAST_HIGH_PORT
@@ -564,7 +242,8 @@ class Gateway:
         return mapping
 
     def add_rivals(self, it: Departure, foreign: list[Mapping]):
-        """Adds to a departure by a new mapping who has, or had, the number that it wanted or got."""
+        """Adds to a departure by a new mapping which mapping has the number that the endpoint did not get, and which
+        mapping had the number that it got."""
         time = it.pair.time
         if it.external[1] != it.inside[1]:
             for other in self.with_end(it.protocol, (it.external[0], it.inside[1])):
@@ -576,7 +255,7 @@ class Gateway:
             it.before = max((o for o in foreign if o not in it.holders), key=lambda o: o.last_out, default=None)
 
     def tell_neighbours(self, pair: Pair, inside: Endpoint, address: int):
-        """Tells what else lives of a host from which a packet left by a new mapping."""
+        """Tells which other mappings live of a host from which a packet left by a new mapping."""
         found, siblings, cousins = self.of_host.get(inside[0], {}), (), ()
         for protocol in PROTOCOLS:
             other = found.get(protocol)
@@ -591,8 +270,8 @@ class Gateway:
             self.has_neighbours = self.judge.has_shown(Neighbours)
 
     def lose_others(self, it: Departure):
-        """A remote that sees another number than before shows that the mapping of that was gone, or that there never
-        was one mapping."""
+        """Takes it as a refusal if a remote sees another number than before: the mapping with the former number was
+        gone, or the endpoint never had the same mapping for all remotes."""
         for o in () if it.protocol == TCP and self.ends_connections else it.others:
             newer = it.mapping is None or it.mapping.last_any < o.last_any
             if it.remote in o.remotes and newer and (it.pair.time - o.last_any >= SOON or o.error):
@@ -620,8 +299,8 @@ class Gateway:
             self.come(pair, (came.source[0], 0) if came.kind is QUERY else came.source, left and left.destination)
 
     def come(self, pair: Pair, remote: Endpoint, target: Endpoint | None):
-        """Takes a packet to an external endpoint, from outside or as a hairpin, that went to an inside endpoint or
-        nowhere."""
+        """Takes a packet to an external endpoint, from outside or as a hairpin. `target` is the inside endpoint to
+        which it went, if it went to one."""
         came, time, mapping = pair.arrival, pair.time, None
         holders = self.mappings[came.protocol].get(came.destination, ())
         if came.protocol == TCP and self.ends_connections:
@@ -646,7 +325,8 @@ class Gateway:
             self.come_to(pair, mapping, remote, target)
 
     def come_to_nobody(self, pair: Pair, target: Endpoint | None):
-        """A number that nobody has: it is a redirect, or was there before the captures, if something goes in by it."""
+        """Takes a packet to a number that nobody has. If it goes in, the number is of a redirect, or of a mapping that
+        was there before the captures."""
         if target:
             mapping = Mapping(target, pair.arrival.destination, pair, is_unsure=True)
             mapping.use(pair, pair.arrival.source)
@@ -668,7 +348,7 @@ class Gateway:
         kind, is_usual = session.kind if session else mapping.kind_to(remote), False
         if is_known and target:
             self.note_life(pair, mapping, kind, gap, quiet)
-            # no rule tells apart those of a protocol to which nothing happened
+            # no rule tells apart the mappings of one protocol to which nothing happened
             is_usual = not (mapping.error or mapping.refused) and (
                 protocol != TCP or session and not session.reset and not came.is_syn)
         if not (is_usual and self.has_enough(protocol)):
@@ -694,7 +374,7 @@ class Gateway:
                 session.take(pair, False)
 
     def note_life(self, pair: Pair, mapping: Mapping, kind: str, gap: int, quiet: int):
-        """Notes how long a mapping lived by which a packet of a known remote came in."""
+        """Notes how long a mapping lived, since a packet of a known remote came in by it."""
         if kind == OF_UDP and mapping.sent > 1:
             self.tell(Refreshed(pair, mapping))
         elif kind == OF_UDP and not mapping.received and gap < MOST_LIFE:
@@ -718,7 +398,7 @@ class Gateway:
         of_segment = session if it.pair.way is not OUT else None
         if of_segment and session.acknowledged is not None and not came.flags & SYN and it.pair.way is IN:
             if (came.sequence - session.acknowledged) & 0xFFFF_FFFF > 0xFFFF:
-                # out of the window
+                # the segment is out of the window, and a gateway may drop it
                 return
         if it.gap >= LEAST[it.kind]:
             it.cause = TIMER
@@ -745,8 +425,8 @@ class Gateway:
                 heapq.heappop(self.undecided)
 
     def cause_at_end(self, it: Incoming) -> str:
-        """Returns why a packet of a known remote did not come in, by the lifetimes that were seen until the end: an
-        error, or a packet out that did not refresh, if others lived as long without."""
+        """Returns why a packet of a known remote did not come in, by the lifetimes that were seen until the end. The
+        cause is an error, or a packet out that did not refresh, if other mappings lived as long without that."""
         seen = {AFTER_ERROR: self.lifetimes.longest(it.kind), UNREFRESHED: self.lifetimes.alive_alone}
         return it.cause if it.gap <= seen[it.cause] else TIMER
 
@@ -799,7 +479,7 @@ class Gateway:
             noted.error = pair
 
     def take_turned_error(self, it: Error, senders: list[Mapping]):
-        """Finds whose an error about a hairpin is, and returns whether it is one."""
+        """Finds the mapping of an error about a hairpin, and returns whether the error is about a hairpin."""
         quoted, left = it.pair.arrival.quoted, it.pair.departure
         owners = self.with_end(quoted.protocol, quoted.source)
         it.mapping = next((o for o in owners if o.must_live(it.pair.time)), None)
@@ -810,7 +490,7 @@ class Gateway:
 
 
 def alike(pair: Pair, came: Packet, left: Packet) -> tuple:
-    """Returns what all pairs have that no rule about pairs can tell from this one."""
+    """Returns the key that all pairs have that no rule about pairs can tell from this pair."""
     return (
         pair.way, pair.how, came.kind, came.protocol, came.sum_ok, left.sum_ok, came.is_offloaded, left.is_offloaded,
         left.header_ok, came.ttl - left.ttl, came.may_fragment == left.may_fragment, came.payload == left.payload,
@@ -818,7 +498,7 @@ def alike(pair: Pair, came: Packet, left: Packet) -> tuple:
 
 
 def open_for(senders: list[Mapping], owner: Mapping) -> tuple:
-    """Returns the kinds of filtering under which a mapping lets in one of the senders."""
+    """Returns the kinds of filtering under which the mapping of an owner lets in one of the senders."""
     if any(it.external in owner.remotes or it.external in owner.tried for it in senders):
         return INDEPENDENT, ADDRESS, ADDRESS_PORT, None
     if any(it.external[0] == address for it in senders for address, _ in owner.remotes):
@@ -827,5 +507,5 @@ def open_for(senders: list[Mapping], owner: Mapping) -> tuple:
 
 
 def is_sent_alone(mapping: Mapping) -> bool:
-    """Whether only packets out can have kept it."""
+    """Returns whether only packets out can have kept a mapping alive."""
     return mapping.protocol == UDP and mapping.sent > 1 and not mapping.received

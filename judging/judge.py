@@ -5,9 +5,10 @@ import dataclasses
 import itertools
 from collections.abc import Iterator
 
-from judging.gateway import MOST_KEPT, Gateway, Incoming
+from judging.gateway import MOST_KEPT, Gateway
+from judging.moments import Incoming
 from judging.packets import PROTOCOLS, Plan, dotted
-from judging.pairing import Setup, Pairing
+from judging.pairing import Pairing, Setup
 from judging.rules import REQUIREMENTS, End, Rules
 from reading.captures import SECOND
 
@@ -19,19 +20,20 @@ class Judge:
         self.given, self.plan = given, plan
         self.inside, self.outside = given.sides(plan, keeps_data)
         self.rows = {it.name: Rules(it) for it in REQUIREMENTS}
-        # the rules by the kind of moment and its protocol
+        # the rules are found by the kind of a moment and its protocol
         self.rules = collections.defaultdict(list)
         for it in REQUIREMENTS:
             for moment, protocol in itertools.product(it.moments, (*PROTOCOLS, None)):
                 if it.protocol in (None, protocol) or moment is End:
                     self.rules[moment, protocol].append(getattr(self.rows[it.name], it.method))
-        # of what is alike how many they are, and the first one: the rules judge some, and that for all others
+        # of moments that are alike it is kept how many there are, and the first one: the rules judge some of them, and
+        # this one for all others
         self.alike = {}
         self.gateway = Gateway(given.prefixes, plan, self)
         self.pairing = Pairing(given.prefixes, plan, self.gateway.take)
 
     def tell(self, moment, key: object = None):
-        """Judges a moment. Of those with one key no rule tells one from another."""
+        """Judges a moment. No rule can tell moments with the same key from each other."""
         if key in self.alike:
             self.alike[key][0] += 1
         elif key:
@@ -39,7 +41,7 @@ class Judge:
         self.judge(moment)
 
     def has_shown(self, kind: type) -> bool:
-        """Whether more moments of a kind that meet its requirements show nothing more, where mappings have to live."""
+        """Returns whether more moments of a kind that meet its requirements, if mappings live, show nothing more."""
         return all(len(rule.__self__.shown) >= MOST_KEPT for rule in self.rules[kind, None])
 
     def judge(self, moment):
@@ -78,10 +80,10 @@ class Judge:
             yield f"the outside clock is {self.plan.ahead / SECOND:.3f} s ahead"
         for found, what in (
             (self.gateway.lost_arrivals,
-             "packets left without having arrived: the captures are not whole, and missing packets accuse nobody"),
+             "packets left without having arrived: the captures are incomplete, so a missing packet is not counted"
+             " against the gateway"),
             (self.gateway.likely, "pairs are not sure, since several hosts sent the same: they are left out"),
-            (self.pairing.not_judged,
-             "packets arrived at the end, of which nothing left any more: they are not judged"),
+            (self.pairing.not_judged, "packets at the end had no departures and are not judged"),
             (self.inside.doubles + self.outside.doubles, "packets are there twice, and taken once"),
         ):
             if found:

@@ -4,10 +4,10 @@ import dataclasses
 from collections.abc import Iterator
 from typing import TextIO
 
-from judging.gateway import LEAST, OF_ICMP, TRANSITORY
 from judging.judge import Judge
+from judging.mappings import LEAST, OF_ICMP, TRANSITORY
 from judging.packets import ICMP, OF_TCP, OF_UDP, QUERY, TCP, UDP, Endpoint, Packet, Plan, dotted
-from judging.pairing import CONNECTION, IN, OUT, SURE, UnmatchedDeparture, Setup, Pair
+from judging.pairing import CONNECTION, IN, OUT, SURE, Pair, Setup, UnmatchedDeparture
 from reading.captures import date
 
 FIELDS = (

@@ -12,28 +12,46 @@ from judging.packets import ERROR, OF_TCP, OF_UDP, SIDES, Endpoint, Packet, Plan
 from judging.packets import endpoint_text, ends_text, named
 from reading.captures import BAD_WORDS, SECOND, Fault
 
-OUT, IN, HAIRPIN = "out", "in", "hairpin"
-# how a departure was found: alone with its content; the most likely of several; as the SYN of a gateway that ends
-# connections itself; or with another payload
-SURE, LIKELY, CONNECTION, ALTERED = "sure", "likely", "connection", "altered"
-# a packet leaves within so long after it arrived, and where there are two clocks, which may drift, so long before
-WINDOW, ONE_CLOCK, TWO_CLOCKS = 2 * SECOND, SECOND // 500, SECOND // 20
-# of a gateway that has ended: so many arrivals and so long at the end, of which nothing leaves; and how many are kept
-# until it is known
-FEW_SILENT, LONG_SILENT, MOST_SILENT = 20, 5 * SECOND, 10_000
-# a gateway keeps identifications where it kept so many times more of them than it changed
+# a packet goes this way if an inside host sends it to the outside
+OUT = "out"
+# a packet goes this way if it comes from the outside
+IN = "in"
+# a packet goes this way if an inside host sends it to an external address of the gateway
+HAIRPIN = "hairpin"
+# a departure was found in this way if it was alone with its content
+SURE = "sure"
+# a departure was found in this way if it was the most likely of several
+LIKELY = "likely"
+# a departure was found in this way if it is the SYN of a gateway that ends connections itself
+CONNECTION = "connection"
+# a departure was found in this way if it has another payload than its arrival
+ALTERED = "altered"
+# a packet leaves within so long after it arrived
+WINDOW = 2 * SECOND
+# a packet may seem to leave so long before it arrived if the captures of both sides have one clock
+ONE_CLOCK = SECOND // 500
+# a packet may seem to leave so long before it arrived if there are two clocks, which may drift
+TWO_CLOCKS = SECOND // 20
+# a gateway has ended if nothing leaves of more than so many arrivals at the end of the captures
+FEW_SILENT = 20
+# a gateway has ended only if these arrivals come over more than so long
+LONG_SILENT = 5 * SECOND
+# so many arrivals of which nothing left are kept until it is known whether the gateway has ended
+MOST_SILENT = 10_000
+# a gateway keeps identifications if it kept more than so many times as many of them as it changed
 KEEPS = 20
-# ports of protocols that application gateways look into: FTP, TFTP, portmap, RTSP, H.323, PPTP, SIP, IRC
+# application gateways look into the protocols of these ports: FTP, TFTP, portmap, RTSP, H.323, PPTP, SIP and IRC
 GATEWAY_PORTS = {21, 69, 111, 554, 1720, 1723, 5060, 6667}
-# packets of each side from which the pool and the difference of the clocks are found
+# the pool and the difference of the clocks are found from so many packets of each side
 SAMPLE = 10_000
+# packets are merged by this time
 ORDER = operator.attrgetter("order")
 
 
 class Pair:
-    """An arrival and its departure, where it has one. `leak` is what left to the outside in the place of that: the
-    packet as it came, or a hairpin that did not turn back. `made` is what a gateway made of the pieces of a datagram
-    that it did not put together."""
+    """An arrival and its departure, if it has one. `leak` is the packet that left to the outside in place of a
+    departure: the packet as it came, or a hairpin that did not turn back. `made` has the packets that a gateway made of
+    the pieces of a datagram that it did not put together."""
 
     __slots__ = ("time", "way", "arrival", "protocol", "departure", "how", "leak", "made", "key")
 
@@ -103,8 +121,8 @@ class Seen(NamedTuple):
 
 @dataclasses.dataclass
 class Setup:
-    """What is judged: the files of each side, the inside prefixes, and what the user knows: the pool, the kind of
-    filtering that was configured, and the names of the interfaces of both sides in the captures."""
+    """What is judged, and what the user knows of it: the files of each side and the inside prefixes, and also the pool,
+    the kind of filtering that was configured, and the names of the interfaces of both sides in the captures."""
 
     inside: list
     outside: list
@@ -124,7 +142,7 @@ class Setup:
         packets = [sampled(it) for it in sides]
         pool = self.pool or pool_of(*packets, self.prefixes)
         if not pool and all(packets):
-            # one may begin long before the other
+            # the captures of one side may begin long before those of the other
             sides, begin = self.sides(Plan(set())), max(it[0].time for it in packets)
             packets = [sampled(it, begin - 10 * SECOND) for it in sides]
             pool = pool_of(*packets, self.prefixes)
@@ -181,13 +199,14 @@ def ahead_of(inside: list[Packet], outside: list[Packet], prefixes: Prefixes, po
         differences = [other[0] - one[0] for one, other in times if len(one) == 1 == len(other)]
         delays += [statistics.median(differences)] if differences else []
     if len(delays) == 2:
-        # of one clock what goes out is later outside, and what comes in earlier
+        # if there is one clock, what goes out is later outside, and what comes in is earlier there
         return int(sum(delays) / 2) if delays[0] < 0 or delays[1] > 0 else 0
     return int(delays[0]) if delays and abs(delays[0]) > SECOND else 0
 
 
 def ends_connections(inside: list[Packet], outside: list[Packet], prefixes: Prefixes) -> bool:
-    """Whether a gateway ends connections itself: its SYNs are none of inside hosts, but go to the same remotes."""
+    """Returns whether a gateway ends connections itself: its SYNs are not those of inside hosts, but go to the same
+    remotes."""
     syns = [it for it in inside if it.is_syn and it.source[0] in prefixes]
     left = [it for it in outside if it.is_syn and it.source[0] not in prefixes]
     ends, keys = {it.destination for it in syns}, {it.key(True) for it in syns}
@@ -195,7 +214,7 @@ def ends_connections(inside: list[Packet], outside: list[Packet], prefixes: Pref
 
 
 def share_of_doubles(packets: list[Packet]) -> float:
-    """Returns which part of packets has an equal one just before it."""
+    """Returns the share of packets that have an equal packet just before them."""
     seen, count = {}, 0
     for it in packets:
         key = (it.source, it.destination, it.identification, it.ttl, it.kind, it.content)
@@ -226,12 +245,13 @@ class Pairing:
 
     def __init__(self, prefixes: Prefixes, plan: Plan, take: Callable[[list], None]):
         self.prefixes, self.plan, self.pool, self.take, self.known = prefixes, plan, plan.pool, take, []
-        # what waits for its departure, by its content
+        # the pairs that wait for their departures are found by their content
         self.waiting = {OUT: {}, IN: {}, HAIRPIN: {}}
         self.departures, self.queue, self.silent = collections.deque(), collections.deque(), []
-        # what has departed alone, by what an application gateway leaves, or by the remote of a SYN; arrivals in pieces
+        # a departure without an arrival is found by what an application gateway leaves as it is, or by the remote of a
+        # SYN; arrivals in pieces wait for what was made of them
         self.alone, self.in_pieces = collections.defaultdict(list), []
-        # how many identifications were changed, and how many kept
+        # these are how many identifications were changed, and how many were kept
         self.identifications = [0, 0]
         self.pairs = self.not_judged = 0
 
@@ -269,7 +289,7 @@ class Pairing:
         destination = packet.destination[0]
         is_from, is_to = self.prefixes[packet.source[0]], self.prefixes[destination]
         if is_from and not is_to and (destination in self.pool or is_forwarded(destination)):
-            # one that the machine itself sent was captured at its other interface
+            # a packet that the machine itself sent was captured at its other interface
             if not packet.is_sent:
                 self.arrive(HAIRPIN if destination in self.pool else OUT, packet)
         elif is_to and packet.is_sent is not False:
@@ -360,7 +380,7 @@ class Pairing:
             same = [it for it in row if (it.arrival.identification, it.arrival.length) == told]
             best = (same or row)[0]
             if is_of_several(row) and (not same or is_of_several(same) or not packet.identification):
-                # so are all that wait with it
+                # all arrivals that wait with it are as likely
                 for it in row:
                     it.how = LIKELY
             row.remove(best)
@@ -369,8 +389,8 @@ class Pairing:
         is_kept = best.arrival.identification == packet.identification
         self.identifications[is_kept] += 1
         if best.how is None:
-            # of a gateway that keeps identifications it is the packet of another host, whose arrival is not in the
-            # captures
+            # if a gateway that keeps identifications seems to have changed this one, the departure is of another host,
+            # whose arrival is not in the captures
             changed, kept = self.identifications
             best.how = LIKELY if not is_kept and kept > KEEPS * changed else SURE
         return best
@@ -421,7 +441,7 @@ class Pairing:
                     return
 
     def is_made_of_pieces(self, item: UnmatchedDeparture) -> bool:
-        """Whether a departure was made of the pieces of a datagram that waits; that notes it."""
+        """Returns whether a departure was made of the pieces of a datagram that waits, which then notes it."""
         left = item.packet
         for pair in self.in_pieces:
             came = pair.arrival
@@ -434,13 +454,13 @@ class Pairing:
 
 
 def is_of_several(pairs: list[Pair]) -> bool:
-    """Whether arrivals have different ends."""
+    """Returns whether arrivals have different ends."""
     return len({(it.arrival.source, it.arrival.destination) for it in pairs}) > 1
 
 
 def keys_alone(packet: Packet) -> tuple:
-    """Returns by what a departure of UDP or TCP is found whose payload was changed, and by what a SYN of the gateway's
-    own."""
+    """Returns the keys by which a departure of UDP or TCP is found whose payload was changed, and by which a SYN of the
+    gateway's own is found."""
     if packet.kind not in (OF_UDP, OF_TCP):
         return ()
     # identifications of 0 tell nothing (RFC 6864)
@@ -450,6 +470,6 @@ def keys_alone(packet: Packet) -> tuple:
 
 
 def is_forwarded(address: int) -> bool:
-    """Whether a gateway forwards what is for an address: not for multicast, broadcast, link-local or this host
-    (RFC 6890)."""
+    """Returns whether a gateway forwards what is for an address. It does not forward what is for multicast, broadcast,
+    link-local addresses or this host (RFC 6890)."""
     return address < 0xE0000000 and address >> 16 != 0xA9FE and address >> 24 not in (0, 127)

@@ -7,11 +7,12 @@ import struct
 import subprocess
 import tempfile
 
-from judging.gateway import ADDRESS, ADDRESS_PORT, ESTABLISHED, INDEPENDENT, LEAST, OF_ICMP, RESET, TIMER, TRANSITORY
-from judging.gateway import Incoming, Mapping
 from judging.judge import Judge
+from judging.lifetimes import ADDRESS, ADDRESS_PORT, INDEPENDENT
+from judging.mappings import ESTABLISHED, LEAST, OF_ICMP, TRANSITORY, Mapping
+from judging.moments import RESET, TIMER, Incoming
 from judging.packets import ERROR, ICMP, OF_UDP, QUERY, TCP, UDP, Endpoint, Packet, Plan, dotted
-from judging.pairing import IN, UnmatchedDeparture, Setup, Pair
+from judging.pairing import IN, Pair, Setup, UnmatchedDeparture
 from judging.rows import BY_DEFINITION, Row
 from reading.captures import BAD_WORDS, SECOND, Fault, write_capture
 

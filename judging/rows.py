@@ -3,7 +3,9 @@ import collections
 import heapq
 import itertools
 
-from judging.gateway import MOST_KEPT, SURELY, Lifetimes, Mapping
+from judging.gateway import MOST_KEPT
+from judging.lifetimes import SURELY, Lifetimes
+from judging.mappings import Mapping
 from judging.pairing import Pair
 from reading.captures import SECOND
 

@@ -1,29 +1,41 @@
-"""The rule of each requirement, on each occasion that pairs show. A rule is given a moment, of the kinds that its
-signature names. What it asks is in requirements.csv: the name, level (RFC 2119) and section of each requirement, what
-traffic shows it, its rule with the word that it is given, `word` here, the protocol that it is of, where it is of one,
-and whether it is of segments, which a gateway does not show that ends connections itself."""
+"""The rules, which judge each occasion that pairs show. A rule gets a moment of one of the kinds that its signature
+names. What a requirement asks is in requirements.csv, with its name, level (RFC 2119) and section, the traffic that
+shows it, its rule, the word that the rule gets (`word` here), its protocol, if it is of one, and whether it is of
+segments: such a requirement cannot be shown by a gateway that ends connections itself."""
 import collections
 import csv
 import dataclasses
 import pathlib
 import typing
 
-from judging.gateway import ADDRESS_PORT, AFTER_ERROR, ELSEWHERE, LEAST, LEAST_HIGH_PORT, NO_ONE, RESET, SEGMENT
-from judging.gateway import SIMULTANEOUS, SOON, SUDDEN, TIMER, UNREFRESHED, Departure, Error, Fragmentable, Fragmented
-from judging.gateway import Gateway, Incoming, Refreshed, Neighbours, TooLarge, Hairpin, Unforwarded, Unsolicited
+from judging.gateway import LEAST_HIGH_PORT, Gateway
+from judging.lifetimes import ADDRESS_PORT, NO_ONE, SOON
+from judging.mappings import LEAST
+from judging.moments import AFTER_ERROR, ELSEWHERE, RESET, SEGMENT, SIMULTANEOUS, SUDDEN, TIMER, UNREFRESHED, Departure
+from judging.moments import Error, Fragmentable, Fragmented, Hairpin, Incoming, Neighbours, Refreshed, TooLarge
+from judging.moments import Unforwarded, Unsolicited
 from judging.packets import ERROR, ICMP, OF_TCP, OF_UDP, PROTOCOLS, RST, SYN, TCP, UDP, Plan, dotted
-from judging.pairing import ALTERED, GATEWAY_PORTS, HAIRPIN, IN, OUT, SURE, UnmatchedDeparture, Pair
+from judging.pairing import ALTERED, GATEWAY_PORTS, HAIRPIN, IN, OUT, SURE, Pair, UnmatchedDeparture
 from judging.rows import Row
 from reading.captures import SECOND
 
-# what a rule keeps of the latest datagrams, and the numbers that have to change before their order is looked at
-MOST_DATAGRAMS, FEW_CHANGED, NEAR = 10_000, 8, 2
-# a number rests so long (RFC 6888, REQ-8); a SYN is answered no earlier (RFC 5382, REQ-4), and has an answer by then
-REST, SILENT, ANSWERED = 120 * SECOND, 6 * SECOND, 12 * SECOND
+# a rule keeps so many of the latest datagrams
+MOST_DATAGRAMS = 10_000
+# so many numbers have to change before their order is looked at
+FEW_CHANGED = 8
+# a number follows on another number if it is greater by at most so much
+NEAR = 2
+# a number has to rest for so long (RFC 6888, REQ-8)
+REST = 120 * SECOND
+# a SYN must not be answered sooner than this (RFC 5382, REQ-4)
+SILENT = 6 * SECOND
+# a SYN must be answered within so long
+ANSWERED = 12 * SECOND
 # a fragment of a datagram may be about in the network for so long
 FRAGMENTS_LIVE = 120 * SECOND
+# a link of Ethernet carries a datagram of this length
 ETHERNET_MTU = 1500
-# a timer was seen to be long enough where a mapping lived for such a part of it
+# a timer was seen to be long enough if a mapping lived for this part of it
 NEARLY = 0.95
 
 
@@ -44,7 +56,9 @@ class Rules(Row):
     # MAPPINGS AND NUMBERS
 
     def same_endpoint_for_each_remote(self, it: Departure | End):
-        """An endpoint that kept its number says little: the gateway may only keep numbers."""
+        """An endpoint must have the same external endpoint for each remote. The gateway could have failed where a
+        packet left for a new remote. An endpoint that kept its number says little, since a gateway may keep numbers
+        wherever it can."""
         if type(it) is End:
             if not self.met and self.memory["kept"]:
                 self.needs = f"an endpoint whose number was changed (all {self.memory['kept']} kept theirs)"
@@ -69,8 +83,8 @@ class Rules(Row):
         self.no_overloading(it)
 
     def no_overloading(self, it: Departure):
-        """Also if their remotes differ. It could have failed where another one had the number that an endpoint lacks,
-        for other remotes."""
+        """Two endpoints must not share a number, even if their remotes differ. The gateway could have failed where
+        another endpoint had, for other remotes, the number that an endpoint did not get."""
         for other in it.holders:
             self.breaks(it.pair, live=[other])
         if it.rival:
@@ -81,19 +95,22 @@ class Rules(Row):
             self.judge((it.external[1] < LEAST_HIGH_PORT) == (self.word == "low"), it.pair)
 
     def parity(self, it: Departure):
-        """A number that is kept shows nothing."""
+        """A number must keep its parity. The gateway could have failed where it changed a number."""
         if it.is_new and it.external[1] != it.inside[1]:
             self.judge((it.external[1] ^ it.inside[1]) & 1 == 0, it.pair)
 
     def one_address(self, it: Neighbours | End):
-        """For all endpoints of one protocol (siblings), or also of others (cousins)."""
+        """All endpoints of a host must have one external address: those of one protocol (siblings), or also those of
+        other protocols (cousins). The gateway could have failed where it has two addresses."""
         if type(it) is End:
             self.needs = "" if len(it.plan.pool) > 1 else "two external addresses"
         for other in getattr(it, self.word):
             self.judge(other.external[0] == it.address, it.pair, live=[other])
 
     def numbers_rest(self, it: Departure | End):
-        """The mapping lived at least as long as others did, and at most until others were gone."""
+        """A number must rest before another endpoint gets it. The gateway could have failed where another endpoint got
+        it. Nobody saw the former mapping end: it lived at least as long as others did, and at most until others were
+        gone."""
         if type(it) is Departure:
             if it.before:
                 times = (it.pair.time - it.before.last_out, it.pair.time - it.before.last_any)
@@ -108,7 +125,8 @@ class Rules(Row):
                 self.meets(before, pair)
 
     def hard_to_guess(self, it: Departure | End):
-        """Numbers that are not kept follow neither on the one before nor on the inside number (RFC 6056)."""
+        """Numbers must be hard to guess (RFC 6056). The gateway could have failed where it changed a number: the new
+        number must follow neither on the one before nor on the inside number."""
         memory = self.memory
         if type(it) is End:
             if memory["changed"] >= FEW_CHANGED:
@@ -124,7 +142,8 @@ class Rules(Row):
             self.keep("pairs", it.pair)
 
     def identifications_differ(self, it: Fragmentable):
-        """Two hosts behind one address do not have one at a time, where fragments are possible (RFC 6864, 5.3.1)."""
+        """Two hosts behind one address must not use one identification at a time, where fragments are possible (RFC
+        6864, section 5.3.1). The gateway could have failed where two hosts chose the same identification."""
         came, left, time = it.pair.arrival, it.pair.departure, it.pair.time
         tables = [self.memory.setdefault(name, collections.OrderedDict()) for name in ("left", "came")]
         keys = [(left.source[0], came.destination[0], packet.identification) for packet in (left, came)]
@@ -140,7 +159,8 @@ class Rules(Row):
                 table.popitem(last=False)
 
     def deterministic(self, it: End):
-        """Mapping and filtering stay the same."""
+        """Mapping and filtering must not change. The gateway could have failed where it was seen to map or to filter
+        several times."""
         for protocol, mapping in ((UDP, "4787 REQ-1"), (TCP, "5382 REQ-1")):
             found, filtered = it.rows[mapping], it.gateway.filters[protocol]
             same, changed = found.met + found.memory["kept"], found.memory["changed"]
@@ -156,8 +176,8 @@ class Rules(Row):
     # TIMERS
 
     def lives(self, it: End):
-        """A mapping that is not used lives as long as it must: some came in after nearly that time, and none was gone
-        before."""
+        """A mapping that is not used must live for the least timer. The gateway could have failed where a packet came
+        after nearly that time; it did fail where a mapping was gone sooner."""
         kind, lifetimes = self.word, it.lifetimes
         least, alive, lost = LEAST[kind], lifetimes.alive.get(kind), lifetimes.lost.get(kind)
         seen = ("survived", alive), ("gone after", lost)
@@ -170,7 +190,8 @@ class Rules(Row):
             self.meets(*alive[1:])
 
     def packets_out_refresh(self, it: Incoming | Refreshed | End):
-        """They do where a mapping that was never quiet for the gateway's timer is older."""
+        """Packets out must refresh a mapping. The gateway could have failed where a mapping became older than the
+        gateway's own timer, and was never quiet for as long as that."""
         ages = self.memory.setdefault("ages", {})
         if type(it) is Incoming:
             if it.cause == UNREFRESHED:
@@ -186,8 +207,9 @@ class Rules(Row):
                     self.meets(*evidence)
 
     def refreshes_nothing(self, it: Incoming | End):
-        """An error, or what the filter refused, does not refresh: the mapping was gone although that came within the
-        timer, and it never lived longer than the timer because of that."""
+        """An ICMP error, or a packet that the filter refused, must not refresh a mapping. The gateway could have failed
+        where such a packet came within the timer, and the mapping was gone all the same. It did fail where a mapping
+        lived longer than the timer because of such a packet."""
         if type(it) is End:
             for kind, quiet, *evidence in self.later["lived"]:
                 if it.lifetimes.is_one(kind) and quiet >= it.lifetimes.shortest(kind):
@@ -221,8 +243,8 @@ class Rules(Row):
     # WHAT COMES IN
 
     def filtering(self, it: End):
-        """Who is let in by a mapping is independent of the remote, or depends on its address alone; and it is one of
-        both, at all times."""
+        """Whether a mapping lets a packet in must be independent of the remote, or depend on its address alone, and
+        always be the same of both. The gateway could have failed where strangers sent to live mappings."""
         found = it.gateway.filters[self.requirement.protocol]
         let_in, refused = found.occasions(True), found.occasions(False)
         self.note = found.kind or ""
@@ -279,8 +301,8 @@ class Rules(Row):
     # HAIRPINS
 
     def turns_back(self, it: Hairpin | End):
-        """If the filter of the one to whom it is sent lets the sender in. Which filter the gateway has is known at the
-        end."""
+        """A hairpin must turn back if the filter of the mapping to which it is sent lets the sender in. The gateway
+        could have failed on each hairpin to a live mapping. Which filter the gateway has is known at the end."""
         if type(it) is End:
             kind = it.gateway.filters[self.requirement.protocol].kind
             for opens, before, pair, ages in self.later["missing"]:
@@ -302,14 +324,16 @@ class Rules(Row):
             self.meets(it.pair)
 
     def errors_turn_back(self, it: Error):
-        """To the sender of the hairpin, with the ends that it knows."""
+        """An error about a hairpin must turn back to the sender of the hairpin, and quote the ends that the sender
+        knows. The gateway could have failed on each such error that it has no reason to drop."""
         if it.pair.way is HAIRPIN and not it.is_bad:
             self.judge(it.pair.departure is not None and it.is_right, it.pair, live=it.live)
 
     # ICMP ERRORS
 
     def errors_from_all(self, it: Error | End):
-        """Their source may be a router."""
+        """Errors must come in whatever their source is. The gateway could have failed where the source was not the
+        remote, but a router."""
         if type(it) is End:
             if self.broken and not it.gateway.errors_of_remotes:
                 self.needs = "errors of the remotes themselves that go in (here none does)"
@@ -322,7 +346,8 @@ class Rules(Row):
             self.judge(it.pair.departure is not None, it.pair, live=it.live)
 
     def dropped(self, it: Error | End, is_one: bool):
-        """Errors of a kind are dropped, which shows something only where good ones pass."""
+        """Errors of a kind must be dropped. The gateway could have failed on each error of this kind, but that shows
+        something only where good errors pass."""
         if type(it) is End:
             self.needs = "" if it.rows["5508 REQ-4"].met else "good errors that go in (here none does)"
         elif is_one:
@@ -369,7 +394,8 @@ class Rules(Row):
             self.judge(it.is_own_source, it.pair)
 
     def inner_sums(self, it: Error):
-        """Those of IP, and where all is there of the transport."""
+        """The checksums of the quoted datagram must be right: that of IP and, where the whole datagram is quoted, that
+        of its transport. The gateway could have failed on each error that it translated."""
         if it.pair.departure and not it.is_bad:
             came, left = it.pair.arrival.quoted, it.pair.departure.quoted
             self.judge(left.header_ok and not (came.sum_ok is True and left.sum_ok is False), it.pair)
@@ -396,7 +422,8 @@ class Rules(Row):
             self.judge(it.departure.header_ok, it)
 
     def sums_stay_right(self, it: Pair | End):
-        """What was left to the network card shows nothing."""
+        """A right checksum must stay right. The gateway could have failed on each packet whose checksum was not left to
+        the network card."""
         if type(it) is End:
             if count := self.memory["offloaded"]:
                 self.note = f"{count} departures have no checksum, or left it to the card: not judged"
@@ -408,7 +435,8 @@ class Rules(Row):
                 self.judge(left.sum_ok, it)
 
     def sums_stay_wrong(self, it: Pair):
-        """The sum is updated by the difference."""
+        """A wrong checksum must stay wrong, since a checksum is updated by the difference. The gateway could have
+        failed where a packet with a wrong checksum left."""
         if it.arrival.sum_ok is False and it.how is SURE and it.arrival.kind in (OF_UDP, OF_TCP):
             if not it.departure.is_offloaded and it.departure.sum_ok is not None:
                 self.judge(it.departure.sum_ok is False, it)
@@ -419,7 +447,8 @@ class Rules(Row):
             self.judge(left.sum_ok is not False, it)
 
     def content_stays(self, it: Pair | End):
-        """All but addresses, ports, identifiers and checksums."""
+        """All of a packet must stay but addresses, ports, identifiers and checksums. The gateway could have failed on
+        each packet that left."""
         if type(it) is End:
             if self.memory["fragmentation"]:
                 self.note = f"DF differs in {self.memory['fragmentation']}"
@@ -440,14 +469,16 @@ class Rules(Row):
             self.judge(step >= 1, it)
 
     def no_application_gateway(self, it: Pair):
-        """Also not those of protocols that gateways know."""
+        """A payload must stay, also of the protocols that application gateways know. The gateway could have failed
+        where a packet of such a protocol left with a payload."""
         if it.how is ALTERED:
             self.breaks(it, is_absence=True)
         elif it.arrival.destination[1] in GATEWAY_PORTS and it.arrival.payload and it.how is SURE:
             self.meets(it)
 
     def too_large_is_answered(self, it: TooLarge | End):
-        """Something larger never left, which the link inside can carry."""
+        """A packet that is too large must be answered. The gateway could have failed where a packet did not leave that
+        is larger than all that left, and that the link inside can carry."""
         if type(it) is End:
             for pair, in self.later["large"]:
                 if 0 < it.gateway.largest < pair.arrival.length <= ETHERNET_MTU:
@@ -466,7 +497,8 @@ class Rules(Row):
 
 @dataclasses.dataclass(frozen=True)
 class Requirement:
-    """A requirement. Its rule is a method of its row, for moments of the kinds that the signature names."""
+    """A requirement of an RFC. Its rule is a method of its row, and judges moments of the kinds that the signature
+    names."""
 
     name: str
     level: str
