@@ -243,8 +243,8 @@ class Rules(Row):
     # WHAT COMES IN
 
     def filtering(self, it: End):
-        """Whether a mapping lets a packet in must be independent of the remote, or depend on its address alone, and
-        always be the same of both. The gateway could have failed where strangers sent to live mappings."""
+        """Whether a mapping lets a packet in must be independent of the remote, or must depend on its address alone,
+        and must not change between these two. The gateway could have failed where strangers sent to live mappings."""
         found = it.gateway.filters[self.requirement.protocol]
         let_in, refused = found.occasions(True), found.occasions(False)
         self.note = found.kind or ""

@@ -17,7 +17,7 @@ GATEWAY = TOP / "examples/gateway"
 # the number of this version
 VERSION = (TOP / "CHANGES").read_text().splitlines()[2]
 NAME = os.path.basename(sys.argv[0])
-# of the built-in configuration what runs need (docs/FORMATS.md)
+# what runs need of the built-in configuration (docs/FORMATS.md)
 BUILT_IN = b'pool = ["203.0.113.1"]\ninside = ["10.0.0.0/8"]\n'
 SIDES = ("inside", "outside")
 OUTPUTS = ("to-outside", "to-inside", "report")
@@ -37,7 +37,7 @@ OTHER_NUMBERS = (
 
 
 class Wrong(Exception):
-    """What is not as expected, in a line."""
+    """Says in one line what is not as expected."""
 
 
 def want(holds, complaint):
@@ -46,7 +46,7 @@ def want(holds, complaint):
 
 
 def want_none(wrong):
-    """Wants no line of what is wrong, and says each."""
+    """Prints each line that says what is wrong, and wants that there is none."""
     for line in wrong:
         print(line, file=sys.stderr)
     want(not wrong, "")
@@ -54,7 +54,7 @@ def want_none(wrong):
 
 @contextlib.contextmanager
 def named(name):
-    """What is wrong inside is told with this name."""
+    """Reports with this name what is wrong inside."""
     try:
         yield
     except (Wrong, ValueError, LookupError, StopIteration) as wrong:
@@ -62,7 +62,7 @@ def named(name):
 
 
 def want_same(what, found, wanted):
-    """Wants the same bytes, lines or items, and names the first place where they are not."""
+    """Wants the same bytes, lines or items, and names the first place where they are not the same."""
     if found != wanted:
         pairs = enumerate(zip(found, wanted))
         place = next((at for at, (one, two) in pairs if one != two), min(len(found), len(wanted)))
@@ -71,7 +71,8 @@ def want_same(what, found, wanted):
 
 
 def called(words, **how):
-    """A call of a program, by itself without input and for two minutes at most: its status, and both outputs as bytes."""
+    """Runs a program, by default without input and for at most two minutes, and returns its status and outputs. The
+    outputs are bytes by default."""
     usual = {"capture_output": True, "timeout": MOST_SECONDS, "check": False}
     if "input" not in how:
         usual["stdin"] = subprocess.DEVNULL
@@ -79,8 +80,8 @@ def called(words, **how):
 
 
 def ran(words, *statuses, says="", **how):
-    """Standard output of a call that ends with one of the statuses, by itself 0, and says on standard error what has the
-    pattern, by itself nothing."""
+    """Runs a program, and returns its standard output. The program must end with one of the statuses, by default 0, and
+    must write on standard error what the pattern matches, by default nothing."""
     answer = called(words, **how)
     said = answer.stderr if isinstance(answer.stderr, str) else answer.stderr.decode(errors="replace")
     wanted = statuses or (0,)
@@ -90,29 +91,29 @@ def ran(words, *statuses, says="", **how):
 
 
 def want_ends(words, status, said="", output="", **how):
-    """Wants a call to end with a status, and to write just this on standard error and on standard output."""
+    """Wants a call to end with a status, and to write exactly this on standard error and on standard output."""
     answer = called(words, **{"text": True} | how)
     found = (answer.returncode, answer.stderr, answer.stdout)
     want(found == (status, said, output), f"{' '.join(map(str, words))}: {found} and not {(status, said, output)}")
 
 
 def words_of(named, folder=""):
-    """Words that give each option its file, in a folder where one is given."""
+    """Returns words that give each option its file, in a folder if a folder is given."""
     return [word for option, name in named.items() for word in (f"--{option}", os.path.join(folder, name))]
 
 
 def files(options, folder):
-    """Words that give each option the file of its name in a folder."""
+    """Returns words that give each option the file in a folder that is named as the option is."""
     return words_of(dict(zip(options, options)), folder)
 
 
 def gateway_words(folder=GATEWAY):
-    """The words of napt and explain for the three inputs of the example."""
+    """Returns the words of napt and explain for the three inputs of the example."""
     return words_of(INPUTS, folder)
 
 
 def content(path):
-    """The bytes of a file; none where it is not there."""
+    """Returns the bytes of a file, or no bytes if the file does not exist."""
     with contextlib.suppress(FileNotFoundError):
         return pathlib.Path(path).read_bytes()
     return b""
@@ -124,8 +125,8 @@ def write_files(folder, named):
 
 
 def run_over(program, given, folder, outputs=OUTPUTS, *more):
-    """Runs a program over what is given of its configuration and captures, in files of a folder that are named as the
-    options, with more words: its status, its line on standard error, and its outputs."""
+    """Runs a program with more words over its configuration and captures, as far as they are given, in files of a
+    folder that are named as the options are. Returns its status, its line on standard error, and its outputs."""
     given = {name: data for name, data in given.items() if data is not None}
     write_files(folder, given)
     for name in outputs:
@@ -134,8 +135,8 @@ def run_over(program, given, folder, outputs=OUTPUTS, *more):
     return answer.returncode, answer.stderr.decode(), {name: content(folder / name) for name in outputs}
 
 
-# starts a program from a process that is small itself, since a child counts the memory of its parent at the fork, and
-# prints the most that it took
+# this starts a program from a process that is small itself, since a child counts the memory of its parent at the fork,
+# and prints the most memory that the program took
 MEASURE = """
 import os, sys
 pid = os.posix_spawn(sys.argv[1], sys.argv[1:], os.environ)
@@ -146,7 +147,8 @@ sys.exit(os.waitstatus_to_exitcode(status))
 
 
 def measured(words):
-    """The words of a call that runs these, and ends like them; its last line is the most memory of that, in bytes."""
+    """Returns the words of a call that runs these words and ends as they do. Its last line is the most memory that they
+    took, in bytes."""
     return [sys.executable, "-S", "-c", MEASURE, *words]
 
 
@@ -163,12 +165,12 @@ class Watched:
         self.process.stdin.flush()
 
     def end(self, data=b""):
-        """Sends the rest; returns the status and all that the terminal got."""
+        """Sends the rest, and returns the status and all that the terminal got."""
         with contextlib.suppress(BrokenPipeError):
             self.process.stdin.write(data)
             self.process.stdin.close()
         told = b""
-        # at its end the far end is closed
+        # when the program ends, the far end of the terminal is closed
         with contextlib.suppress(OSError):
             while True:
                 told += os.read(self.terminal, 4096)
@@ -178,13 +180,13 @@ class Watched:
 
 @contextlib.contextmanager
 def room():
-    """A folder that is there for a while."""
+    """Makes a folder, which is removed at the end."""
     with tempfile.TemporaryDirectory(prefix=f"napt-{NAME}-", ignore_cleanup_errors=True) as folder:
         yield pathlib.Path(folder)
 
 
 def path_with(folder, *tools):
-    """A path that has these tools of the system alone, in a new folder."""
+    """Returns a path that has only these tools of the system, in a new folder."""
     folder.mkdir()
     for tool in tools:
         os.symlink(path_of(tool), folder / tool)
@@ -197,14 +199,14 @@ def left_out(what, reason):
 
 
 def path_of(tool):
-    """Where a tool of the system is, or None; one with a slash is a path."""
+    """Returns where a tool of the system is, or None. A tool with a slash in its name is a path."""
     if "/" in tool:
         return tool if os.path.exists(tool) else None
     return shutil.which(tool, path=f"{os.environ.get('PATH', '')}:/usr/sbin:/sbin")
 
 
 def is_left_out(what, *tools):
-    """Whether something is left out since a tool is missing, and says so."""
+    """Returns whether something is left out because a tool is missing, and says so."""
     missing = [tool for tool in tools if not path_of(tool)]
     if missing:
         left_out(what, f"missing: {' '.join(missing)}")
@@ -212,12 +214,13 @@ def is_left_out(what, *tools):
 
 
 def is_no_clone():
-    """Whether a test of the commit has to be left out, and says so: where git is missing, or the tree is no clone."""
+    """Returns whether a test of the commit has to be left out because git is missing or the tree is no clone, and says
+    so."""
     return is_refused("all", "git rev-parse --git-dir", cwd=TOP)
 
 
 def is_refused(what, command, **how):
-    """Whether something is left out since the system refuses a command, and says so."""
+    """Returns whether something is left out because the system refuses a command, and says so."""
     with contextlib.suppress(FileNotFoundError):
         if called(command.split(), **how).returncode == 0:
             return False
@@ -228,7 +231,7 @@ def is_refused(what, command, **how):
 def loaded(path):
     loader = importlib.machinery.SourceFileLoader(f"{path.name}_script", str(path))
     module = importlib.util.module_from_spec(importlib.util.spec_from_loader(loader.name, loader))
-    # its classes look themselves up
+    # classes of the module look it up there
     sys.modules[loader.name] = module
     loader.exec_module(module)
     return module
@@ -242,7 +245,7 @@ nothing can be checked.
 
 
 def help_text(names):
-    """What this script says of itself: its calls follow the first paragraph of its doc."""
+    """Returns what this script says of itself: its calls follow the first paragraph of its doc."""
     first, _, rest = sys.modules["__main__"].__doc__.partition("\n\n")
     usage = f"usage: {' '.join([f'tests/{NAME}', *names])}\n       tests/{NAME} --help\n"
     return "\n".join([first.rstrip("\n") + "\n", usage, *([rest] if rest else [])]) + ENDS.format(name=NAME)
@@ -254,9 +257,9 @@ def refuse_words(complaint):
 
 
 def run_script(main, *names):
-    """Runs a script: `main` takes the paths of the programs that the words name, and after them other words where the
-    last name is in brackets. It returns the last line, or None where it left all out; what is wrong it raises, and
-    what is wrong in several places it says and then raises an empty line. Ends as its help says."""
+    """Runs a script, and ends as its help says. `main` takes the paths of the programs that the words name, and after
+    them other words if the last name is in brackets. It returns the last line, or None if it left everything out. It
+    raises what is wrong; if several things are wrong, it prints them and then raises an empty line."""
     words, programs = sys.argv[1:], [name for name in names if name[0] != "["]
     if words in (["--help"], ["-h"]):
         print(help_text(names), end="")
