@@ -25,7 +25,7 @@ pub struct RecordStream<'a, R: Source> {
 }
 
 impl<'a, R: Source> OpenCapture<'a, R> {
-    ghost use Rattle.std.specs.Prelude.{◌≡◌, ◌+◌, ◌^◌, ◌-◌, ◌<◌, None, IfOk, IfErr, Err, OnErr, OnOk};
+    ghost use Rattle.std.specs.Prelude.{◌≡◌, ◌+◌, ◌^◌, ◌-◌, ◌<◌, None, Some, IfOk, IfErr, Err, OnErr, OnOk};
     ghost use Rattle.napt_capture.specs.Capture.{failed_reads};
     ghost use Rattle.napt_capture.specs.Reading.{LeavesBytes, IsWritableNext, IsReadResult};
     ghost use Rattle.napt_capture.specs.RecordReaders.{RecordsAskSource, HandsOutNothing, HandsOutNext, next_number, remaining_text};
@@ -47,6 +47,7 @@ impl<'a, R: Source> OpenCapture<'a, R> {
             IfOk result (λ next. records.new.number ≡ next_number next records.old.number) }
         ensures spelling { records.new.spelling ≡ records.old.spelling }
         ensures live { OnOk result (self.new.fault ≡ self.old.fault) }
+        ensures stays { IfErr result (λ fault. self.new.fault ≡ Some fault) }
         ensures kept { self.old.fault ≡ None → OnErr result (HandsOutNothing
             records.old (R.remaining self.old.source.now)
             records.new (R.remaining self.new.source.now)) }
