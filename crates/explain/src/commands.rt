@@ -143,7 +143,8 @@ impl CommandTexts {
     }
 }
 
-/// Whether the first word of a call names a command, or requests the help of all commands or the version.
+/// Returns whether the first word of a call names a command, or requests the help of all commands
+/// or the version.
 fn is_name(word: &str) -> bool {
     !word.starts_with('-') || matches!(word, "-h" | "--help" | "-V" | "--version")
 }

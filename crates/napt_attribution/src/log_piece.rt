@@ -159,7 +159,8 @@ impl LogPiece<'_> {
         Ok(true)
     }
 
-    /// Whether a binding other than a redirect is outside its host's block in the configuration.
+    /// Returns whether a binding other than a redirect is outside its host's block in the
+    /// configuration.
     fn is_elsewhere(self, binding: &Row) -> bool {
         let Endpoint { address, number } = binding.external;
         let config = self

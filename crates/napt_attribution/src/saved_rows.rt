@@ -152,7 +152,8 @@ impl SavedRows {
         Ok(())
     }
 
-    /// Whether the binding of a row has an entry without an end that was made at the time of the row.
+    /// Returns whether the binding of a row has an entry without an end that was made at the time
+    /// of the row.
     fn is_open_since(&self, row: &LogRow, binding: Row) -> bool {
         match self.open_entry(row.number, binding) {
             Some((_, made)) => row.time == LogField::Number(u128::from(made)),
@@ -230,7 +231,8 @@ impl SavedRows {
     }
 }
 
-/// Whether it is the natEvent of a packet that got no binding (RFC 8158): ports exhausted, or quota exceeded.
+/// Returns whether it is the natEvent of a packet that got no binding (RFC 8158): ports exhausted,
+/// or quota exceeded.
 fn is_refusal(event: u128) -> bool
     ensures { result ≡ true → 12 ≤ event }
 {

@@ -30,7 +30,7 @@ impl OutsideCapture {
         }
     }
 
-    /// Whether the packets of the capture follow the run.
+    /// Returns whether the packets of the capture follow the run.
     pub fn follows(self) -> bool {
         self == OutsideCapture::Replies
     }

@@ -62,7 +62,7 @@ impl Date {
     }
 }
 
-/// Whether a year has a leap day.
+/// Returns whether a year has a leap day.
 fn is_leap(year: u32) -> bool
     ensures { result ≡ calendar.is_leap year }
 {

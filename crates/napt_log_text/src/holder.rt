@@ -179,7 +179,7 @@ fn add_reason(
     Ok(())
 }
 
-/// Whether an address is known not to be in the pool.
+/// Returns whether an address is known not to be in the pool.
 fn is_foreign(config: Option<&Config>, address: u32) -> bool
     ensures { result ≡ holders.is_foreign (option_map (λ known. known.now) config.entry) address }
 {

@@ -51,7 +51,7 @@ impl TimeStamp {
         Ok(())
     }
 
-    /// Whether the year has four digits.
+    /// Returns whether the year has four digits.
     fn has_date(self) -> bool
         ensures { result ≡ times.has_date self.0 }
     {

@@ -55,14 +55,14 @@ impl Request {
         }
     }
 
-    /// Whether the binding of an entry had the endpoint at some time.
+    /// Returns whether the binding of an entry had the endpoint at some time.
     fn is_for(&self, entry: &Entry) -> bool
         ensures { result ≡ requests.is_asked self.now entry.now }
     {
         is_of(self.protocol, entry.binding.protocol) && self.party.has(entry.binding.external)
     }
 
-    /// Whether the binding had the endpoint at some moment of the span.
+    /// Returns whether the binding had the endpoint at some moment of the span.
     fn is_answered_by(&self, entry: &Entry) -> bool
         ensures { result ≡ requests.is_holder self.now entry.now }
     {
@@ -73,7 +73,7 @@ impl Request {
             }
     }
 
-    /// Whether the binding had the endpoint and was made after the span.
+    /// Returns whether the binding had the endpoint and was made after the span.
     fn is_before(&self, entry: &Entry) -> bool
         ensures { result ≡ requests.is_next self.now entry.now }
     {
@@ -84,7 +84,7 @@ impl Request {
             }
     }
 
-    /// Whether the binding had the endpoint and had ended before the span.
+    /// Returns whether the binding had the endpoint and had ended before the span.
     fn is_behind(&self, entry: &Entry) -> bool
         ensures { result ≡ requests.is_past self.now entry.now }
     {
@@ -117,7 +117,7 @@ impl Request {
 }
 
 impl TimeSpan {
-    /// Whether the binding of an entry has a moment in common with the span.
+    /// Returns whether the binding of an entry has a moment in common with the span.
     fn meets(self, entry: &Entry) -> bool
         ensures { result ≡ requests.has_moment_of self entry.now }
     {
@@ -129,7 +129,7 @@ impl TimeSpan {
     }
 }
 
-/// Whether a protocol is the requested one, if one is requested.
+/// Returns whether a protocol is the requested one, if one is requested.
 fn is_of(wanted: Option<Protocol>, protocol: Protocol) -> bool
     ensures { result ≡ requests.holder_is_of wanted protocol }
 {
@@ -152,7 +152,7 @@ fn later(found: Option<Entry>, entry: &Entry) -> Entry
     }
 }
 
-/// Whether the first of two ends is the later one.
+/// Returns whether the first of two ends is the later one.
 fn is_later(one: Option<u128>, other: Option<u128>) -> bool
     ensures { result ≡ requests.is_later one other }
 {
