@@ -2,7 +2,7 @@
 
 ghost use Rattle.std.specs.Prelude.{◌-◌, ◌^◌, ◌<◌};
 
-use crate::flaws::{ConfigAdvice, StepBack};
+use crate::flaws::{CaptureFlaws, StepBack};
 use crate::options::ExplainOptions;
 use crate::refusals;
 use napt_capture::{CaptureFault, RecordReader, Source};
@@ -138,7 +138,7 @@ pub struct CaptureInputs<'r, 'i, 'o, A: Source, B: Source> {
 
 impl<'r, 'i, 'o, A: Source, B: Source> CaptureInputs<'r, 'i, 'o, A, B> {
     /// Returns the packets of captures whose headers have been read, for a run that starts at this time, in ns.
-    pub fn of(
+    pub fn new(
         alloc: Global,
         refusing: RefusedRun<'r>,
         clock: u64,
@@ -157,7 +157,7 @@ impl<'r, 'i, 'o, A: Source, B: Source> CaptureInputs<'r, 'i, 'o, A, B> {
 
     /// Passes the packets to a consumer, one after another, until the end. If a capture is refused, prints why, after
     /// the consumer's output for the packets before.
-    pub fn hand_over<R: Eprint + AllocGlobal, C: Consumer<R>>(
+    pub fn pass_to<R: Eprint + AllocGlobal, C: Consumer<R>>(
         &mut self,
         rt: &R,
         consumer: &mut C,
@@ -183,7 +183,7 @@ impl<'r, 'i, 'o, A: Source, B: Source> CaptureInputs<'r, 'i, 'o, A, B> {
     }
 
     /// Returns all packets. If a capture is refused, prints why.
-    pub fn all<R: Eprint + AllocGlobal>(&mut self, rt: &R) -> Result<Vec<Input>, Exit> {
+    pub fn read_all<R: Eprint + AllocGlobal>(&mut self, rt: &R) -> Result<Vec<Input>, Exit> {
         let mut inputs = Vec::new(rt.alloc());
         for number in 1..u64::MAX {
             match self.packets.next(Vec::new(rt.alloc())) {
@@ -199,11 +199,11 @@ impl<'r, 'i, 'o, A: Source, B: Source> CaptureInputs<'r, 'i, 'o, A, B> {
     }
 
     /// Returns the flaws of the captures, once their ends have been reached.
-    pub fn flaws(&self) -> ConfigAdvice {
-        ConfigAdvice {
+    pub fn flaws(&self) -> CaptureFlaws {
+        CaptureFlaws {
             cuts: self.packets.cuts(),
-            holds: self.refusing.options.outside,
-            back: self.back,
+            outside: self.refusing.options.outside,
+            step_back: self.back,
         }
     }
 

@@ -92,7 +92,7 @@ pub struct CommandTexts {
 
 impl CommandTexts {
     /// Takes the words of a call, and adds `show` if they begin with an option or if there are none.
-    pub fn of(alloc: Global, given: Vec<String>) -> Result<CommandTexts, AllocError> {
+    pub fn from_words(alloc: Global, given: Vec<String>) -> Result<CommandTexts, AllocError> {
         let is_named = given.get(1).is_some_and(|word| is_name(word));
         let mut list = Vec::new(alloc);
         for word in given {
@@ -105,7 +105,7 @@ impl CommandTexts {
     }
 
     /// Returns the command that the words name, if `napt-analysis` has it.
-    pub fn moved(&self) -> Option<&'static str> {
+    pub fn moved_command(&self) -> Option<&'static str> {
         let command = self.list.get(1)?.as_str();
         MOVED.iter().find(|name| **name == command).copied()
     }

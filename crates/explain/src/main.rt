@@ -49,10 +49,10 @@ fn main(rt: HostRuntime) -> ExitCode {
 
 /// Runs the command of the command line, under the program's name in it.
 fn called(rt: &HostRuntime, streams: StandardStreams) -> Result<(), Exit> {
-    let call = ProgramCall::of(rt, streams, OWN.name);
+    let call = ProgramCall::new(rt, streams, OWN.name);
     match call.as_called(rt, INSTALLED.name) {
         Ok(call) => explained(rt, streams, call),
-        Err(stop) => Err(Exit::As(stop)),
+        Err(stop) => Err(Exit::Unprinted(stop)),
     }
 }
 
@@ -63,9 +63,9 @@ fn explained<R: Env + Files + Input + Print + Eprint + AllocGlobal>(
     streams: StandardStreams,
     call: ProgramCall,
 ) -> Result<(), Exit> {
-    let words = CommandTexts::of(rt.alloc(), arguments(rt)?)?;
+    let words = CommandTexts::from_words(rt.alloc(), arguments(rt)?)?;
     let manual = call.manual(OWN, INSTALLED);
-    if let Some(command) = words.moved() {
+    if let Some(command) = words.moved_command() {
         let _ = eprintln!(rt;
             "explain: {command} is a command of napt-analysis: napt-analysis {command} --help"
         );
@@ -81,7 +81,7 @@ fn explained<R: Env + Files + Input + Print + Eprint + AllocGlobal>(
             let options = options_of(rt, call, command, given)?;
             explained_under(rt, streams, &options)
         }
-        None => Err(Exit::As(Stop::Usage)),
+        None => Err(Exit::Unprinted(Stop::Usage)),
     }
 }
 
@@ -95,9 +95,9 @@ fn arguments<R: Env + AllocGlobal>(rt: &R) -> Result<Vec<String>, Exit> {
             Ok(words)
         }
         Err(error) if error.kind() == io::ErrorKind::OutOfMemory => {
-            Err(Exit::As(Stop::LineMemory))
+            Err(Exit::Unprinted(Stop::LineMemory))
         }
-        Err(_) => Err(Exit::As(Stop::Usage)),
+        Err(_) => Err(Exit::Unprinted(Stop::Usage)),
     }
 }
 
@@ -109,7 +109,7 @@ fn print_message<R: Print + Eprint + AllocGlobal>(rt: &R, error: &Error) -> Resu
             rt.print(text)?;
             Ok(())
         }
-        ErrorKind::OutOfMemory => Err(Exit::As(Stop::LineMemory)),
+        ErrorKind::OutOfMemory => Err(Exit::Unprinted(Stop::LineMemory)),
         _ => {
             let _ = rt.eprint(text);
             Err(Exit::Printed(Stop::Usage))

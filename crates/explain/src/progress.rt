@@ -15,7 +15,7 @@ pub struct ExplainProgress {
 impl ExplainProgress {
     /// Reports progress if standard error is a terminal and standard output is not. On a terminal the lines themselves
     /// show the progress.
-    pub fn of<R: Files + AllocGlobal>(rt: &R) -> ExplainProgress {
+    pub fn new<R: Files + AllocGlobal>(rt: &R) -> ExplainProgress {
         ExplainProgress {
             is_printed: is_terminal(rt, "/proc/self/fd/2") && !is_terminal(rt, "/proc/self/fd/1"),
         }

@@ -38,7 +38,7 @@ pub fn serve<R: ProgramHost>(
     let mut call = call.with_misfits(&mut words);
     if take_verbose(&mut words) {
         reason.is_requested = true;
-        call = call.verbose();
+        call = call.with_verbose();
     }
     serve_words(rt, streams, call, words, reason)
 }
@@ -89,7 +89,7 @@ fn run<R: ProgramHost>(
         save,
         ..
     } = open(rt, streams, options, &mut reason.place, call.ends_misfits)?;
-    call.print_ended(rt, ended);
+    call.print_ended_bindings(rt, ended);
     let start = Start {
         config: &config,
         state: &state,

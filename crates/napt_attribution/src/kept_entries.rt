@@ -24,11 +24,11 @@ pub struct KeptEntries {
 
 impl KeptEntries {
     /// Returns the value before the first row.
-    pub fn of(alloc: Global, asked: &[HolderRequest]) -> Result<KeptEntries, AllocError>
+    pub fn new(alloc: Global, asked: &[HolderRequest]) -> Result<KeptEntries, AllocError>
         ensures { IfOk result (λ kept. logs.Keeps asked.now kept []) }
     {
         Ok(KeptEntries {
-            wanted: WantedEndpoints::of(alloc, asked)?,
+            wanted: WantedEndpoints::from_requests(alloc, asked)?,
             unended: BTreeMap::new(alloc),
             ended: BTreeMap::new(alloc),
         })
@@ -66,7 +66,7 @@ impl KeptEntries {
             (map (logs.entry_with_end number (Some end)) entries)) }
     {
         if let Some(mut entry) = self.unended.remove(&number) {
-            if self.wanted.has(entry.binding.external) {
+            if self.wanted.contains(entry.binding.external) {
                 entry.end = Some(end);
                 self.ended.insert(number, entry)?;
             }

@@ -25,7 +25,7 @@ pub struct HolderRequest {
 
 impl HolderRequest {
     /// Returns the request of the command line.
-    pub fn of(request: Request) -> HolderRequest {
+    pub fn from_request(request: Request) -> HolderRequest {
         HolderRequest {
             line: None,
             request,

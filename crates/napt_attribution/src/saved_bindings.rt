@@ -45,7 +45,7 @@ fn print_refused<R: Eprint>(
     if let RowFault::Saved(LogFileFault::Unread(error)) = fault
         && error.kind() == ErrorKind::OutOfMemory
     {
-        return Err(Exit::As(napt_program::MEMORY));
+        return Err(Exit::Unprinted(napt_program::MEMORY));
     }
     let _ = match (fault, previous) {
         (RowFault::Unrepeated(_), Some(previous)) => eprintln!(rt;

@@ -54,7 +54,7 @@ impl SavedRows {
         ensures { IfOk result (λ rows. logs.Tells asked.now rows []) }
     {
         Ok(SavedRows {
-            kept: KeptEntries::of(alloc, asked)?,
+            kept: KeptEntries::new(alloc, asked)?,
             unrepeated: BTreeMap::new(alloc),
             made: 0,
             times: LogTimes::new(),

@@ -50,7 +50,7 @@ pub(crate) fn played<R: Input + Print + AllocGlobal>(rt: &R) -> Result<(), CallF
     };
     for text in reader.lines(alloc) {
         let text = text.map_err(|_| CallFault::File)?;
-        player.play(&mut Line::of(rt, alloc, text.as_str()))?;
+        player.play(&mut Line::new(rt, alloc, text.as_str()))?;
     }
     Ok(())
 }

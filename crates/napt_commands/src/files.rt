@@ -60,7 +60,7 @@ fn print_unread<R: Files + Eprint + AllocGlobal>(
     stop: Stop,
 ) -> Exit {
     if !matches!(stop, Stop::File(_)) {
-        return Exit::As(stop);
+        return Exit::Unprinted(stop);
     }
     match input_reason(rt, rt.alloc(), name, path) {
         Ok(text) => {

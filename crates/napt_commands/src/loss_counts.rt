@@ -45,7 +45,7 @@ impl LossCounts {
     pub fn take(&mut self, config: &Config, input: &Input, outcome: &Outcome) {
         if input.side == Side::Inside {
             self.inside = self.inside.saturating_add(1);
-            if let SourceKind::Inside = SourceKind::of(config, &input.bytes) {
+            if let SourceKind::Inside = SourceKind::from_datagram(config, &input.bytes) {
                 self.from_hosts = self.from_hosts.saturating_add(1);
             }
             if let Outcome::Dropped(Cause::OverQuota | Cause::NoPort) = outcome {
@@ -59,7 +59,10 @@ impl LossCounts {
                 self.no_binding = self.no_binding.saturating_add(1);
             }
             Outcome::Dropped(Cause::NotOurs) => self.not_ours = self.not_ours.saturating_add(1),
-            Outcome::Dropped(Cause::Spoofed) => match SourceKind::of(config, &input.bytes) {
+            Outcome::Dropped(Cause::Spoofed) => match SourceKind::from_datagram(
+                config,
+                &input.bytes,
+            ) {
                 SourceKind::Inside => self.from_inside = self.from_inside.saturating_add(1),
                 SourceKind::Pool(place) => {
                     if let Some(many) = self.from_pool.get_mut(place as usize) {
@@ -120,7 +123,7 @@ pub enum SourceKind {
 
 impl SourceKind {
     /// Returns the origin of the datagram that begins with these bytes.
-    pub fn of(config: &Config, bytes: &[u8]) -> SourceKind {
+    pub fn from_datagram(config: &Config, bytes: &[u8]) -> SourceKind {
         let Some(source) = source_of(bytes) else {
             return SourceKind::Remote;
         };

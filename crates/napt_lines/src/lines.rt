@@ -27,7 +27,7 @@ pub struct PacketLine<'a> {
 
 impl<'a> PacketLine<'a> {
     /// Returns the line of a packet of a run.
-    pub fn of(passing: RunPacket<'a>, replies: Option<Replies<'a>>) -> PacketLine<'a> {
+    pub fn new(passing: RunPacket<'a>, replies: Option<Replies<'a>>) -> PacketLine<'a> {
         let end = replies.and_then(|replies| replies.end_at(passing.number));
         PacketLine {
             passing,
@@ -54,7 +54,7 @@ impl<'a> PacketLine<'a> {
     pub fn is_chosen(self, alloc: Global, choice: PacketSelection) -> Result<bool, AllocError> {
         let is_dropped = matches!(self.outcome(), Outcome::Dropped(_));
         match choice.host {
-            _ if !choice.takes(self.passing.number, is_dropped) => Ok(false),
+            _ if !choice.selects(self.passing.number, is_dropped) => Ok(false),
             None => Ok(true),
             Some(host) => self.has_host(alloc, host),
         }
@@ -119,7 +119,7 @@ impl<'a> PacketLine<'a> {
                 return Ok(());
             }
         }
-        text.push_str(CauseText::of(cause).meaning)
+        text.push_str(CauseText::from_cause(cause).meaning)
     }
 }
 

@@ -83,7 +83,7 @@ impl Remotes {
             "explain: the captured gateway used other numbers: {astray} of {answers} answers from outside, the first of them packet \
 {first}, do not reach the host that asked for them (--as-napt answers from the run of napt)"
         );
-        Exit::Others
+        Exit::OtherNumbers
     }
 
     /// Takes the next packet.

@@ -54,7 +54,7 @@ fn end_of(alloc: Global, input: &mut Input) -> Option<Endpoint> {
 
 impl<'a> Replies<'a> {
     /// Returns the replies of a run under a configuration, with their inside endpoints, if the capture has replies.
-    pub fn of(
+    pub fn new(
         outside: OutsideCapture,
         config: &'a Config,
         ends: &'a [Option<Endpoint>],
@@ -87,7 +87,7 @@ impl<'a> Replies<'a> {
                 text.push_str("it is not to an inside host, but to ")?;
                 add_address(text, end.address)?;
             }
-            Cause::Spoofed => match SourceKind::of(self.config, bytes) {
+            Cause::Spoofed => match SourceKind::from_datagram(self.config, bytes) {
                 SourceKind::Inside => write!(text, "from an inside address: {FROM_INSIDE}")?,
                 SourceKind::Pool(_) => write!(text, "from an address of the pool: {FROM_POOL}")?,
                 SourceKind::Remote => return Ok(false),

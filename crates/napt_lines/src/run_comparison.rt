@@ -102,7 +102,7 @@ impl<'a> RunComparison<'a> {
         print_warning(rt, outside, Some(second), &self.second.losses);
         self.print_counts(rt)?;
         if self.different > 0 {
-            return Err(Exit::Differ);
+            return Err(Exit::Differences);
         }
         Ok(())
     }
@@ -162,7 +162,7 @@ impl<'a> Pair<'a> {
     }
 
     fn is_chosen(self, alloc: Global, choice: PacketSelection) -> Result<bool, AllocError> {
-        if !choice.takes(self.number, self.is_dropped()) {
+        if !choice.selects(self.number, self.is_dropped()) {
             return Ok(false);
         }
         let Some(host) = choice.host else {

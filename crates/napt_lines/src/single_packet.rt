@@ -99,7 +99,7 @@ impl<R: Print + Eprint + AllocGlobal> CommandOutput<R> for SinglePacket<'_> {
             return Ok(());
         }
         self.is_found = true;
-        let line = PacketLine::of(passing, self.replies);
+        let line = PacketLine::new(passing, self.replies);
         self.is_chosen = line.is_chosen(rt.alloc(), self.choice)?;
         if !self.is_chosen {
             return Ok(());

@@ -55,7 +55,7 @@ impl<'a> PacketLines<'a> {
         ending: &EndedRun<'_>,
     ) -> Result<(), Exit> {
         let living = ending.living.iter().map(|listed| listed.entry);
-        let living = SortedEntries::of(living.collect(rt.alloc())?)?;
+        let living = SortedEntries::from_entries(living.collect(rt.alloc())?)?;
         let time = Seconds(ending.last);
         let many = ending.rows.len();
         writeln!(page.text, "live bindings at {time}: {many}")?;
@@ -91,7 +91,7 @@ impl<'a> PacketLines<'a> {
         if many == 0 {
             return Ok(());
         }
-        let (name, meaning) = (cause_name(cause), CauseText::of(cause).meaning);
+        let (name, meaning) = (cause_name(cause), CauseText::from_cause(cause).meaning);
         writeln!(text, "  {many} dropped, {name}: {meaning}")?;
         if let Some(replies) = self.replies {
             replies.add_losses(text, cause, &ending.losses)?;
@@ -116,7 +116,7 @@ impl<'a> PacketLines<'a> {
         if is_answered {
             writeln!(text, "    many packets have this cause: {OTHER_NUMBERS}")?;
         }
-        let told = CauseText::of(cause);
+        let told = CauseText::from_cause(cause);
         let told = match self.replies {
             Some(_) => told.advice_of_replies.or(told.advice),
             None => told.advice,
@@ -151,7 +151,7 @@ impl<R: Print + AllocGlobal> CommandOutput<R> for PacketLines<'_> {
                 add_end(text, self.widths, &listed.entry)?;
             }
         }
-        let line = PacketLine::of(passing, self.replies);
+        let line = PacketLine::new(passing, self.replies);
         if line.is_chosen(rt.alloc(), self.choice)? {
             line.add(rt.alloc(), text, self.widths)?;
         }

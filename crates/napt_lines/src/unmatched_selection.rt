@@ -14,7 +14,7 @@ pub struct UnmatchedSelection {
 
 impl UnmatchedSelection {
     /// Returns the value before the first packet, with the bindings of redirects.
-    pub fn of(choice: PacketSelection, opening: &[LogEntry]) -> UnmatchedSelection {
+    pub fn new(choice: PacketSelection, opening: &[LogEntry]) -> UnmatchedSelection {
         let mut unmatched = UnmatchedSelection { host: choice.host };
         unmatched.take_bindings(opening);
         unmatched

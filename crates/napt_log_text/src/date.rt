@@ -86,12 +86,12 @@ fn days_before(year: u32) -> u32
     requires { (1970 ≤ year) × (year < 10000) }
     ensures { result ≡ calendar.days_before year }
 {
-    365 * (year - 1970) + leaps(year - 1) - leaps(1969)
+    365 * (year - 1970) + leap_days_through(year - 1) - leap_days_through(1969)
 }
 
 /// Returns the number of leap days in the years from 1 to a year.
-fn leaps(year: u32) -> u32
-    ensures { result ≡ calendar.leaps year }
+fn leap_days_through(year: u32) -> u32
+    ensures { result ≡ calendar.leap_days_through year }
 {
     year / 4 - year / 100 + year / 400
 }

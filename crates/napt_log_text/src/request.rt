@@ -51,7 +51,7 @@ impl Request {
     {
         NearestEntries {
             before: self.last_before(entries),
-            after: entries.iter().copied().find(|entry| self.is_before(entry)),
+            after: entries.iter().copied().find(|entry| self.is_next(entry)),
         }
     }
 
@@ -68,13 +68,13 @@ impl Request {
     {
         self.is_for(entry)
             && match self.at {
-                Some(span) => span.meets(entry),
+                Some(span) => span.overlaps(entry),
                 None => true,
             }
     }
 
     /// Returns whether the binding had the endpoint and was made after the span.
-    fn is_before(&self, entry: &Entry) -> bool
+    fn is_next(&self, entry: &Entry) -> bool
         ensures { result ≡ requests.is_next self.now entry.now }
     {
         self.is_for(entry)
@@ -85,7 +85,7 @@ impl Request {
     }
 
     /// Returns whether the binding had the endpoint and had ended before the span.
-    fn is_behind(&self, entry: &Entry) -> bool
+    fn is_past(&self, entry: &Entry) -> bool
         ensures { result ≡ requests.is_past self.now entry.now }
     {
         self.is_for(entry)
@@ -108,7 +108,7 @@ impl Request {
     fn last_so_far(&self, last: Option<Entry>, entry: &Entry) -> Option<Entry>
         ensures { result ≡ requests.last_so_far self.now last entry.now }
     {
-        if self.is_behind(entry) {
+        if self.is_past(entry) {
             Some(later(last, entry))
         } else {
             last
@@ -118,7 +118,7 @@ impl Request {
 
 impl TimeSpan {
     /// Returns whether the binding of an entry has a moment in common with the span.
-    fn meets(self, entry: &Entry) -> bool
+    fn overlaps(self, entry: &Entry) -> bool
         ensures { result ≡ requests.has_moment_of self entry.now }
     {
         u128::from(entry.made) < self.until

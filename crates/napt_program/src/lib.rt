@@ -24,7 +24,7 @@ mod stop;
 mod stop_reason;
 mod streams;
 
-pub use crate::call::{ProgramCall, answer_line, print_ended, print_new_entries};
+pub use crate::call::{ProgramCall, answer_line, print_ended_bindings, print_new_entries};
 pub use crate::command::{RunResources, open, stop_of_run, words};
 pub use crate::config_file::{
     MOST_BYTES, config_from, config_text, configuration, open_config, unread_config,

@@ -31,7 +31,7 @@ pub struct NamedFiles<'a> {
 
 /// A file and what names it: an option, or a standard stream in place of an absent option.
 #[derive(Clone, Copy)]
-struct Named<'a> {
+struct NamedFile<'a> {
     name: &'static str,
     path: Option<&'a str>,
 }
@@ -164,32 +164,32 @@ impl<'a> NamedFiles<'a> {
 
     /// Returns the files of the options in their order, except for that of a state that is saved,
     /// and the standard streams that are in use because an option is absent.
-    fn all(self) -> [Named<'a>; 9] {
+    fn all(self) -> [NamedFile<'a>; 9] {
         let files = self.files;
         [
-            Named::of("--config", files.config.as_ref(), INPUT),
-            Named::of("--resume", files.resume.as_ref(), INPUT),
-            Named::of("--inside", files.inside.as_ref(), INPUT),
-            Named {
+            NamedFile::new("--config", files.config.as_ref(), INPUT),
+            NamedFile::new("--resume", files.resume.as_ref(), INPUT),
+            NamedFile::new("--inside", files.inside.as_ref(), INPUT),
+            NamedFile {
                 name: "standard input",
                 path: files.inside.is_none().then_some(INPUT),
             },
-            Named::of(self.outside, files.outside.as_ref(), INPUT),
-            Named {
+            NamedFile::new(self.outside, files.outside.as_ref(), INPUT),
+            NamedFile {
                 name: "standard output",
                 path: files.to_outside.is_none().then_some(OUTPUT),
             },
-            Named::of("--to-outside", files.to_outside.as_ref(), OUTPUT),
-            Named::of("--to-inside", files.to_inside.as_ref(), OUTPUT),
-            Named::of("--report", files.report.as_ref(), OUTPUT),
+            NamedFile::new("--to-outside", files.to_outside.as_ref(), OUTPUT),
+            NamedFile::new("--to-inside", files.to_inside.as_ref(), OUTPUT),
+            NamedFile::new("--report", files.report.as_ref(), OUTPUT),
         ]
     }
 }
 
-impl<'a> Named<'a> {
+impl<'a> NamedFile<'a> {
     /// Returns what names the file of an option; `-` is the standard stream that it stands for.
-    fn of(name: &'static str, path: Option<&'a String>, stream: &'a str) -> Named<'a> {
-        Named {
+    fn new(name: &'static str, path: Option<&'a String>, stream: &'a str) -> NamedFile<'a> {
+        NamedFile {
             name,
             path: path.map(|path| standing(path, stream)),
         }

@@ -21,7 +21,7 @@ impl<'p, S, R> CountedDevice<'p, S, R> {
         ensures { result.device.device ≡ device }
     {
         CountedDevice {
-            device: CountedSource::over(device, progress.is_heard()),
+            device: CountedSource::over(device, progress.has_stderr()),
             progress,
             has_begun: false,
         }

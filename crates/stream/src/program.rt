@@ -82,14 +82,14 @@ fn run<R: ProgramHost + Clock>(
         log,
         save,
     } = open(rt, streams, options, &mut reason.place, call.ends_misfits)?;
-    call.print_ended(rt, ended);
+    call.print_ended_bindings(rt, ended);
     let RunDevices {
         inside,
         outside,
         outputs,
     } = devices;
     let gate = gate(rt.alloc(), config.pool().len())?;
-    let progress = ProgressReport::of(rt, share_gate(&gate)?, call, state.clock);
+    let progress = ProgressReport::new(rt, share_gate(&gate)?, call, state.clock);
     let captures = CaptureDevices {
         inside: CountedDevice::over(inside, &progress),
         outside: CountedDevice::over(outside, &progress),

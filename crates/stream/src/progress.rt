@@ -51,15 +51,15 @@ pub struct ProgressReport<'r, R> {
 
 impl<'r, R> ProgressReport<'r, R> {
     /// Returns whether standard error is open.
-    pub fn is_heard(&self) -> bool {
-        self.call.is_heard
+    pub fn has_stderr(&self) -> bool {
+        self.call.has_stderr
     }
 }
 
 impl<'r, R: Eprint + Clock + AllocGlobal> ProgressReport<'r, R> {
     /// Returns the progress of a run that starts now, with a state of this clock, in ns. Without a
     /// terminal, no progress is printed.
-    pub fn of(
+    pub fn new(
         rt: &'r R,
         gate: Arc<CountingGate>,
         call: ProgramCall,
