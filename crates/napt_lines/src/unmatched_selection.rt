@@ -52,9 +52,10 @@ impl UnmatchedSelection {
         };
         let address = Address(host.address);
         let _ = match host.number {
-            Some(number) => eprint!(rt; "explain: --host {address}:{number}: "),
-            None => eprint!(rt; "explain: --host {address}: "),
+            Some(number) => eprintln!(rt;
+                "explain: --host {address}:{number}: no packet or binding has this endpoint"
+            ),
+            None => eprintln!(rt; "explain: --host {address}: no packet or binding has this address"),
         };
-        let _ = eprintln!(rt; "no packet and no binding has it");
     }
 }

@@ -53,7 +53,7 @@ pub fn print_new_entries(
 pub fn print_ended_bindings(rt: &impl Eprint, name: &str, ended: u64) {
     if ended > 0 {
         let _ = eprintln!(rt;
-            "{name}: bindings of the state that the configuration cannot keep, and that end here: {ended}"
+            "{name}: bindings of the state that end at the start, since the configuration cannot keep them: {ended}"
         );
     }
 }
