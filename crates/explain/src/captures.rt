@@ -6,7 +6,7 @@ use crate::flaws::{CaptureFlaws, StepBack};
 use crate::options::ExplainOptions;
 use crate::refusals;
 use napt_capture::{CaptureFault, RecordReader, Source};
-use napt_commands::{Consumer, Exit};
+use napt_commands::{Exit, PacketConsumer};
 use napt_config::Config;
 use napt_display::reasons::SplitAdvice;
 use napt_program::Stop;
@@ -157,7 +157,7 @@ impl<'r, 'i, 'o, A: Source, B: Source> CaptureInputs<'r, 'i, 'o, A, B> {
 
     /// Passes the packets to a consumer, one after another, until the end. If a capture is refused, prints why, after
     /// the consumer's output for the packets before.
-    pub fn pass_to<R: Eprint + AllocGlobal, C: Consumer<R>>(
+    pub fn pass_to<R: Eprint + AllocGlobal, C: PacketConsumer<R>>(
         &mut self,
         rt: &R,
         consumer: &mut C,

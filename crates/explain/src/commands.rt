@@ -150,7 +150,7 @@ fn is_name(word: &str) -> bool {
 }
 
 fn show<'a>(alloc: Global, is_named: bool) -> Result<Command<'a>, AllocError> {
-    let show = chosen(alloc, configured(alloc, "show", SHOW)?)?.arg(flag(
+    let show = with_selection(alloc, configured(alloc, "show", SHOW)?)?.arg(flag(
         alloc,
         "json",
         "Prints only a JSON object for each packet, on a line of its own (docs/FORMATS.md)",
@@ -167,7 +167,7 @@ fn show<'a>(alloc: Global, is_named: bool) -> Result<Command<'a>, AllocError> {
 }
 
 fn who<'a>(alloc: Global) -> Result<Command<'a>, AllocError> {
-    let endpoint = word(
+    let endpoint = argument(
         alloc,
         "endpoint",
         "ADDRESS[:PORT]",
@@ -209,7 +209,7 @@ fn log<'a>(alloc: Global) -> Result<Command<'a>, AllocError> {
 }
 
 fn compare<'a>(alloc: Global) -> Result<Command<'a>, AllocError> {
-    chosen(alloc, configured(alloc, "compare", COMPARE)?)?.arg(word(
+    with_selection(alloc, configured(alloc, "compare", COMPARE)?)?.arg(argument(
         alloc,
         "other",
         "FILE",
@@ -224,18 +224,18 @@ fn follow<'a>(alloc: Global) -> Result<Command<'a>, AllocError> {
         .arg(resume(alloc).hide(true))?
         .arg(inside(alloc))?
         .arg(value(alloc, "replies", "FILE", REPLIES).required(true))?
-        .arg(word(alloc, "file", "FILE", WRITTEN))
+        .arg(argument(alloc, "file", "FILE", WRITTEN))
 }
 
 /// A command over captures under a configuration.
 fn configured<'a>(alloc: Global, name: &'a str, about: &'a str) -> Result<Command<'a>, AllocError> {
     let command = Command::new(alloc, name).about(about).arg(config(alloc))?;
     let command = command.arg(resume(alloc))?;
-    captured(alloc, command.arg(flag(alloc, "end-misfits", ENDED))?)
+    with_captures(alloc, command.arg(flag(alloc, "end-misfits", ENDED))?)
 }
 
 /// Adds the options that name captures.
-fn captured<'a>(alloc: Global, command: Command<'a>) -> Result<Command<'a>, AllocError> {
+fn with_captures<'a>(alloc: Global, command: Command<'a>) -> Result<Command<'a>, AllocError> {
     command
         .arg(inside(alloc))?
         .arg(value(
@@ -248,7 +248,7 @@ fn captured<'a>(alloc: Global, command: Command<'a>) -> Result<Command<'a>, Allo
 }
 
 /// Adds the options that select packets.
-fn chosen<'a>(alloc: Global, command: Command<'a>) -> Result<Command<'a>, AllocError> {
+fn with_selection<'a>(alloc: Global, command: Command<'a>) -> Result<Command<'a>, AllocError> {
     command
         .arg(flag(alloc, "dropped", "Prints only dropped packets"))?
         .arg(value(
@@ -288,11 +288,13 @@ fn flag<'a>(alloc: Global, name: &'a str, meaning: &'a str) -> Arg<'a> {
 
 /// An option with a value.
 fn value<'a>(alloc: Global, name: &'a str, value: &'a str, meaning: &'a str) -> Arg<'a> {
-    word(alloc, name, value, meaning).long(name).required(false)
+    argument(alloc, name, value, meaning)
+        .long(name)
+        .required(false)
 }
 
 /// A required word without an option.
-fn word<'a>(alloc: Global, name: &'a str, value: &'a str, meaning: &'a str) -> Arg<'a> {
+fn argument<'a>(alloc: Global, name: &'a str, value: &'a str, meaning: &'a str) -> Arg<'a> {
     Arg::new(alloc, name)
         .action(ArgAction::Set)
         .value_name(value)

@@ -6,7 +6,8 @@ use crate::progress::ExplainProgress;
 use napt_account::{LogEntry, LoggedRun, OpenLog, RunFromState};
 use napt_attribution::LogOpening;
 use napt_commands::{
-    CommandOutput, Consumer, EndedRun, Exit, LossCounts, Page, RunPacket, RunStart, print_warning,
+    CommandOutput, EndedRun, Exit, LossCounts, PacketConsumer, Page, RunPacket, RunStart,
+    print_warning,
 };
 use napt_lines::{PacketLine, Remotes, Replies, UnmatchedSelection};
 use napt_sequential::Input;
@@ -148,7 +149,7 @@ impl<'a, 'b, O: Drop> Explanation<'a, 'b, O> {
     }
 }
 
-impl<R: Print + Eprint + AllocGlobal, O: CommandOutput<R> + Drop> Consumer<R>
+impl<R: Print + Eprint + AllocGlobal, O: CommandOutput<R> + Drop> PacketConsumer<R>
     for Explanation<'_, '_, O> {
     fn take(&mut self, rt: &R, number: u64, input: &Input) -> Result<(), Exit> {
         let alloc = rt.alloc();

@@ -93,7 +93,7 @@ impl StepBack {
             return;
         }
         self.print_step(rt);
-        if form.asks_times() {
+        if form.is_about_times() {
             let _ = eprintln!(rt;
                 "  each answer covers this much more time than was asked about, and names everybody who had the endpoint then"
             );

@@ -38,7 +38,7 @@ use std::{env, io};
 
 fn main(rt: HostRuntime) -> ExitCode {
     let streams = StandardStreams::open_now(&rt);
-    match called(&rt, streams) {
+    match run_as_called(&rt, streams) {
         Ok(()) => ExitCode::SUCCESS,
         Err(stop) => {
             stop.print(&rt);
@@ -48,17 +48,17 @@ fn main(rt: HostRuntime) -> ExitCode {
 }
 
 /// Runs the command of the command line, under the program's name in it.
-fn called(rt: &HostRuntime, streams: StandardStreams) -> Result<(), Exit> {
+fn run_as_called(rt: &HostRuntime, streams: StandardStreams) -> Result<(), Exit> {
     let call = ProgramCall::new(rt, streams, OWN.name);
     match call.as_called(rt, INSTALLED.name) {
-        Ok(call) => explained(rt, streams, call),
+        Ok(call) => run_command(rt, streams, call),
         Err(stop) => Err(Exit::Unprinted(stop)),
     }
 }
 
 /// Runs the command of the command line. Help and the version are printed at once; a usage error is printed and
 /// returned as an error.
-fn explained<R: Env + Files + Input + Print + Eprint + AllocGlobal>(
+fn run_command<R: Env + Files + Input + Print + Eprint + AllocGlobal>(
     rt: &R,
     streams: StandardStreams,
     call: ProgramCall,
@@ -79,7 +79,7 @@ fn explained<R: Env + Files + Input + Print + Eprint + AllocGlobal>(
     match matches.subcommand() {
         Some((command, given)) => {
             let options = options_of(rt, call, command, given)?;
-            explained_under(rt, streams, &options)
+            run_with_options(rt, streams, &options)
         }
         None => Err(Exit::Unprinted(Stop::Usage)),
     }
@@ -118,7 +118,7 @@ fn print_message<R: Print + Eprint + AllocGlobal>(rt: &R, error: &Error) -> Resu
 }
 
 /// Runs a command with its options.
-fn explained_under<R: Files + Input + Print + Eprint + AllocGlobal>(
+fn run_with_options<R: Files + Input + Print + Eprint + AllocGlobal>(
     rt: &R,
     streams: StandardStreams,
     options: &ExplainOptions<'_>,
@@ -135,7 +135,7 @@ fn explained_under<R: Files + Input + Print + Eprint + AllocGlobal>(
         _ if options.is_of_gateway() && !options.shows_outside() => {
             print_without_outside(rt, streams, options)
         }
-        _ => explained_run(rt, streams, options, None),
+        _ => run_on_captures(rt, streams, options, None),
     }
 }
 
@@ -160,11 +160,11 @@ whether the gateway used the same numbers, or give --as-napt"
         let asked = requests_of(rt, options.form)?;
         return answer_by_blocks(rt, streams, &asked, &config);
     }
-    explained_run(rt, streams, options, Some(config))
+    run_on_captures(rt, streams, options, Some(config))
 }
 
 /// Reads the captures, and the configuration unless it has been read, and runs the command over them.
-fn explained_run<R: Files + Input + Print + Eprint + AllocGlobal>(
+fn run_on_captures<R: Files + Input + Print + Eprint + AllocGlobal>(
     rt: &R,
     streams: StandardStreams,
     options: &ExplainOptions<'_>,

@@ -39,7 +39,7 @@ pub struct ExplainOptions<'m> {
 
 impl<'m> ExplainOptions<'m> {
     /// Returns the files of `napt`, with the name that the option of the outside capture has here.
-    pub fn named(&self) -> NamedFiles<'_> {
+    pub fn named_files(&self) -> NamedFiles<'_> {
         NamedFiles {
             files: &self.files,
             outside: self.outside.option(),
@@ -167,7 +167,7 @@ impl<'m> OutputForm<'m> {
     }
 
     /// Returns whether the output is about times that were asked for.
-    pub fn asks_times(self) -> bool {
+    pub fn is_about_times(self) -> bool {
         match self {
             OutputForm::Holders(request) => request.at.is_some(),
             OutputForm::Requests(_) => true,
@@ -228,10 +228,10 @@ fn refuse_states<R: Eprint>(
     options: &ExplainOptions<'_>,
 ) -> Result<(), Exit> {
     if let (Some(path), Some(why)) = (matches.get_str("resume"), options.why_anew()) {
-        return Err(wrong(rt, "--resume ", path, why));
+        return Err(print_wrong_argument(rt, "--resume ", path, why));
     }
     if options.files.is_stream(FileRole::Save) {
-        return Err(wrong(rt, "--save ", "-", NO_FILE));
+        return Err(print_wrong_argument(rt, "--save ", "-", NO_FILE));
     }
     Ok(())
 }
@@ -246,7 +246,7 @@ fn refuse_pieces<R: Eprint>(
         return Ok(());
     };
     if options.log.is_none() || options.is_log_stream() {
-        return Err(wrong(
+        return Err(print_wrong_argument(
             rt,
             "--log-each ",
             each,
@@ -255,7 +255,7 @@ fn refuse_pieces<R: Eprint>(
     }
     match each.parse::<NonZeroU32>() {
         Ok(_) => Ok(()),
-        Err(_) => Err(wrong(
+        Err(_) => Err(print_wrong_argument(
             rt,
             "--log-each ",
             each,
@@ -344,7 +344,7 @@ fn file_of(
 }
 
 /// Prints what is wrong with an argument, after its name, and returns how the program stops.
-fn wrong<R: Eprint>(rt: &R, name: &str, text: &str, why: &str) -> Exit {
+fn print_wrong_argument<R: Eprint>(rt: &R, name: &str, text: &str, why: &str) -> Exit {
     let _ = eprintln!(rt; "explain: {name}{text}: {why}");
     Exit::Printed(Stop::Usage)
 }
@@ -359,7 +359,7 @@ fn parsed<R: Eprint, T: Drop>(
 ) -> Result<Option<T>, Exit> {
     match value {
         Some(Ok(value)) => Ok(Some(value)),
-        Some(Err(why)) => Err(wrong(rt, name, given.unwrap_or(""), why)),
+        Some(Err(why)) => Err(print_wrong_argument(rt, name, given.unwrap_or(""), why)),
         None => Ok(None),
     }
 }
@@ -378,7 +378,7 @@ fn host_of(text: &str) -> Result<Party, &'static str> {
 }
 
 fn moment_of(text: &str) -> Result<TimeSpan, &'static str> {
-    span_of(text).map_err(|no_time| no_time.words(
+    span_of(text).map_err(|no_time| no_time.message(
         "expected seconds since 1970, as 90 or 1.5, or a date, as 2026-11-26T10:02:07Z",
     ))
 }

@@ -3,7 +3,9 @@
 
 use crate::options::ExplainOptions;
 use napt_commands::{Exit, unwritten};
-use napt_program::{FileRole, Stop, closed_text, is_same, place_of, same_file_text, shared_text};
+use napt_program::{
+    FileRole, Stop, closed_text, is_same, location_of, same_file_text, shared_text,
+};
 use std::alloc::AllocError;
 use std::fs;
 use std::rt::Files;
@@ -14,7 +16,7 @@ pub fn print_file<R: Files + Eprint + AllocGlobal>(
     options: &ExplainOptions<'_>,
     role: FileRole,
 ) -> Exit {
-    match print_if(rt, options.named().reason(rt, rt.alloc(), role)) {
+    match print_if(rt, options.named_files().reason(rt, rt.alloc(), role)) {
         Ok(_) => Exit::Printed(Stop::File(role)),
         Err(refused) => Exit::from(refused),
     }
@@ -81,7 +83,7 @@ pub fn refuse_written<R: Files + Eprint + AllocGlobal>(
     }
     match written {
         [(first, Some(one)), (second, Some(other))]
-            if is_same(place_of(rt, one), place_of(rt, other)) => {
+            if is_same(location_of(rt, one), location_of(rt, other)) => {
             print_again(rt, second, other, first)?;
             Err(unwritten())
         }
@@ -101,7 +103,9 @@ fn print_unwritable<R: Files + Eprint + AllocGlobal>(
     }
     if print_if(
         rt,
-        options.named().output_reason(rt, rt.alloc(), name, path),
+        options
+            .named_files()
+            .output_reason(rt, rt.alloc(), name, path),
     )? {
         return Ok(true);
     }
@@ -124,7 +128,7 @@ pub fn refuse_log<R: Files + Eprint + AllocGlobal>(
     let Some(path) = options.log else {
         return Ok(());
     };
-    match print_if(rt, options.named().log_reason(rt, rt.alloc(), path))? {
+    match print_if(rt, options.named_files().log_reason(rt, rt.alloc(), path))? {
         true => Err(Exit::Printed(Stop::File(FileRole::Log))),
         false => Ok(()),
     }

@@ -71,7 +71,7 @@ impl GivenLog {
         let saved = saved_at(rt, options)?;
         let other = match &self.other {
             Some(config) => {
-                let saved = copied(rt.alloc(), &saved)?;
+                let saved = copy_without_accounts(rt.alloc(), &saved)?;
                 Some(start_under(rt, options, config, saved)?)
             }
             None => None,
@@ -155,7 +155,10 @@ fn start_under<'a, R: Eprint + AllocGlobal>(
 }
 
 /// Returns a copy of the contents without accounts.
-fn copied(alloc: Global, saved: &StateFileContents) -> Result<StateFileContents, AllocError> {
+fn copy_without_accounts(
+    alloc: Global,
+    saved: &StateFileContents,
+) -> Result<StateFileContents, AllocError> {
     let mut copy = StateFileContents::new(alloc, saved.clock);
     for binding in &saved.bindings {
         copy.bindings.push(match binding {
@@ -176,7 +179,7 @@ fn refuse_shared<R: Eprint + AllocGlobal>(
     options: &ExplainOptions<'_>,
 ) -> Result<(), Exit> {
     if let Some(role) = options.repeated_stream() {
-        return Err(print_shared(rt, options.named().option_of(role), role));
+        return Err(print_shared(rt, options.named_files().option_of(role), role));
     }
     refuse_more_input(
         rt,

@@ -7,8 +7,10 @@ use crate::options::{ExplainOptions, OutputForm};
 use crate::reading::{GivenLog, RunStarts};
 use napt_attribution::{Holders, begin_run_log};
 use napt_capture::{EmptySource, Source, Watched};
-use napt_commands::{CommandOutput, Exit, RunStart, take_all};
-use napt_lines::{PacketLines, PacketObjects, Replies, RunComparison, SinglePacket, ends_of};
+use napt_commands::{CommandOutput, Exit, RunStart, pass_all};
+use napt_lines::{
+    PacketLines, PacketObjects, Replies, RunComparison, SinglePacket, inside_endpoints_of,
+};
 use napt_program::{InputFiles, StandardStreams, print_new_entries};
 use napt_sequential::Input;
 use napt_wire::Side;
@@ -137,7 +139,7 @@ impl<'a> RunSetting<'a> {
             return self.explain_packets(rt, captures, None, None);
         }
         let mut inputs = captures.read_all(rt)?;
-        let ends = ends_of(rt.alloc(), &mut inputs)?;
+        let ends = inside_endpoints_of(rt.alloc(), &mut inputs)?;
         let inputs = options.outside.inputs_under(rt.alloc(), config, inputs)?;
         let replies = Replies::new(options.outside, config, &ends);
         self.explain_packets(rt, captures, Some(inputs.as_slice()), replies)
@@ -224,7 +226,7 @@ impl<'a, 'i, 'k> RunPackets<'a, 'i, 'k> {
         let mut explanation = Explanation::begin(rt, self.options, begun, self.replies, output)?;
         match self.kept {
             None => captures.pass_to(rt, &mut explanation)?,
-            Some(inputs) => take_all(rt, inputs, &mut explanation)?,
+            Some(inputs) => pass_all(rt, inputs, &mut explanation)?,
         }
         explanation.end(rt, captures.flaws())
     }

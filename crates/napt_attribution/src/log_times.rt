@@ -57,7 +57,7 @@ impl LogTimes {
     }
 
     /// Returns the time of an event other than the making of a binding.
-    pub fn other(&mut self, time: LogField) -> Result<u64, RowFault>
+    pub fn time_of_other(&mut self, time: LogField) -> Result<u64, RowFault>
         ensures { IfOk result (λ at. time ≡ LogField.Number at) }
     {
         let at = self.next(time)?;

@@ -42,19 +42,19 @@ fn print_refused<R: Eprint>(
     refused: &SavedLogRefusal,
 ) -> Result<(), Exit> {
     let SavedLogRefusal { row, fault } = refused;
-    if let RowFault::Saved(LogFileFault::Unread(error)) = fault
+    if let RowFault::File(LogFileFault::Unread(error)) = fault
         && error.kind() == ErrorKind::OutOfMemory
     {
         return Err(Exit::Unprinted(napt_program::MEMORY));
     }
     let _ = match (fault, previous) {
-        (RowFault::Unrepeated(_), Some(previous)) => eprintln!(rt;
+        (RowFault::NotRepeated(_), Some(previous)) => eprintln!(rt;
             "explain: --from-log {path}: it does not continue {previous}: {fault}"
         ),
         _ => eprintln!(rt; "explain: --from-log {path}: row {row}: {fault}"),
     };
     match fault {
-        RowFault::Saved(LogFileFault::Torn) => Ok(()),
+        RowFault::File(LogFileFault::Torn) => Ok(()),
         _ => Err(Exit::Log),
     }
 }

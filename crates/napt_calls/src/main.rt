@@ -48,7 +48,7 @@ fn main(rt: HostRuntime) -> ExitCode {
     };
     let done = match words.get(1).map(String::as_str) {
         Some("refused") => return refused::print_call(&rt, words.get(2)),
-        Some("play") => play::played(&rt),
+        Some("play") => play::play_calls(&rt),
         _ => runs::measured(&rt, &words),
     };
     match done {

@@ -38,7 +38,7 @@ struct Player {
 }
 
 /// Makes the calls, up to the end or to a line without a valid call.
-pub(crate) fn played<R: Input + Print + AllocGlobal>(rt: &R) -> Result<(), CallFault> {
+pub(crate) fn play_calls<R: Input + Print + AllocGlobal>(rt: &R) -> Result<(), CallFault> {
     let alloc = rt.alloc();
     let reader = BufReader::new(alloc, rt.reader()).map_err(|_| CallFault::Call)?;
     let mut player = Player {

@@ -25,7 +25,7 @@ pub use crate::files::{opened, print_failed, print_unwritten, text_at, unexplain
 pub use crate::loss_counts::{LossCounts, SourceKind, destination_of, source_of};
 pub use crate::outside_capture::{OutsideCapture, copied};
 pub use crate::page::Page;
-pub use crate::run_packet::{Consumer, EndedRun, RunPacket, take_all};
+pub use crate::run_packet::{EndedRun, PacketConsumer, RunPacket, pass_all};
 pub use crate::seconds::Seconds;
 pub use crate::sorted_entries::SortedEntries;
 pub use crate::start::RunStart;

@@ -28,7 +28,7 @@ pub struct PacketLine<'a> {
 impl<'a> PacketLine<'a> {
     /// Returns the line of a packet of a run.
     pub fn new(passing: RunPacket<'a>, replies: Option<Replies<'a>>) -> PacketLine<'a> {
-        let end = replies.and_then(|replies| replies.end_at(passing.number));
+        let end = replies.and_then(|replies| replies.inside_endpoint_at(passing.number));
         PacketLine {
             passing,
             replies,
@@ -100,7 +100,7 @@ impl<'a> PacketLine<'a> {
             Outcome::ToOutside(packet) => (packet, false),
         };
         let begin = text.len();
-        text.push_str(used(packet, step.part.used.note))?;
+        text.push_str(binding_effect(packet, step.part.used.note))?;
         end_column(text, begin, HAPPENED)?;
         if is_hairpin {
             text.push_str("hairpin: ")?;
@@ -145,7 +145,7 @@ pub fn has_party(row: &Row, host: Option<Party>) -> bool {
 }
 
 /// Returns what a forwarded packet did to a binding.
-fn used(packet: &Packet, note: LogNote) -> &'static str {
+fn binding_effect(packet: &Packet, note: LogNote) -> &'static str {
     match (packet.kind(), note) {
         (Kind::ErrorOf(_), _) => "error about a binding",
         (_, LogNote::Made) => "made a binding",

@@ -104,7 +104,7 @@ fn add_unread(text: &mut String, bytes: &[u8]) -> Result<(), AllocError> {
         text.push_str("arp, ")?;
     } else {
         match (
-            version(bytes),
+            ip_version(bytes),
             source_of(bytes),
             destination_of(bytes),
             bytes.get(9),
@@ -130,7 +130,7 @@ fn is_arp(bytes: &[u8]) -> bool {
 }
 
 /// Returns the version in an IP header, or 0 if there are no bytes.
-fn version(bytes: &[u8]) -> u8 {
+fn ip_version(bytes: &[u8]) -> u8 {
     bytes.first().map_or(0, |byte| *byte >> 4)
 }
 

@@ -26,15 +26,18 @@ pub struct Replies<'a> {
 
 /// Returns the inside endpoint to which each input is sent, if it comes from outside and is a valid packet. Bytes after
 /// the packet's end are cut off, as they are when it follows the run.
-pub fn ends_of(alloc: Global, inputs: &mut [Input]) -> Result<Vec<Option<Endpoint>>, AllocError> {
+pub fn inside_endpoints_of(
+    alloc: Global,
+    inputs: &mut [Input],
+) -> Result<Vec<Option<Endpoint>>, AllocError> {
     let mut ends = Vec::new(alloc);
     for input in inputs.iter_mut() {
-        ends.push(end_of(alloc, input))?;
+        ends.push(inside_endpoint_of(alloc, input))?;
     }
     Ok(ends)
 }
 
-fn end_of(alloc: Global, input: &mut Input) -> Option<Endpoint> {
+fn inside_endpoint_of(alloc: Global, input: &mut Input) -> Option<Endpoint> {
     if input.side == Side::Inside {
         return None;
     }
@@ -63,7 +66,7 @@ impl<'a> Replies<'a> {
     }
 
     /// Returns the inside endpoint to which the packet with this number, from 1, was sent, if it is a valid reply.
-    pub fn end_at(self, number: u64) -> Option<Endpoint> {
+    pub fn inside_endpoint_at(self, number: u64) -> Option<Endpoint> {
         let at = usize::try_from(number.checked_sub(1)?).ok()?;
         *self.ends.get(at)?
     }

@@ -4,7 +4,7 @@ use crate::lines::{leaves_with, side_column};
 use crate::packet_fields::{add_arrival, add_packet, is_end_of_arrival};
 use crate::packet_selection::PacketSelection;
 use napt_commands::{
-    Consumer, CountedRun, Exit, OutsideCapture, RunStart, Seconds, copied, print_warning,
+    CountedRun, Exit, OutsideCapture, PacketConsumer, RunStart, Seconds, copied, print_warning,
 };
 use napt_records::{OutcomeCounts, cause_name};
 use napt_sequential::{Input, Outcome};
@@ -23,7 +23,7 @@ pub struct RunComparison<'a> {
 
 /// A packet, numbered from 1, and its outcomes under both configurations.
 #[derive(Clone, Copy)]
-struct Pair<'a> {
+struct OutcomePair<'a> {
     number: u64,
     input: &'a Input,
     first: &'a Outcome,
@@ -76,7 +76,7 @@ impl<'a> RunComparison<'a> {
         let [first, second] = inputs;
         let first = self.first.step(rt.alloc(), first)?;
         let second = self.second.step(rt.alloc(), second)?;
-        let pair = Pair {
+        let pair = OutcomePair {
             number,
             input,
             first: &first,
@@ -120,7 +120,7 @@ impl<'a> RunComparison<'a> {
     }
 }
 
-impl<R: Print + AllocGlobal> Consumer<R> for RunComparison<'_> {
+impl<R: Print + AllocGlobal> PacketConsumer<R> for RunComparison<'_> {
     fn take(&mut self, rt: &R, number: u64, input: &Input) -> Result<(), Exit> {
         self.take_both(rt, number, input, [input, input])
     }
@@ -141,7 +141,7 @@ fn print_drops<R: Print>(
     Ok(())
 }
 
-impl<'a> Pair<'a> {
+impl<'a> OutcomePair<'a> {
     /// Returns whether both outcomes are the same, byte for byte.
     fn ends_alike(self) -> bool {
         match (self.first, self.second) {

@@ -16,7 +16,7 @@ impl UnmatchedSelection {
     /// Returns the value before the first packet, with the bindings of redirects.
     pub fn new(choice: PacketSelection, opening: &[LogEntry]) -> UnmatchedSelection {
         let mut unmatched = UnmatchedSelection { host: choice.host };
-        unmatched.take_bindings(opening);
+        unmatched.add_bindings(opening);
         unmatched
     }
 
@@ -27,7 +27,7 @@ impl UnmatchedSelection {
         line: PacketLine<'_>,
         made: &[LogEntry],
     ) -> Result<(), AllocError> {
-        self.take_bindings(made);
+        self.add_bindings(made);
         if let Some(host) = self.host
             && line.has_host(alloc, host)?
         {
@@ -36,7 +36,7 @@ impl UnmatchedSelection {
         Ok(())
     }
 
-    fn take_bindings(&mut self, bindings: &[LogEntry]) {
+    fn add_bindings(&mut self, bindings: &[LogEntry]) {
         if bindings
             .iter()
             .any(|listed| has_party(&listed.entry.binding, self.host))
@@ -55,7 +55,9 @@ impl UnmatchedSelection {
             Some(number) => eprintln!(rt;
                 "explain: --host {address}:{number}: no packet or binding has this endpoint"
             ),
-            None => eprintln!(rt; "explain: --host {address}: no packet or binding has this address"),
+            None => eprintln!(rt;
+                "explain: --host {address}: no packet or binding has this address"
+            ),
         };
     }
 }

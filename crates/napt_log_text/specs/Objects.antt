@@ -175,10 +175,10 @@ abbrev pub arrival_member : Arrival → Option (List ℕ)
 arrival_member input = result_ok (reading input.side input.bytes)
 
 -- The packet that leaves.
-abbrev pub left : Outcome → Option (List ℕ)
-left (ToOutside packet) = Some packet
-left (ToInside packet) = Some packet
-left (Dropped cause) = None
+abbrev pub packet_sent : Outcome → Option (List ℕ)
+packet_sent (ToOutside packet) = Some packet
+packet_sent (ToInside packet) = Some packet
+packet_sent (Dropped cause) = None
 
 -- The time in ns since 1970-01-01 UTC, and the packet as it arrived and as it leaves.
 unfoldable pub object_of : ℕ → Arrival → Outcome → LogNote → TimeText
@@ -187,7 +187,7 @@ object_of number input outcome note = object (
     ∷ json_member (codes "time") (decimal input.time)
     ∷ fate_members input.side outcome note
     ∷ json_member (codes "before") (packet_or_null (arrival_member input))
-    ∷ json_member (codes "after") (packet_or_null (left outcome))
+    ∷ json_member (codes "after") (packet_or_null (packet_sent outcome))
     ∷ [])
 
 abbrev pub object_text : ℕ → Arrival → Outcome → LogNote → TimeText

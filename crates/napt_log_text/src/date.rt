@@ -18,17 +18,17 @@ pub struct Date {
 
 impl Date {
     /// Returns the day that is this number of days after 1970-01-01.
-    pub(crate) fn on(days: u32) -> Date
+    pub(crate) fn from_days(days: u32) -> Date
         requires { days < calendar.dated_days }
         ensures { result ≡ calendar.date_on days }
     {
         // No year has more than 366 days.
         let year = 1970 + days / 366;
-        Date::after(year, days - days_before(year))
+        Date::from_year(year, days - days_before(year))
     }
 
     /// Returns the day that is this number of days after January 1st of a year: few, since it goes from month to month.
-    fn after(year: u32, days: u32) -> Date
+    fn from_year(year: u32, days: u32) -> Date
         requires { (year < 10000) × (days < 7000) }
         ensures { (begin : ℕ) → calendar.date_on begin ≡ calendar.first_of_month year 1 →
             result ≡ calendar.date_on (begin + days) }

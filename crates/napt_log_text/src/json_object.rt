@@ -69,7 +69,7 @@ impl JsonObject<'_> {
         text.push_str(",\"before\":")?;
         add_arrived(alloc, input, text)?;
         text.push_str(",\"after\":")?;
-        add_packet_or_null(left(self.outcome), text)?;
+        add_packet_or_null(packet_sent(self.outcome), text)?;
         text.push_str("}")?;
         Ok(())
     }
@@ -149,8 +149,8 @@ fn hairpin(side: Side, outcome: &Outcome) -> &'static str
 }
 
 /// Returns the packet that leaves, if one does.
-fn left(outcome: &Outcome) -> Option<&Packet>
-    ensures { option_map (λ packet. packet.now) result ≡ objects.left outcome.now }
+fn packet_sent(outcome: &Outcome) -> Option<&Packet>
+    ensures { option_map (λ packet. packet.now) result ≡ objects.packet_sent outcome.now }
 {
     match outcome {
         Outcome::ToOutside(packet) | Outcome::ToInside(packet) => Some(packet),

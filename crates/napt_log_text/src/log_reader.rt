@@ -51,7 +51,7 @@ impl<R: BufRead + Drop> LogReader<R> {
     }
 
     /// Returns the reader of a later piece of a log, before anything of it has been read.
-    pub fn piece(alloc: Global, reader: R) -> LogReader<R>
+    pub fn for_piece(alloc: Global, reader: R) -> LogReader<R>
         ensures { R.remaining result.reader ≡ R.remaining reader }
     {
         LogReader {
@@ -62,7 +62,7 @@ impl<R: BufRead + Drop> LogReader<R> {
 
     /// Returns whether the line that was read last has the names of the fields, with which a piece
     /// may begin.
-    pub fn is_at_names(&self) -> bool {
+    pub fn is_at_header(&self) -> bool {
         self.line.as_str() == header()
     }
 

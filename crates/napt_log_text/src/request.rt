@@ -39,7 +39,7 @@ impl Request {
     {
         entries
             .iter()
-            .filter(|entry| self.is_answered_by(*entry))
+            .filter(|entry| self.is_holder(*entry))
             .copied()
             .collect(alloc)
     }
@@ -56,17 +56,17 @@ impl Request {
     }
 
     /// Returns whether the binding of an entry had the endpoint at some time.
-    fn is_for(&self, entry: &Entry) -> bool
+    fn is_asked(&self, entry: &Entry) -> bool
         ensures { result ≡ requests.is_asked self.now entry.now }
     {
         is_of(self.protocol, entry.binding.protocol) && self.party.has(entry.binding.external)
     }
 
     /// Returns whether the binding had the endpoint at some moment of the span.
-    fn is_answered_by(&self, entry: &Entry) -> bool
+    fn is_holder(&self, entry: &Entry) -> bool
         ensures { result ≡ requests.is_holder self.now entry.now }
     {
-        self.is_for(entry)
+        self.is_asked(entry)
             && match self.at {
                 Some(span) => span.overlaps(entry),
                 None => true,
@@ -77,7 +77,7 @@ impl Request {
     fn is_next(&self, entry: &Entry) -> bool
         ensures { result ≡ requests.is_next self.now entry.now }
     {
-        self.is_for(entry)
+        self.is_asked(entry)
             && match self.at {
                 Some(span) => span.until <= u128::from(entry.made),
                 None => false,
@@ -88,7 +88,7 @@ impl Request {
     fn is_past(&self, entry: &Entry) -> bool
         ensures { result ≡ requests.is_past self.now entry.now }
     {
-        self.is_for(entry)
+        self.is_asked(entry)
             && match (self.at, entry.end) {
                 (Some(span), Some(end)) => end <= span.first,
                 _ => false,

@@ -1,7 +1,7 @@
 //! How a program was called, and the messages that it prints at a terminal.
 
 ghost use Rattle.std.specs.{Prelude.{◌≡◌, ◌⊎◌, IfErr, OnOk}, Process.exit_status};
-ghost use Rattle.napt_program.specs.{Command.{HelpIsAsked, IsLineAnswer}, Stop.status_at_end};
+ghost use Rattle.napt_program.specs.{Command.{HelpIsRequested, IsLineAnswer}, Stop.status_at_end};
 
 use crate::command::words;
 use crate::options::{LineFault, Manual};
@@ -23,7 +23,7 @@ use std::process::ExitCode;
 ///
 /// Fails with `Stop::Help` if printing fails, and if the arguments are wrong or memory is refused.
 pub fn answer_line(rt: &impl Print, fault: LineFault) -> Result<(), Stop>
-    ensures asked { OnOk result (HelpIsAsked fault) }
+    ensures asked { OnOk result (HelpIsRequested fault) }
     ensures stop { IfErr result (IsLineAnswer fault) }
 {
     match fault {

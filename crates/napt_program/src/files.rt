@@ -76,7 +76,7 @@ pub fn open_files<'r, R: Files + Input + Print + AllocGlobal>(
     ensures refused { IfErr result (IsOpenStop (files_with_log options.now)) }
 {
     let inputs = open_inputs(rt, &options.files)?;
-    let kept = kept_of_log(rt, options, told)?;
+    let kept = saved_log_place(rt, options, told)?;
     let files = with_outputs(rt, &options.files, inputs)?;
     let log = match &options.log {
         Some(path) if options.has_pieces() => Some(LogOutput {
@@ -91,7 +91,7 @@ pub fn open_files<'r, R: Files + Input + Print + AllocGlobal>(
 
 /// Returns how many bytes the log keeps, or the number of its last piece. Changes nothing.
 /// Fails with its role if another option names it, and as `bytes_to_keep` and `last_piece` do.
-fn kept_of_log<R: Files + AllocGlobal>(
+fn saved_log_place<R: Files + AllocGlobal>(
     rt: &R,
     options: &OptionsWithLog,
     told: Option<LogEnd>,

@@ -2,7 +2,7 @@
 //! runs over them.
 
 ghost use Rattle.std.specs.Prelude.{◌≡◌, IfErr, OnOk, map, string_bytes};
-ghost use Rattle.napt_program.specs.{CommandLine.{files_with_log, line_with_log}, Command.{IsLineStop, IsRunStop, LineIsTaken, IsStopUnderOpenGate}};
+ghost use Rattle.napt_program.specs.{CommandLine.{files_with_log, line_with_log}, Command.{IsLineStop, IsRunStop, LineIsAccepted, IsStopUnderOpenGate}};
 
 use crate::counted_device::CountedDevice;
 use crate::counting_gate::CountingGate;
@@ -49,7 +49,7 @@ pub fn serve_words<R: ProgramHost + Clock>(
     words: Vec<String>,
     reason: &mut StopReason,
 ) -> Result<(), Stop>
-    ensures taken { OnOk result (LineIsTaken (line_with_log (map string_bytes words.items))) }
+    ensures taken { OnOk result (LineIsAccepted (line_with_log (map string_bytes words.items))) }
     ensures stop { IfErr result
         (IsLineStop streams (line_with_log (map string_bytes words.items))) }
 {

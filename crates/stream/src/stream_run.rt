@@ -118,7 +118,7 @@ impl<'a> StreamRun<'a> {
         StreamResult {
             captures,
             outputs,
-            answer: ended(rt.alloc(), options, config, answer),
+            answer: result_without_log(rt.alloc(), options, config, answer),
         }
     }
 
@@ -154,7 +154,7 @@ impl<'a> StreamRun<'a> {
         StreamResult {
             captures,
             outputs,
-            answer: ended_with_log(
+            answer: result_with_log(
                 rt.alloc(),
                 options,
                 config,
@@ -248,7 +248,7 @@ fn run_devices<A: Source, B: Source, T: Write + Drop, F: Write + Drop, L: Drop>(
 }
 
 /// Returns the result of the program for that of a run without a log.
-fn ended(
+fn result_without_log(
     alloc: Global,
     options: &OptionsWithLog,
     config: &Config,
@@ -276,7 +276,7 @@ fn ended(
 
 /// Returns the result of the program for that of a run with a log, whose accounts and end it keeps if
 /// the state is to be saved. Fails as the run does, and with `Stop::Log` on a failed sync.
-fn ended_with_log<T: Write + Drop, F: SeekableFile + Drop, R: Files + AllocGlobal>(
+fn result_with_log<T: Write + Drop, F: SeekableFile + Drop, R: Files + AllocGlobal>(
     alloc: Global,
     options: &OptionsWithLog,
     config: &Config,
