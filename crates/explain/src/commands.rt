@@ -15,7 +15,7 @@ const SHOW: &str =
 
 const WHO: &str =
     "Prints who held an external endpoint, or any port of an address: a line for each inside endpoint, with its protocol and \
-the times from and until when; the status is 1 if nobody held it";
+the times at which it got and lost the external endpoint; the status is 1 if nobody held it";
 
 const LOG: &str =
     "Writes the log of the run in CSV to standard output (docs/FORMATS.md). It has a row when a binding \
@@ -40,7 +40,7 @@ const REPLIES: &str =
 inside endpoint has in this run at that time (docs/FORMATS.md)";
 
 const AT: &str =
-    "The time asked about: seconds since 1970, as in the lines, or an RFC 3339 date such as 2026-11-26T10:02:07Z. \
+    "The time in question: seconds since 1970, as in the lines, or an RFC 3339 date such as 2026-11-26T10:02:07Z. \
 That date means the whole second; with nine decimals it means one nanosecond [default: any time]";
 
 const REQUESTS: &str =
@@ -51,22 +51,22 @@ const FROM_LOG: &str =
     "Answers from this log, or the pieces of one in their order, in place of captures; --config gives the pool";
 
 const AS_NAPT: &str =
-    "Uses the run that napt makes from the captures, whatever numbers the captured gateway used";
+    "Uses the run that napt makes from the captures, even if the captured gateway used other numbers";
 
 const HOST: &str =
     "Prints only the packets and bindings with this address or endpoint, inside or external";
 
 const PAIRS: &str =
-    "Prints a [[pair]] for each host that has a live binding in a state, and that this configuration would give another \
-external address: with these it keeps its bindings (at most 256, as many as a configuration has)";
+    "Prints a [[pair]] for each host that has a live binding in a state and would get another external address from this \
+configuration. With these pairs the configuration keeps the bindings (at most 256, the limit of a configuration)";
 
 const ENDED: &str =
-    "Bindings of the state that the configuration cannot keep end at the start; all others go on";
+    "Ends the bindings of the state that the configuration cannot keep at the start; all others go on";
 
-const WRITTEN: &str = "File to write, which nothing else may name";
+const WRITTEN: &str = "File to write, which no other argument may name";
 
 const LOG_WRITTEN: &str =
-    "File to write the log to, which may have no text and which nothing else may name";
+    "File to write the log to, which must be empty or new, and which no other argument may name";
 
 const REPORT: &str =
     "File for the report of the same run, as napt writes it; what the captures cannot show is then printed on standard error";
@@ -76,7 +76,7 @@ const PACKETS: &str =
 numbers of the bindings through which it went out and came in";
 
 const NOT_WRITTEN: &str =
-    "Never written: accepted as an option of napt or stream, and refused if that would refuse it";
+    "Never written: accepted where napt or stream accepts it, and refused where that refuses it";
 
 const RESUMED: &str =
     "State from which the run goes on, as napt and stream save it [default: a new run]";
