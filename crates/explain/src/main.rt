@@ -156,7 +156,7 @@ whether the gateway used the same numbers, or give --as-napt"
         );
         return Err(Exit::Printed(Stop::Usage));
     }
-    if options.is_without_captures() {
+    if options.has_no_captures() {
         let asked = requests_of(rt, options.form)?;
         return answer_by_blocks(rt, streams, &asked, &config);
     }

@@ -32,7 +32,7 @@ pub struct ExplainOptions<'m> {
     pub form: OutputForm<'m>,
     pub choice: PacketSelection,
     /// Whether the question is about the run of `napt`, whatever numbers the captured gateway used.
-    pub is_of_napt: bool,
+    pub uses_napt_run: bool,
     /// Whether bindings of the state that the configuration cannot keep end at the start.
     pub ends_misfits: bool,
 }
@@ -80,13 +80,13 @@ impl<'m> ExplainOptions<'m> {
     }
 
     /// Returns whether neither a capture nor a state is named.
-    pub fn is_without_captures(&self) -> bool {
+    pub fn has_no_captures(&self) -> bool {
         let files = &self.files;
         files.inside.is_none() && files.outside.is_none() && files.resume.is_none()
     }
 
     /// Returns why a state is refused whatever it contains, if it is.
-    fn why_anew(&self) -> Option<&'static str> {
+    fn state_refusal(&self) -> Option<&'static str> {
         match (self.form, self.outside) {
             (OutputForm::Blocks, _) => Some("blocks depend on the configuration alone"),
             (_, OutsideCapture::Replies) => Some("replies can only follow a new run"),
@@ -101,7 +101,7 @@ impl<'m> ExplainOptions<'m> {
             self.form,
             OutputForm::Holders(_) | OutputForm::Requests(_) | OutputForm::Log(_)
         );
-        is_asked && !self.is_of_napt
+        is_asked && !self.uses_napt_run
     }
 
     /// Returns how many of the other configuration, the pieces of a log and the file of requests are standard input.
@@ -149,7 +149,7 @@ impl<'m> OutputForm<'m> {
     }
 
     /// The name in messages of each file that `explain` alone writes, and its path, if there is one.
-    pub fn written(self) -> [(&'static str, Option<&'m str>); 2] {
+    pub fn written_files(self) -> [(&'static str, Option<&'m str>); 2] {
         match self {
             OutputForm::Log(paths) => [("--to", paths.log), ("--packets", paths.packets)],
             OutputForm::Followed(path) => [("FILE", Some(path)), ("", None)],
@@ -197,8 +197,8 @@ pub fn options_of<'m, R: Eprint + AllocGlobal>(
     let only = matches.get_str("only");
     let host = matches.get_str("host");
     let choice = PacketSelection {
-        only: parsed(rt, "--only ", only, only.map(number_of))?,
-        host: parsed(rt, "--host ", host, host.map(host_of))?,
+        only: parsed_value(rt, "--only ", only, only.map(number_of))?,
+        host: parsed_value(rt, "--host ", host, host.map(host_of))?,
         dropped: matches.get_flag("dropped"),
     };
     let options = ExplainOptions {
@@ -213,7 +213,7 @@ pub fn options_of<'m, R: Eprint + AllocGlobal>(
         other: file_of(alloc, matches, "other")?,
         form: form_of(rt, command, matches)?,
         choice,
-        is_of_napt: matches.get_flag("as-napt"),
+        uses_napt_run: matches.get_flag("as-napt"),
         ends_misfits: matches.get_flag("end-misfits"),
     };
     refuse_states(rt, matches, &options)?;
@@ -227,7 +227,7 @@ fn refuse_states<R: Eprint>(
     matches: &ArgMatches<'_>,
     options: &ExplainOptions<'_>,
 ) -> Result<(), Exit> {
-    if let (Some(path), Some(why)) = (matches.get_str("resume"), options.why_anew()) {
+    if let (Some(path), Some(why)) = (matches.get_str("resume"), options.state_refusal()) {
         return Err(print_wrong_argument(rt, "--resume ", path, why));
     }
     if options.files.is_stream(FileRole::Save) {
@@ -289,9 +289,9 @@ fn form_of<'m, R: Eprint>(
 /// Returns the request of `who`.
 fn asked_of<'m, R: Eprint>(rt: &R, matches: &'m ArgMatches<'_>) -> Result<OutputForm<'m>, Exit> {
     let at = matches.get_str("at");
-    let at = parsed(rt, "--at ", at, at.map(moment_of))?;
+    let at = parsed_value(rt, "--at ", at, at.map(moment_of))?;
     let endpoint = matches.get_str("endpoint");
-    match parsed(rt, "", endpoint, endpoint.map(host_of))? {
+    match parsed_value(rt, "", endpoint, endpoint.map(host_of))? {
         Some(party) => Ok(OutputForm::Holders(Request {
             protocol: None,
             party,
@@ -351,7 +351,7 @@ fn print_wrong_argument<R: Eprint>(rt: &R, name: &str, text: &str, why: &str) ->
 
 /// Returns the value of an argument that is present, as its text was parsed. If it is invalid, prints why, after its
 /// name.
-fn parsed<R: Eprint, T: Drop>(
+fn parsed_value<R: Eprint, T: Drop>(
     rt: &R,
     name: &str,
     given: Option<&str>,

@@ -154,14 +154,14 @@ fn print_answer<R: Print + AllocGlobal>(
     }
     let holders = asked.request.holders_among(rt.alloc(), known.entries)?;
     for entry in &holders {
-        mark(asked, &mut page.text)?;
+        add_line_number(asked, &mut page.text)?;
         add_holder(entry, known.last, &mut page.text)?;
         page.write_if_full(rt)?;
     }
     if !holders.is_empty() {
         return Ok(true);
     }
-    mark(asked, &mut page.text)?;
+    add_line_number(asked, &mut page.text)?;
     let (request, text) = (&asked.request, &mut page.text);
     if let Some(beside) = known.uncovered_time(request) {
         add_uncovered_time(request, beside, text)?;
@@ -203,7 +203,7 @@ fn add_uncovered_time(
 }
 
 /// Begins a line of a request that is one of several.
-pub fn mark(asked: &HolderRequest, text: &mut String) -> Result<(), AllocError> {
+pub fn add_line_number(asked: &HolderRequest, text: &mut String) -> Result<(), AllocError> {
     match asked.line {
         Some(number) => add_mark(number, text),
         None => Ok(()),

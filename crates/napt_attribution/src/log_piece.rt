@@ -9,7 +9,7 @@ ghost use Rattle.napt_log_text.specs.declared.event.LogEvent.{LogEvent as Told};
 ghost use Rattle.napt_attribution.specs.SavedLogs as logs;
 ghost use Rattle.napt_attribution.specs.declared.requests.HolderRequest.{HolderRequest as Asked};
 
-use crate::row_fault::{RowFault, SavedLogRefusal, wrong};
+use crate::row_fault::{RowFault, SavedLogRefusal, invalid_row};
 use crate::saved_rows::SavedRows;
 use napt_config::Config;
 use napt_log_text::{LogFileFault, LogReader, LogRow};
@@ -43,12 +43,12 @@ impl LogPiece<'_> {
     {
         let reader = match BufReader::new(alloc, device) {
             Ok(reader) => reader,
-            Err(error) => return Err(unread(LogFileFault::Unread(error))),
+            Err(error) => return Err(header_refusal(LogFileFault::Unread(error))),
         };
         if self.is_first {
             match LogReader::open(alloc, reader) {
                 Ok(mut log) => self.add_rows(rows, &mut log),
-                Err(fault) => Err(unread(fault)),
+                Err(fault) => Err(header_refusal(fault)),
             }
         } else {
             let mut log = LogReader::for_piece(alloc, reader);
@@ -95,7 +95,7 @@ impl LogPiece<'_> {
         }
         Err(SavedLogRefusal {
             row: u64::MAX,
-            fault: wrong("expected the end of the log"),
+            fault: invalid_row("expected the end of the log"),
         })
     }
 
@@ -171,7 +171,7 @@ impl LogPiece<'_> {
 }
 
 /// Why the first row of a log is refused.
-fn unread(fault: LogFileFault) -> SavedLogRefusal {
+fn header_refusal(fault: LogFileFault) -> SavedLogRefusal {
     SavedLogRefusal {
         row: 1,
         fault: RowFault::File(fault),

@@ -46,8 +46,10 @@ impl fmt::Display for RowFault {
             RowFault::File(LogFileFault::Unread(error)) if error.kind() == ErrorKind::InvalidData =>
                 { f.write_str("expected text in UTF-8") }
             RowFault::File(LogFileFault::Unread(error)) => write!(f, "{error}"),
-            RowFault::File(LogFileFault::Wrong(why)) => f.write_str(why),
-            RowFault::File(LogFileFault::Torn) => f.write_str("it breaks off, and is left out"),
+            RowFault::File(LogFileFault::InvalidRow(why)) => f.write_str(why),
+            RowFault::File(LogFileFault::IncompleteRow) => f.write_str(
+                "it breaks off, and is left out",
+            ),
             RowFault::Number { next, given } if given > next => write!(
                 f,
                 "binding: expected {next}, found {given}: earlier rows, or an earlier piece, are missing"
@@ -72,6 +74,6 @@ impl fmt::Display for RowFault {
 }
 
 /// Returns the fault of a row that is not one of a log: what was expected.
-pub fn wrong(why: &'static str) -> RowFault {
-    RowFault::File(LogFileFault::Wrong(why))
+pub fn invalid_row(why: &'static str) -> RowFault {
+    RowFault::File(LogFileFault::InvalidRow(why))
 }

@@ -11,7 +11,7 @@ ghost use Rattle.napt_attribution.specs.declared.requests.HolderRequest.{HolderR
 use crate::kept_entries::KeptEntries;
 use crate::log_times::LogTimes;
 use crate::requests::HolderRequest;
-use crate::row_fault::{RowFault, wrong};
+use crate::row_fault::{RowFault, invalid_row};
 use napt_account::Entry;
 use napt_log_text::{LogField, LogRow};
 use napt_rules::Row;
@@ -92,7 +92,7 @@ impl SavedRows {
             ≡ logs.asked_entries asked (logs.entries_in events)) }
     {
         let SavedRows { kept, times, .. } = self;
-        let (first, last) = times.covered();
+        let (first, last) = times.covered_span();
         Ok(SavedBindings {
             entries: kept.into_entries(alloc)?,
             first,
@@ -117,7 +117,7 @@ impl SavedRows {
                 self.times.time_of_other(row.time)?;
             }
             LogField::Empty => self.add_living(row)?,
-            _ => return Err(wrong("natEvent: expected 8, 9, 12, 13 or nothing")),
+            _ => return Err(invalid_row("natEvent: expected 8, 9, 12, 13 or nothing")),
         }
         Ok(None)
     }
@@ -187,10 +187,10 @@ impl SavedRows {
             LogField::Number(end) if !binding.fixed => self.end_at(row.number, binding, end),
             LogField::Empty if binding.fixed => match self.open_entry(row.number, binding) {
                 Some(_) => Ok(()),
-                None => Err(wrong(NO_BINDING)),
+                None => Err(invalid_row(NO_BINDING)),
             },
-            LogField::Number(_) => Err(wrong(NO_BINDING)),
-            _ => Err(wrong(NO_TIME)),
+            LogField::Number(_) => Err(invalid_row(NO_BINDING)),
+            _ => Err(invalid_row(NO_TIME)),
         }
     }
 
@@ -204,7 +204,7 @@ impl SavedRows {
             × (self.new.made ≡ self.old.made)) }
     {
         let Some((number, _)) = self.open_entry(number, binding) else {
-            return Err(wrong(NO_BINDING));
+            return Err(invalid_row(NO_BINDING));
         };
         self.unrepeated.remove(&end_of(&binding));
         self.kept.close(number, end)?;
@@ -249,7 +249,7 @@ fn binding_of(row: &LogRow) -> Result<Row, RowFault>
 {
     match row.binding() {
         Ok(binding) => Ok(binding),
-        Err(why) => Err(wrong(why)),
+        Err(why) => Err(invalid_row(why)),
     }
 }
 

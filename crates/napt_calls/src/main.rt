@@ -49,7 +49,7 @@ fn main(rt: HostRuntime) -> ExitCode {
     let done = match words.get(1).map(String::as_str) {
         Some("refused") => return refused::print_call(&rt, words.get(2)),
         Some("play") => play::play_calls(&rt),
-        _ => runs::measured(&rt, &words),
+        _ => runs::measure(&rt, &words),
     };
     match done {
         Ok(()) => ExitCode::SUCCESS,

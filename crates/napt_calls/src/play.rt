@@ -61,8 +61,8 @@ impl Player {
         let call = line.word()?;
         match call {
             "read" => self.packet = packets::read(line)?,
-            "table" => self.table = Some(table::begun(line)?),
-            "translators" => self.translators = Some(translators::begun(line)?),
+            "table" => self.table = Some(table::new_table(line)?),
+            "translators" => self.translators = Some(translators::new_translators(line)?),
             "fix_check" | "fix_check_udp" => packets::print_check(line, call)?,
             "read_capture" => captures::print_read(line)?,
             "write_capture" => captures::print_written(line)?,

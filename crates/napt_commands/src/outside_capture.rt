@@ -50,7 +50,7 @@ impl OutsideCapture {
 }
 
 /// Returns a copy of the inputs.
-pub fn copied(alloc: Global, inputs: &[Input]) -> Result<Vec<Input>, AllocError> {
+pub fn copy_inputs(alloc: Global, inputs: &[Input]) -> Result<Vec<Input>, AllocError> {
     let mut copies = Vec::new(alloc);
     for input in inputs {
         copies.push(Input {

@@ -18,7 +18,7 @@ use std::alloc::{AllocError, Global};
 /// A packet of a run.
 #[derive(Clone, Copy)]
 pub struct PacketLine<'a> {
-    pub passing: RunPacket<'a>,
+    pub run_packet: RunPacket<'a>,
     /// The packets from outside, if they are replies.
     replies: Option<Replies<'a>>,
     /// The inside endpoint that was the destination of the packet, if it is a valid reply.
@@ -30,23 +30,23 @@ impl<'a> PacketLine<'a> {
     pub fn new(passing: RunPacket<'a>, replies: Option<Replies<'a>>) -> PacketLine<'a> {
         let end = replies.and_then(|replies| replies.inside_endpoint_at(passing.number));
         PacketLine {
-            passing,
+            run_packet: passing,
             replies,
             end,
         }
     }
 
     fn outcome(self) -> &'a Outcome {
-        &self.passing.step.outcome
+        &self.run_packet.step.outcome
     }
 
     /// Returns the packet's object in JSON.
     pub fn object(self) -> JsonObject<'a> {
         JsonObject {
-            number: self.passing.number,
-            input: self.passing.input,
+            number: self.run_packet.number,
+            input: self.run_packet.input,
             outcome: self.outcome(),
-            note: self.passing.step.part.used.note,
+            note: self.run_packet.step.part.used.note,
         }
     }
 
@@ -54,7 +54,7 @@ impl<'a> PacketLine<'a> {
     pub fn is_chosen(self, alloc: Global, choice: PacketSelection) -> Result<bool, AllocError> {
         let is_dropped = matches!(self.outcome(), Outcome::Dropped(_));
         match choice.host {
-            _ if !choice.selects(self.passing.number, is_dropped) => Ok(false),
+            _ if !choice.selects(self.run_packet.number, is_dropped) => Ok(false),
             None => Ok(true),
             Some(host) => self.has_host(alloc, host),
         }
@@ -63,7 +63,7 @@ impl<'a> PacketLine<'a> {
     /// Returns whether the packet arrives or leaves with this host or endpoint, or was sent to it
     /// as a reply.
     pub fn has_host(self, alloc: Global, host: Party) -> Result<bool, AllocError> {
-        let input = self.passing.input;
+        let input = self.run_packet.input;
         Ok(
             leaves_with(self.outcome(), host)
                 || self.end.is_some_and(|end| host.has(end))
@@ -79,7 +79,7 @@ impl<'a> PacketLine<'a> {
         text: &mut String,
         widths: ColumnWidths,
     ) -> Result<(), AllocError> {
-        let RunPacket { number, input, .. } = self.passing;
+        let RunPacket { number, input, .. } = self.run_packet;
         add_number_within(text, number, widths.number())?;
         text.push_str(" ")?;
         add_seconds(text, input.time, widths.seconds())?;
@@ -93,7 +93,7 @@ impl<'a> PacketLine<'a> {
 
     /// Appends what happened to the packet, and the packet as it leaves.
     fn add_rest(self, text: &mut String) -> Result<(), AllocError> {
-        let RunPacket { input, step, .. } = self.passing;
+        let RunPacket { input, step, .. } = self.run_packet;
         let (packet, is_hairpin) = match &step.outcome {
             Outcome::Dropped(cause) => return self.add_loss(text, *cause),
             Outcome::ToInside(packet) => (packet, input.side == Side::Inside),
@@ -110,7 +110,7 @@ impl<'a> PacketLine<'a> {
 
     /// Appends why the packet was dropped.
     fn add_loss(self, text: &mut String, cause: Cause) -> Result<(), AllocError> {
-        let input = self.passing.input;
+        let input = self.run_packet.input;
         text.push_str("dropped, ")?;
         text.push_str(cause_name(cause))?;
         text.push_str(": ")?;

@@ -140,7 +140,7 @@ impl Remotes {
                 *before = sent;
             }
             None => {
-                self.forget(now);
+                self.remove_stale(now);
                 self.sent.insert(remote, sent)?;
             }
         }
@@ -148,7 +148,7 @@ impl Remotes {
     }
 
     /// Forgets the remotes to which nothing was sent for a minute, once there are twice as many as after the last time.
-    fn forget(&mut self, now: u64) {
+    fn remove_stale(&mut self, now: u64) {
         if self.sent.len() < self.full {
             return;
         }
@@ -158,7 +158,7 @@ impl Remotes {
     }
 
     /// Returns what was sent to a remote, if a packet was sent to it within the minute before.
-    fn just_sent(&self, remote: Remote, now: u64) -> Option<SentCounts> {
+    fn recently_sent(&self, remote: Remote, now: u64) -> Option<SentCounts> {
         let sent = self.sent.get(&remote).copied()?;
         (now.saturating_sub(sent.at) <= JUST_BEFORE).then_some(sent)
     }
@@ -169,12 +169,12 @@ impl Remotes {
         let (bytes, now) = (&input.bytes, input.clock);
         if matches!(outcome, Outcome::Dropped(Cause::NoBinding | Cause::NotOurs))
             && let Some(address) = source_of(bytes)
-            && self.just_sent((None, address, 0), now).is_some()
+            && self.recently_sent((None, address, 0), now).is_some()
         {
             self.unmet_answers = self.unmet_answers.saturating_add(1);
         }
         if let Some(remote) = remote_of(bytes, Side::Outside)
-            && let Some(sent) = self.just_sent(remote, now)
+            && let Some(sent) = self.recently_sent(remote, now)
         {
             self.answer(passing, outcome, remote, sent);
         }

@@ -4,7 +4,7 @@ use crate::lines::{leaves_with, side_column};
 use crate::packet_fields::{add_arrival, add_packet, is_end_of_arrival};
 use crate::packet_selection::PacketSelection;
 use napt_commands::{
-    CountedRun, Exit, OutsideCapture, PacketConsumer, RunStart, Seconds, copied, print_warning,
+    CountedRun, Exit, OutsideCapture, PacketConsumer, RunStart, Seconds, copy_inputs, print_warning,
 };
 use napt_records::{OutcomeCounts, cause_name};
 use napt_sequential::{Input, Outcome};
@@ -54,8 +54,12 @@ impl<'a> RunComparison<'a> {
         inputs: &[Input],
     ) -> Result<(), Exit> {
         let alloc = rt.alloc();
-        let first = outside.inputs_under(alloc, self.first.config(), copied(alloc, inputs)?)?;
-        let second = outside.inputs_under(alloc, self.second.config(), copied(alloc, inputs)?)?;
+        let first = outside.inputs_under(alloc, self.first.config(), copy_inputs(alloc, inputs)?)?;
+        let second = outside.inputs_under(
+            alloc,
+            self.second.config(),
+            copy_inputs(alloc, inputs)?,
+        )?;
         let both = first.iter().zip(&second);
         for (place, (input, (first, second))) in inputs.iter().zip(both).enumerate() {
             let number = (place as u64).saturating_add(1);

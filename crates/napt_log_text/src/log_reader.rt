@@ -18,9 +18,9 @@ pub enum LogFileFault {
     /// A read failed, memory ran out, or the bytes are not UTF-8.
     Unread(io::Error),
     /// A line is not a row of a log; the value says what was expected.
-    Wrong(&'static str),
+    InvalidRow(&'static str),
     /// The last row is incomplete: it has no line feed at its end.
-    Torn,
+    IncompleteRow,
 }
 
 /// A log that is read row by row, in the memory of its longest row.
@@ -46,7 +46,9 @@ impl<R: BufRead + Drop> LogReader<R> {
         if log.line.as_str() == header() {
             Ok(log)
         } else {
-            Err(LogFileFault::Wrong("expected the names of the fields, as explain log writes them"))
+            Err(LogFileFault::InvalidRow(
+                "expected the names of the fields, as explain log writes them",
+            ))
         }
     }
 
@@ -76,7 +78,7 @@ impl<R: BufRead + Drop> LogReader<R> {
             logs.LogUnlessUnread result (result ≡ Ok None) }
         ensures torn { (torn : List ℕ) → 0 < length torn → All (λ byte. byte ≢ 10) torn →
             R.remaining self.old.reader ≡ Some torn →
-            logs.LogUnlessUnread result (result ≡ Err LogFileFault.Torn) }
+            logs.LogUnlessUnread result (result ≡ Err LogFileFault.IncompleteRow) }
     {
         self.line.clear();
         let length = match self.reader.read_line(&mut self.line) {
@@ -87,11 +89,11 @@ impl<R: BufRead + Drop> LogReader<R> {
             return Ok(None);
         }
         let Some(text) = self.line.as_str().strip_suffix('\n') else {
-            return Err(LogFileFault::Torn);
+            return Err(LogFileFault::IncompleteRow);
         };
         match LogRow::read(text) {
             Some(row) => Ok(Some(row)),
-            None => Err(LogFileFault::Wrong("expected as many fields as there are names")),
+            None => Err(LogFileFault::InvalidRow("expected as many fields as there are names")),
         }
     }
 }

@@ -59,7 +59,8 @@ impl Request {
     fn is_asked(&self, entry: &Entry) -> bool
         ensures { result ≡ requests.is_asked self.now entry.now }
     {
-        is_of(self.protocol, entry.binding.protocol) && self.party.has(entry.binding.external)
+        is_requested_protocol(self.protocol, entry.binding.protocol)
+            && self.party.has(entry.binding.external)
     }
 
     /// Returns whether the binding had the endpoint at some moment of the span.
@@ -130,7 +131,7 @@ impl TimeSpan {
 }
 
 /// Returns whether a protocol is the requested one, if one is requested.
-fn is_of(wanted: Option<Protocol>, protocol: Protocol) -> bool
+fn is_requested_protocol(wanted: Option<Protocol>, protocol: Protocol) -> bool
     ensures { result ≡ requests.holder_is_of wanted protocol }
 {
     match (wanted, protocol) {

@@ -7,8 +7,8 @@ ghost use Rattle.napt_run.specs.{Origins.origin_of, Streams.stream_ended, WholeP
 ghost use Rattle.napt_sequential.specs.Faults.{is_run_gate_fault};
 ghost use Rattle.napt_records.specs.Faults.{is_shut_gate_fault};
 
+use crate::buffered_text::BufferedText;
 use crate::devices::Devices;
-use crate::kept_texts::BufferedText;
 use crate::run_end::RunEnd;
 use crate::start::{OriginSetting, Start};
 use crate::stream_log::NoLog;

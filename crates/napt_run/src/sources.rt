@@ -17,7 +17,7 @@ use std::thread::Threads;
 
 /// Both captures, after their headers.
 #[derive(Drop)]
-struct BothRecords {
+struct BothReaders {
     inside: RecordReader,
     outside: RecordReader,
 }
@@ -46,7 +46,7 @@ impl<
     {
         let ours = read_header(self.alloc, Side::Inside, inside)?;
         let theirs = read_header(self.alloc, Side::Outside, outside)?;
-        let records = BothRecords {
+        let records = BothReaders {
             inside: ours,
             outside: theirs,
         };
@@ -58,7 +58,7 @@ impl<
         self,
         inside: &mut R,
         outside: &mut Q,
-        records: BothRecords,
+        records: BothReaders,
         both: &mut LoggedOutcomeWriter<'_, '_, '_, W, V, K>,
     ) -> Result<RunTotals, Fault>
         ensures runs { (bytes others : Option (List ℕ)) (begun : KnownLeaving W V W.Sink V.Sink) →

@@ -48,7 +48,7 @@ impl<'p, S: Source, R: Eprint + Clock + AllocGlobal> Source for CountedDevice<'p
             && let Some(time) = self.device.first_time()
         {
             self.has_begun = true;
-            self.progress.begin_at(time);
+            self.progress.print_if_earlier(time);
         }
         Ok(count)
     }

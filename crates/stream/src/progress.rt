@@ -83,7 +83,7 @@ impl<'r, R: Eprint + Clock + AllocGlobal> ProgressReport<'r, R> {
 
     /// Prints, once, that the first packet of a capture, of this time in ns, is earlier than the
     /// state. Without memory for that the run goes on, and nothing is printed.
-    pub fn begin_at(&self, time: u64) {
+    pub fn print_if_earlier(&self, time: u64) {
         let clock = self.clock.get();
         if time < clock {
             let (rt, call) = (self.rt, self.call);

@@ -270,7 +270,7 @@ fn result_without_log(
         .passed
         .into_state_if(options.files.save.is_some(), alloc)?;
     Ok(StreamRemainder {
-        state: contents(alloc, config, state, None)?,
+        state: saved_contents(alloc, config, state, None)?,
     })
 }
 
@@ -302,12 +302,12 @@ fn result_with_log<T: Write + Drop, F: SeekableFile + Drop, R: Files + AllocGlob
     let state = end.passed.into_state_if(true, alloc);
     let log_end = log.synced_end()?;
     Ok(StreamRemainder {
-        state: contents(alloc, config, state?, Some((&end.log, log_end)))?,
+        state: saved_contents(alloc, config, state?, Some((&end.log, log_end)))?,
     })
 }
 
 /// Returns what a run saves, if its state is to be saved. Fails with `MEMORY` if memory is refused.
-fn contents(
+fn saved_contents(
     alloc: Global,
     config: &Config,
     state: Option<State>,

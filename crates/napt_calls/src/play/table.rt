@@ -12,7 +12,7 @@ use napt_wire::Protocol;
 
 /// `table ADDRESS CONFIGURATION`: makes a table of that address, in a box: a function that owns a table itself takes
 /// minutes to prove.
-pub(crate) fn begun<R: Print>(line: &mut Line<'_, R>) -> Result<Box<Table>, CallFault> {
+pub(crate) fn new_table<R: Print>(line: &mut Line<'_, R>) -> Result<Box<Table>, CallFault> {
     let address = line.long()?;
     let config = Config::read(line.alloc, &line.bytes()?).map_err(|_| CallFault::Config)?;
     let table = Table::new(line.alloc, address, &config).map_err(|_| CallFault::Call)?;
