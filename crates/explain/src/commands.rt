@@ -61,7 +61,7 @@ const PAIRS: &str =
 configuration. With these pairs the configuration keeps the bindings (at most 256, the limit of a configuration)";
 
 const ENDED: &str =
-    "Ends the bindings of the state that the configuration cannot keep at the start; all others go on";
+    "Ends at the start the bindings of the state that the configuration cannot keep; all others go on";
 
 const WRITTEN: &str = "File to write, which no other argument may name";
 

@@ -94,7 +94,7 @@ impl<'a> RunComparison<'a> {
     }
 
     /// Prints the warnings and the counts of both runs; `names` are the paths of their configurations. Fails with
-    /// `Differ` if the outcomes of any packet, selected or not, differ.
+    /// `Differences` if the outcomes of any packet, selected or not, differ.
     pub fn print<R: Print + Eprint>(
         &self,
         rt: &R,
