@@ -175,7 +175,7 @@ impl<'r, 'i, 'o, A: Source, B: Source> CaptureInputs<'r, 'i, 'o, A, B> {
                     return Err(self.refuse(rt, fault));
                 }
             };
-            self.back.take(number, &input);
+            self.back.add_packet(number, &input);
             consumer.take(rt, number, &input)?;
             spare = input.bytes;
         }
@@ -188,7 +188,7 @@ impl<'r, 'i, 'o, A: Source, B: Source> CaptureInputs<'r, 'i, 'o, A, B> {
         for number in 1..u64::MAX {
             match self.packets.next(Vec::new(rt.alloc())) {
                 Ok(Some(input)) => {
-                    self.back.take(number, &input);
+                    self.back.add_packet(number, &input);
                     inputs.push(input)?;
                 }
                 Ok(None) => return Ok(inputs),

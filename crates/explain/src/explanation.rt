@@ -168,12 +168,12 @@ impl<R: Print + Eprint + AllocGlobal, O: CommandOutput<R> + Drop> PacketConsumer
         };
         self.packets = number;
         self.last = self.last.max(input.clock);
-        self.losses.take(config, input, &step.outcome);
+        self.losses.count_packet(config, input, &step.outcome);
         if self.replies.is_none() {
-            self.remotes.take(alloc, passing)?;
+            self.remotes.add_packet(alloc, passing)?;
         }
         let line = PacketLine::new(passing, self.replies);
-        self.unmatched.take(alloc, line, &step.part.made)?;
+        self.unmatched.add_packet(alloc, line, &step.part.made)?;
         self.output.take(rt, config, passing, &mut self.page.text)?;
         self.page.write_if_full(rt)?;
         self.progress.print(rt, number);

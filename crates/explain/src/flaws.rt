@@ -68,8 +68,8 @@ impl StepBack {
         }
     }
 
-    /// Takes the next packet.
-    pub fn take(&mut self, number: u64, input: &Input) {
+    /// Adds the next packet.
+    pub fn add_packet(&mut self, number: u64, input: &Input) {
         let time = input.time;
         let Some(far) = self.latest.time.checked_sub(time) else {
             self.latest = Stamp { number, time };

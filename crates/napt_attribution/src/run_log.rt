@@ -102,7 +102,7 @@ impl<R: Files + Print + Eprint + AllocGlobal, W: Write + Drop> CommandOutput<R> 
         }
         if let Some(report) = &mut self.report {
             report.counts.count(&passing.step.outcome);
-            report.coverage.take(passing.input, passing.step);
+            report.coverage.count_packet(passing.input, passing.step);
         }
         self.log.take(rt, config, passing)
     }

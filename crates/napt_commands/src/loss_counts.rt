@@ -42,7 +42,7 @@ impl LossCounts {
     }
 
     /// Counts the next packet.
-    pub fn take(&mut self, config: &Config, input: &Input, outcome: &Outcome) {
+    pub fn count_packet(&mut self, config: &Config, input: &Input, outcome: &Outcome) {
         if input.side == Side::Inside {
             self.inside = self.inside.saturating_add(1);
             if let SourceKind::Inside = SourceKind::from_datagram(config, &input.bytes) {

@@ -86,8 +86,8 @@ impl Remotes {
         Exit::OtherNumbers
     }
 
-    /// Takes the next packet.
-    pub fn take(&mut self, alloc: Global, passing: RunPacket<'_>) -> Result<(), AllocError> {
+    /// Adds the next packet.
+    pub fn add_packet(&mut self, alloc: Global, passing: RunPacket<'_>) -> Result<(), AllocError> {
         let step = passing.step;
         for listed in &step.part.ended {
             self.of_bindings.remove(&listed.number);

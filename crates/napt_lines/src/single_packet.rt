@@ -105,7 +105,7 @@ impl<R: Print + Eprint + AllocGlobal> CommandOutput<R> for SinglePacket<'_> {
             return Ok(());
         }
         let mut widths = ColumnWidths::default();
-        widths.take(number, input);
+        widths.widen_for(number, input);
         line.add(rt.alloc(), text, widths)?;
         self.out = step.part.used.out.map(UsedBinding::new);
         self.into = step.part.used.into.map(UsedBinding::new);

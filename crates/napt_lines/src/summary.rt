@@ -145,7 +145,7 @@ impl<R: Print + AllocGlobal> CommandOutput<R> for PacketLines<'_> {
             step,
         } = passing;
         self.counts.count(&step.outcome);
-        self.widths.take(number, input);
+        self.widths.widen_for(number, input);
         for listed in &step.part.ended {
             if self.has_chosen(&listed.entry) {
                 add_end(text, self.widths, &listed.entry)?;

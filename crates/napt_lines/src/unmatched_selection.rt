@@ -20,8 +20,8 @@ impl UnmatchedSelection {
         unmatched
     }
 
-    /// Takes the next packet, and the bindings that it made.
-    pub fn take(
+    /// Adds the next packet, and the bindings that it made.
+    pub fn add_packet(
         &mut self,
         alloc: Global,
         line: PacketLine<'_>,
