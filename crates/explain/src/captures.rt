@@ -2,11 +2,11 @@
 
 ghost use Rattle.std.specs.Prelude.{◌-◌, ◌^◌, ◌<◌};
 
-use crate::flaws::{ConfigAdvice, StepBack};
+use crate::flaws::{CaptureFlaws, StepBack};
 use crate::options::ExplainOptions;
 use crate::refusals;
 use napt_capture::{CaptureFault, RecordReader, Source};
-use napt_commands::{Consumer, Exit};
+use napt_commands::{Exit, PacketConsumer};
 use napt_config::Config;
 use napt_display::reasons::SplitAdvice;
 use napt_program::Stop;
@@ -138,7 +138,7 @@ pub struct CaptureInputs<'r, 'i, 'o, A: Source, B: Source> {
 
 impl<'r, 'i, 'o, A: Source, B: Source> CaptureInputs<'r, 'i, 'o, A, B> {
     /// Returns the packets of captures whose headers have been read, for a run that starts at this time, in ns.
-    pub fn of(
+    pub fn new(
         alloc: Global,
         refusing: RefusedRun<'r>,
         clock: u64,
@@ -157,7 +157,7 @@ impl<'r, 'i, 'o, A: Source, B: Source> CaptureInputs<'r, 'i, 'o, A, B> {
 
     /// Passes the packets to a consumer, one after another, until the end. If a capture is refused, prints why, after
     /// the consumer's output for the packets before.
-    pub fn hand_over<R: Eprint + AllocGlobal, C: Consumer<R>>(
+    pub fn pass_to<R: Eprint + AllocGlobal, C: PacketConsumer<R>>(
         &mut self,
         rt: &R,
         consumer: &mut C,
@@ -175,7 +175,7 @@ impl<'r, 'i, 'o, A: Source, B: Source> CaptureInputs<'r, 'i, 'o, A, B> {
                     return Err(self.refuse(rt, fault));
                 }
             };
-            self.back.take(number, &input);
+            self.back.add_packet(number, &input);
             consumer.take(rt, number, &input)?;
             spare = input.bytes;
         }
@@ -183,12 +183,12 @@ impl<'r, 'i, 'o, A: Source, B: Source> CaptureInputs<'r, 'i, 'o, A, B> {
     }
 
     /// Returns all packets. If a capture is refused, prints why.
-    pub fn all<R: Eprint + AllocGlobal>(&mut self, rt: &R) -> Result<Vec<Input>, Exit> {
+    pub fn read_all<R: Eprint + AllocGlobal>(&mut self, rt: &R) -> Result<Vec<Input>, Exit> {
         let mut inputs = Vec::new(rt.alloc());
         for number in 1..u64::MAX {
             match self.packets.next(Vec::new(rt.alloc())) {
                 Ok(Some(input)) => {
-                    self.back.take(number, &input);
+                    self.back.add_packet(number, &input);
                     inputs.push(input)?;
                 }
                 Ok(None) => return Ok(inputs),
@@ -199,11 +199,11 @@ impl<'r, 'i, 'o, A: Source, B: Source> CaptureInputs<'r, 'i, 'o, A, B> {
     }
 
     /// Returns the flaws of the captures, once their ends have been reached.
-    pub fn flaws(&self) -> ConfigAdvice {
-        ConfigAdvice {
+    pub fn flaws(&self) -> CaptureFlaws {
+        CaptureFlaws {
             cuts: self.packets.cuts(),
-            holds: self.refusing.options.outside,
-            back: self.back,
+            outside: self.refusing.options.outside,
+            step_back: self.back,
         }
     }
 

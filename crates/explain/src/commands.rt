@@ -15,7 +15,7 @@ const SHOW: &str =
 
 const WHO: &str =
     "Prints who held an external endpoint, or any port of an address: a line for each inside endpoint, with its protocol and \
-the times from and until when; the status is 1 if nobody held it";
+the times at which it got and lost the external endpoint; the status is 1 if nobody held it";
 
 const LOG: &str =
     "Writes the log of the run in CSV to standard output (docs/FORMATS.md). It has a row when a binding \
@@ -40,7 +40,7 @@ const REPLIES: &str =
 inside endpoint has in this run at that time (docs/FORMATS.md)";
 
 const AT: &str =
-    "The time asked about: seconds since 1970, as in the lines, or an RFC 3339 date such as 2026-11-26T10:02:07Z. \
+    "The time in question: seconds since 1970, as in the lines, or an RFC 3339 date such as 2026-11-26T10:02:07Z. \
 That date means the whole second; with nine decimals it means one nanosecond [default: any time]";
 
 const REQUESTS: &str =
@@ -51,22 +51,22 @@ const FROM_LOG: &str =
     "Answers from this log, or the pieces of one in their order, in place of captures; --config gives the pool";
 
 const AS_NAPT: &str =
-    "Uses the run that napt makes from the captures, whatever numbers the captured gateway used";
+    "Uses the run that napt makes from the captures, even if the captured gateway used other numbers";
 
 const HOST: &str =
     "Prints only the packets and bindings with this address or endpoint, inside or external";
 
 const PAIRS: &str =
-    "Prints a [[pair]] for each host that has a live binding in a state, and that this configuration would give another \
-external address: with these it keeps its bindings (at most 256, as many as a configuration has)";
+    "Prints a [[pair]] for each host that has a live binding in a state and would get another external address from this \
+configuration. With these pairs the configuration keeps the bindings (at most 256, the limit of a configuration)";
 
 const ENDED: &str =
-    "Bindings of the state that the configuration cannot keep end at the start; all others go on";
+    "Ends at the start the bindings of the state that the configuration cannot keep; all others go on";
 
-const WRITTEN: &str = "File to write, which nothing else may name";
+const WRITTEN: &str = "File to write, which no other argument may name";
 
 const LOG_WRITTEN: &str =
-    "File to write the log to, which may have no text and which nothing else may name";
+    "File to write the log to, which must be empty or new, and which no other argument may name";
 
 const REPORT: &str =
     "File for the report of the same run, as napt writes it; what the captures cannot show is then printed on standard error";
@@ -76,7 +76,7 @@ const PACKETS: &str =
 numbers of the bindings through which it went out and came in";
 
 const NOT_WRITTEN: &str =
-    "Never written: accepted as an option of napt or stream, and refused if that would refuse it";
+    "Never written: accepted where napt or stream accepts it, and refused where that refuses it";
 
 const RESUMED: &str =
     "State from which the run goes on, as napt and stream save it [default: a new run]";
@@ -92,7 +92,7 @@ pub struct CommandTexts {
 
 impl CommandTexts {
     /// Takes the words of a call, and adds `show` if they begin with an option or if there are none.
-    pub fn of(alloc: Global, given: Vec<String>) -> Result<CommandTexts, AllocError> {
+    pub fn from_words(alloc: Global, given: Vec<String>) -> Result<CommandTexts, AllocError> {
         let is_named = given.get(1).is_some_and(|word| is_name(word));
         let mut list = Vec::new(alloc);
         for word in given {
@@ -105,7 +105,7 @@ impl CommandTexts {
     }
 
     /// Returns the command that the words name, if `napt-analysis` has it.
-    pub fn moved(&self) -> Option<&'static str> {
+    pub fn moved_command(&self) -> Option<&'static str> {
         let command = self.list.get(1)?.as_str();
         MOVED.iter().find(|name| **name == command).copied()
     }
@@ -143,13 +143,14 @@ impl CommandTexts {
     }
 }
 
-/// Whether the first word of a call names a command, or requests the help of all commands or the version.
+/// Returns whether the first word of a call names a command, or requests the help of all commands
+/// or the version.
 fn is_name(word: &str) -> bool {
     !word.starts_with('-') || matches!(word, "-h" | "--help" | "-V" | "--version")
 }
 
 fn show<'a>(alloc: Global, is_named: bool) -> Result<Command<'a>, AllocError> {
-    let show = chosen(alloc, configured(alloc, "show", SHOW)?)?.arg(flag(
+    let show = with_selection(alloc, configured(alloc, "show", SHOW)?)?.arg(flag(
         alloc,
         "json",
         "Prints only a JSON object for each packet, on a line of its own (docs/FORMATS.md)",
@@ -166,7 +167,7 @@ fn show<'a>(alloc: Global, is_named: bool) -> Result<Command<'a>, AllocError> {
 }
 
 fn who<'a>(alloc: Global) -> Result<Command<'a>, AllocError> {
-    let endpoint = word(
+    let endpoint = argument(
         alloc,
         "endpoint",
         "ADDRESS[:PORT]",
@@ -208,7 +209,7 @@ fn log<'a>(alloc: Global) -> Result<Command<'a>, AllocError> {
 }
 
 fn compare<'a>(alloc: Global) -> Result<Command<'a>, AllocError> {
-    chosen(alloc, configured(alloc, "compare", COMPARE)?)?.arg(word(
+    with_selection(alloc, configured(alloc, "compare", COMPARE)?)?.arg(argument(
         alloc,
         "other",
         "FILE",
@@ -223,18 +224,18 @@ fn follow<'a>(alloc: Global) -> Result<Command<'a>, AllocError> {
         .arg(resume(alloc).hide(true))?
         .arg(inside(alloc))?
         .arg(value(alloc, "replies", "FILE", REPLIES).required(true))?
-        .arg(word(alloc, "file", "FILE", WRITTEN))
+        .arg(argument(alloc, "file", "FILE", WRITTEN))
 }
 
 /// A command over captures under a configuration.
 fn configured<'a>(alloc: Global, name: &'a str, about: &'a str) -> Result<Command<'a>, AllocError> {
     let command = Command::new(alloc, name).about(about).arg(config(alloc))?;
     let command = command.arg(resume(alloc))?;
-    captured(alloc, command.arg(flag(alloc, "end-misfits", ENDED))?)
+    with_captures(alloc, command.arg(flag(alloc, "end-misfits", ENDED))?)
 }
 
 /// Adds the options that name captures.
-fn captured<'a>(alloc: Global, command: Command<'a>) -> Result<Command<'a>, AllocError> {
+fn with_captures<'a>(alloc: Global, command: Command<'a>) -> Result<Command<'a>, AllocError> {
     command
         .arg(inside(alloc))?
         .arg(value(
@@ -247,7 +248,7 @@ fn captured<'a>(alloc: Global, command: Command<'a>) -> Result<Command<'a>, Allo
 }
 
 /// Adds the options that select packets.
-fn chosen<'a>(alloc: Global, command: Command<'a>) -> Result<Command<'a>, AllocError> {
+fn with_selection<'a>(alloc: Global, command: Command<'a>) -> Result<Command<'a>, AllocError> {
     command
         .arg(flag(alloc, "dropped", "Prints only dropped packets"))?
         .arg(value(
@@ -287,11 +288,13 @@ fn flag<'a>(alloc: Global, name: &'a str, meaning: &'a str) -> Arg<'a> {
 
 /// An option with a value.
 fn value<'a>(alloc: Global, name: &'a str, value: &'a str, meaning: &'a str) -> Arg<'a> {
-    word(alloc, name, value, meaning).long(name).required(false)
+    argument(alloc, name, value, meaning)
+        .long(name)
+        .required(false)
 }
 
 /// A required word without an option.
-fn word<'a>(alloc: Global, name: &'a str, value: &'a str, meaning: &'a str) -> Arg<'a> {
+fn argument<'a>(alloc: Global, name: &'a str, value: &'a str, meaning: &'a str) -> Arg<'a> {
     Arg::new(alloc, name)
         .action(ArgAction::Set)
         .value_name(value)

@@ -1,12 +1,13 @@
 //! A run in progress, for one command.
 
-use crate::flaws::ConfigAdvice;
+use crate::flaws::CaptureFlaws;
 use crate::options::ExplainOptions;
 use crate::progress::ExplainProgress;
 use napt_account::{LogEntry, LoggedRun, OpenLog, RunFromState};
 use napt_attribution::LogOpening;
 use napt_commands::{
-    CommandOutput, Consumer, EndedRun, Exit, LossCounts, Page, RunPacket, RunStart, print_warning,
+    CommandOutput, EndedRun, Exit, LossCounts, PacketConsumer, Page, RunPacket, RunStart,
+    print_warning,
 };
 use napt_lines::{PacketLine, Remotes, Replies, UnmatchedSelection};
 use napt_sequential::Input;
@@ -28,7 +29,7 @@ pub struct BegunRun<'a> {
 
 impl<'a> BegunRun<'a> {
     /// Returns the run of a start, before its first packet.
-    pub fn of(alloc: Global, start: &RunStart<'a>) -> Result<BegunRun<'a>, AllocError> {
+    pub fn from_start(alloc: Global, start: &RunStart<'a>) -> Result<BegunRun<'a>, AllocError> {
         let RunFromState {
             run,
             before,
@@ -91,8 +92,8 @@ impl<'a, 'b, O: Drop> Explanation<'a, 'b, O> {
             losses: LossCounts::new(alloc, begun.run.config())?,
             remotes: Remotes::new(alloc),
             replies,
-            unmatched: UnmatchedSelection::of(options.choice, &begun.run.living(alloc)?),
-            progress: ExplainProgress::of(rt),
+            unmatched: UnmatchedSelection::new(options.choice, &begun.run.living(alloc)?),
+            progress: ExplainProgress::new(rt),
             page: Page::new(alloc),
             packets: 0,
             first: begun.clock,
@@ -105,7 +106,7 @@ impl<'a, 'b, O: Drop> Explanation<'a, 'b, O> {
     pub fn end<R: Print + Eprint + AllocGlobal>(
         self,
         rt: &R,
-        flaws: ConfigAdvice,
+        flaws: CaptureFlaws,
     ) -> Result<(), Exit>
     where
         O: CommandOutput<R>,
@@ -136,7 +137,7 @@ impl<'a, 'b, O: Drop> Explanation<'a, 'b, O> {
             packets,
             first,
             last,
-            later: flaws.back.length(),
+            later: flaws.step_back.length(),
             cuts: flaws.cuts,
             are_answers: remotes.are_answers(&losses),
             losses,
@@ -148,7 +149,7 @@ impl<'a, 'b, O: Drop> Explanation<'a, 'b, O> {
     }
 }
 
-impl<R: Print + Eprint + AllocGlobal, O: CommandOutput<R> + Drop> Consumer<R>
+impl<R: Print + Eprint + AllocGlobal, O: CommandOutput<R> + Drop> PacketConsumer<R>
     for Explanation<'_, '_, O> {
     fn take(&mut self, rt: &R, number: u64, input: &Input) -> Result<(), Exit> {
         let alloc = rt.alloc();
@@ -167,12 +168,12 @@ impl<R: Print + Eprint + AllocGlobal, O: CommandOutput<R> + Drop> Consumer<R>
         };
         self.packets = number;
         self.last = self.last.max(input.clock);
-        self.losses.take(config, input, &step.outcome);
+        self.losses.count_packet(config, input, &step.outcome);
         if self.replies.is_none() {
-            self.remotes.take(alloc, passing)?;
+            self.remotes.add_packet(alloc, passing)?;
         }
-        let line = PacketLine::of(passing, self.replies);
-        self.unmatched.take(alloc, line, &step.part.made)?;
+        let line = PacketLine::new(passing, self.replies);
+        self.unmatched.add_packet(alloc, line, &step.part.made)?;
         self.output.take(rt, config, passing, &mut self.page.text)?;
         self.page.write_if_full(rt)?;
         self.progress.print(rt, number);

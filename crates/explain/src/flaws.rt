@@ -13,21 +13,21 @@ const SECOND: u64 = 1_000_000_000;
 
 /// The flaws of captures, once their ends have been reached.
 #[derive(Clone, Copy)]
-pub struct ConfigAdvice {
+pub struct CaptureFlaws {
     /// Whether each capture ends inside a record, which is ignored.
     pub cuts: CutFlags,
     /// What the outside capture contains.
-    pub holds: OutsideCapture,
-    pub back: StepBack,
+    pub outside: OutsideCapture,
+    pub step_back: StepBack,
 }
 
-impl ConfigAdvice {
+impl CaptureFlaws {
     /// Prints which captures end inside a record, whose last packet is ignored: on standard output if it is for people,
     /// and otherwise on standard error. A step back in time is always printed there.
     pub fn print<R: Print + Eprint>(self, rt: &R, form: OutputForm<'_>) -> Result<(), Exit> {
-        self.back.print(rt, form);
+        self.step_back.print(rt, form);
         let CutFlags { inside, outside } = self.cuts;
-        for (side, cut) in [("inside", inside), (self.holds.name(), outside)] {
+        for (side, cut) in [("inside", inside), (self.outside.name(), outside)] {
             if cut && form.is_for_people() {
                 println!(rt; "the capture {side} {CUT}")?;
             } else if cut {
@@ -68,8 +68,8 @@ impl StepBack {
         }
     }
 
-    /// Takes the next packet.
-    pub fn take(&mut self, number: u64, input: &Input) {
+    /// Adds the next packet.
+    pub fn add_packet(&mut self, number: u64, input: &Input) {
         let time = input.time;
         let Some(far) = self.latest.time.checked_sub(time) else {
             self.latest = Stamp { number, time };
@@ -93,7 +93,7 @@ impl StepBack {
             return;
         }
         self.print_step(rt);
-        if form.asks_times() {
+        if form.is_about_times() {
             let _ = eprintln!(rt;
                 "  each answer covers this much more time than was asked about, and names everybody who had the endpoint then"
             );

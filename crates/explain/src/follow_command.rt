@@ -4,7 +4,7 @@ ghost use Rattle.std.specs.Prelude.{◌≡◌, ◌-◌, ◌^◌, ◌<◌, OnOk};
 
 use napt_capture::{CaptureWriter, Sink, Watched, WriteFault};
 use napt_commands::{
-    CountedRun, Exit, OutsideCapture, RunStart, print_unwritten, print_warning, unexplained,
+    CountedRun, Exit, OutsideCapture, RunStart, print_unexplained, print_unwritten, print_warning,
 };
 use napt_sequential::Input;
 use napt_wire::Side;
@@ -54,7 +54,7 @@ pub fn follow<R: Files + Eprint + AllocGlobal>(
     let mut writer = sink.into_inner();
     match writer.flush() {
         Err(error) => Err(print_unwritten(rt, "FILE", path, &error)),
-        Ok(()) => Err(unexplained(rt, "FILE", path)),
+        Ok(()) => Err(print_unexplained(rt, "FILE", path)),
     }
 }
 

@@ -38,7 +38,7 @@ use std::{env, io};
 
 fn main(rt: HostRuntime) -> ExitCode {
     let streams = StandardStreams::open_now(&rt);
-    match called(&rt, streams) {
+    match run_as_called(&rt, streams) {
         Ok(()) => ExitCode::SUCCESS,
         Err(stop) => {
             stop.print(&rt);
@@ -48,24 +48,24 @@ fn main(rt: HostRuntime) -> ExitCode {
 }
 
 /// Runs the command of the command line, under the program's name in it.
-fn called(rt: &HostRuntime, streams: StandardStreams) -> Result<(), Exit> {
-    let call = ProgramCall::of(rt, streams, OWN.name);
+fn run_as_called(rt: &HostRuntime, streams: StandardStreams) -> Result<(), Exit> {
+    let call = ProgramCall::new(rt, streams, OWN.name);
     match call.as_called(rt, INSTALLED.name) {
-        Ok(call) => explained(rt, streams, call),
-        Err(stop) => Err(Exit::As(stop)),
+        Ok(call) => run_command(rt, streams, call),
+        Err(stop) => Err(Exit::Unprinted(stop)),
     }
 }
 
 /// Runs the command of the command line. Help and the version are printed at once; a usage error is printed and
 /// returned as an error.
-fn explained<R: Env + Files + Input + Print + Eprint + AllocGlobal>(
+fn run_command<R: Env + Files + Input + Print + Eprint + AllocGlobal>(
     rt: &R,
     streams: StandardStreams,
     call: ProgramCall,
 ) -> Result<(), Exit> {
-    let words = CommandTexts::of(rt.alloc(), arguments(rt)?)?;
+    let words = CommandTexts::from_words(rt.alloc(), arguments(rt)?)?;
     let manual = call.manual(OWN, INSTALLED);
-    if let Some(command) = words.moved() {
+    if let Some(command) = words.moved_command() {
         let _ = eprintln!(rt;
             "explain: {command} is a command of napt-analysis: napt-analysis {command} --help"
         );
@@ -79,9 +79,9 @@ fn explained<R: Env + Files + Input + Print + Eprint + AllocGlobal>(
     match matches.subcommand() {
         Some((command, given)) => {
             let options = options_of(rt, call, command, given)?;
-            explained_under(rt, streams, &options)
+            run_with_options(rt, streams, &options)
         }
-        None => Err(Exit::As(Stop::Usage)),
+        None => Err(Exit::Unprinted(Stop::Usage)),
     }
 }
 
@@ -95,9 +95,9 @@ fn arguments<R: Env + AllocGlobal>(rt: &R) -> Result<Vec<String>, Exit> {
             Ok(words)
         }
         Err(error) if error.kind() == io::ErrorKind::OutOfMemory => {
-            Err(Exit::As(Stop::LineMemory))
+            Err(Exit::Unprinted(Stop::LineMemory))
         }
-        Err(_) => Err(Exit::As(Stop::Usage)),
+        Err(_) => Err(Exit::Unprinted(Stop::Usage)),
     }
 }
 
@@ -109,7 +109,7 @@ fn print_message<R: Print + Eprint + AllocGlobal>(rt: &R, error: &Error) -> Resu
             rt.print(text)?;
             Ok(())
         }
-        ErrorKind::OutOfMemory => Err(Exit::As(Stop::LineMemory)),
+        ErrorKind::OutOfMemory => Err(Exit::Unprinted(Stop::LineMemory)),
         _ => {
             let _ = rt.eprint(text);
             Err(Exit::Printed(Stop::Usage))
@@ -118,7 +118,7 @@ fn print_message<R: Print + Eprint + AllocGlobal>(rt: &R, error: &Error) -> Resu
 }
 
 /// Runs a command with its options.
-fn explained_under<R: Files + Input + Print + Eprint + AllocGlobal>(
+fn run_with_options<R: Files + Input + Print + Eprint + AllocGlobal>(
     rt: &R,
     streams: StandardStreams,
     options: &ExplainOptions<'_>,
@@ -135,7 +135,7 @@ fn explained_under<R: Files + Input + Print + Eprint + AllocGlobal>(
         _ if options.is_of_gateway() && !options.shows_outside() => {
             print_without_outside(rt, streams, options)
         }
-        _ => explained_run(rt, streams, options, None),
+        _ => run_on_captures(rt, streams, options, None),
     }
 }
 
@@ -156,15 +156,15 @@ whether the gateway used the same numbers, or give --as-napt"
         );
         return Err(Exit::Printed(Stop::Usage));
     }
-    if options.is_without_captures() {
+    if options.has_no_captures() {
         let asked = requests_of(rt, options.form)?;
         return answer_by_blocks(rt, streams, &asked, &config);
     }
-    explained_run(rt, streams, options, Some(config))
+    run_on_captures(rt, streams, options, Some(config))
 }
 
 /// Reads the captures, and the configuration unless it has been read, and runs the command over them.
-fn explained_run<R: Files + Input + Print + Eprint + AllocGlobal>(
+fn run_on_captures<R: Files + Input + Print + Eprint + AllocGlobal>(
     rt: &R,
     streams: StandardStreams,
     options: &ExplainOptions<'_>,

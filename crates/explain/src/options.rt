@@ -32,14 +32,14 @@ pub struct ExplainOptions<'m> {
     pub form: OutputForm<'m>,
     pub choice: PacketSelection,
     /// Whether the question is about the run of `napt`, whatever numbers the captured gateway used.
-    pub is_of_napt: bool,
+    pub uses_napt_run: bool,
     /// Whether bindings of the state that the configuration cannot keep end at the start.
     pub ends_misfits: bool,
 }
 
 impl<'m> ExplainOptions<'m> {
     /// Returns the files of `napt`, with the name that the option of the outside capture has here.
-    pub fn named(&self) -> NamedFiles<'_> {
+    pub fn named_files(&self) -> NamedFiles<'_> {
         NamedFiles {
             files: &self.files,
             outside: self.outside.option(),
@@ -58,7 +58,7 @@ impl<'m> ExplainOptions<'m> {
         }
     }
 
-    /// Whether the log of `stream` would be standard output.
+    /// Returns whether the log of `stream` would be standard output.
     fn is_log_stream(&self) -> bool {
         match self.log {
             Some(path) => path == "-",
@@ -66,7 +66,7 @@ impl<'m> ExplainOptions<'m> {
         }
     }
 
-    /// Whether standard input is the configuration or one of the captures.
+    /// Returns whether standard input is the configuration or one of the captures.
     pub fn takes_input(&self) -> bool {
         let files = &self.files;
         files.is_stream(FileRole::Config)
@@ -74,19 +74,19 @@ impl<'m> ExplainOptions<'m> {
             || files.is_stream(FileRole::Outside)
     }
 
-    /// Whether there are packets from outside as the gateway received them.
+    /// Returns whether there are packets from outside as the gateway received them.
     pub fn shows_outside(&self) -> bool {
         self.outside == OutsideCapture::Packets && self.files.outside.is_some()
     }
 
-    /// Whether neither a capture nor a state is named.
-    pub fn is_without_captures(&self) -> bool {
+    /// Returns whether neither a capture nor a state is named.
+    pub fn has_no_captures(&self) -> bool {
         let files = &self.files;
         files.inside.is_none() && files.outside.is_none() && files.resume.is_none()
     }
 
     /// Returns why a state is refused whatever it contains, if it is.
-    fn why_anew(&self) -> Option<&'static str> {
+    fn state_refusal(&self) -> Option<&'static str> {
         match (self.form, self.outside) {
             (OutputForm::Blocks, _) => Some("blocks depend on the configuration alone"),
             (_, OutsideCapture::Replies) => Some("replies can only follow a new run"),
@@ -95,13 +95,13 @@ impl<'m> ExplainOptions<'m> {
         }
     }
 
-    /// Whether the output is about the captured gateway: who had which numbers.
+    /// Returns whether the output is about the captured gateway: who had which numbers.
     pub fn is_of_gateway(&self) -> bool {
         let is_asked = matches!(
             self.form,
             OutputForm::Holders(_) | OutputForm::Requests(_) | OutputForm::Log(_)
         );
-        is_asked && !self.is_of_napt
+        is_asked && !self.uses_napt_run
     }
 
     /// Returns how many of the other configuration, the pieces of a log and the file of requests are standard input.
@@ -149,7 +149,7 @@ impl<'m> OutputForm<'m> {
     }
 
     /// The name in messages of each file that `explain` alone writes, and its path, if there is one.
-    pub fn written(self) -> [(&'static str, Option<&'m str>); 2] {
+    pub fn written_files(self) -> [(&'static str, Option<&'m str>); 2] {
         match self {
             OutputForm::Log(paths) => [("--to", paths.log), ("--packets", paths.packets)],
             OutputForm::Followed(path) => [("FILE", Some(path)), ("", None)],
@@ -157,7 +157,7 @@ impl<'m> OutputForm<'m> {
         }
     }
 
-    /// Whether the output contains times of packets.
+    /// Returns whether the output contains times of packets.
     pub fn has_times(self) -> bool {
         let is_shown = matches!(
             self,
@@ -166,8 +166,8 @@ impl<'m> OutputForm<'m> {
         is_shown || matches!(self, OutputForm::Holders(_) | OutputForm::Requests(_))
     }
 
-    /// Whether the output is about times that were asked for.
-    pub fn asks_times(self) -> bool {
+    /// Returns whether the output is about times that were asked for.
+    pub fn is_about_times(self) -> bool {
         match self {
             OutputForm::Holders(request) => request.at.is_some(),
             OutputForm::Requests(_) => true,
@@ -175,7 +175,7 @@ impl<'m> OutputForm<'m> {
         }
     }
 
-    /// Whether the output is for people. Output for programs contains nothing else.
+    /// Returns whether the output is for people. Output for programs contains nothing else.
     pub fn is_for_people(self) -> bool {
         matches!(self, OutputForm::Lines | OutputForm::Differences)
     }
@@ -197,8 +197,8 @@ pub fn options_of<'m, R: Eprint + AllocGlobal>(
     let only = matches.get_str("only");
     let host = matches.get_str("host");
     let choice = PacketSelection {
-        only: parsed(rt, "--only ", only, only.map(number_of))?,
-        host: parsed(rt, "--host ", host, host.map(host_of))?,
+        only: parsed_value(rt, "--only ", only, only.map(number_of))?,
+        host: parsed_value(rt, "--host ", host, host.map(host_of))?,
         dropped: matches.get_flag("dropped"),
     };
     let options = ExplainOptions {
@@ -213,7 +213,7 @@ pub fn options_of<'m, R: Eprint + AllocGlobal>(
         other: file_of(alloc, matches, "other")?,
         form: form_of(rt, command, matches)?,
         choice,
-        is_of_napt: matches.get_flag("as-napt"),
+        uses_napt_run: matches.get_flag("as-napt"),
         ends_misfits: matches.get_flag("end-misfits"),
     };
     refuse_states(rt, matches, &options)?;
@@ -227,11 +227,11 @@ fn refuse_states<R: Eprint>(
     matches: &ArgMatches<'_>,
     options: &ExplainOptions<'_>,
 ) -> Result<(), Exit> {
-    if let (Some(path), Some(why)) = (matches.get_str("resume"), options.why_anew()) {
-        return Err(wrong(rt, "--resume ", path, why));
+    if let (Some(path), Some(why)) = (matches.get_str("resume"), options.state_refusal()) {
+        return Err(print_wrong_argument(rt, "--resume ", path, why));
     }
     if options.files.is_stream(FileRole::Save) {
-        return Err(wrong(rt, "--save ", "-", NO_FILE));
+        return Err(print_wrong_argument(rt, "--save ", "-", NO_FILE));
     }
     Ok(())
 }
@@ -246,7 +246,7 @@ fn refuse_pieces<R: Eprint>(
         return Ok(());
     };
     if options.log.is_none() || options.is_log_stream() {
-        return Err(wrong(
+        return Err(print_wrong_argument(
             rt,
             "--log-each ",
             each,
@@ -255,7 +255,7 @@ fn refuse_pieces<R: Eprint>(
     }
     match each.parse::<NonZeroU32>() {
         Ok(_) => Ok(()),
-        Err(_) => Err(wrong(
+        Err(_) => Err(print_wrong_argument(
             rt,
             "--log-each ",
             each,
@@ -289,9 +289,9 @@ fn form_of<'m, R: Eprint>(
 /// Returns the request of `who`.
 fn asked_of<'m, R: Eprint>(rt: &R, matches: &'m ArgMatches<'_>) -> Result<OutputForm<'m>, Exit> {
     let at = matches.get_str("at");
-    let at = parsed(rt, "--at ", at, at.map(moment_of))?;
+    let at = parsed_value(rt, "--at ", at, at.map(moment_of))?;
     let endpoint = matches.get_str("endpoint");
-    match parsed(rt, "", endpoint, endpoint.map(host_of))? {
+    match parsed_value(rt, "", endpoint, endpoint.map(host_of))? {
         Some(party) => Ok(OutputForm::Holders(Request {
             protocol: None,
             party,
@@ -344,14 +344,14 @@ fn file_of(
 }
 
 /// Prints what is wrong with an argument, after its name, and returns how the program stops.
-fn wrong<R: Eprint>(rt: &R, name: &str, text: &str, why: &str) -> Exit {
+fn print_wrong_argument<R: Eprint>(rt: &R, name: &str, text: &str, why: &str) -> Exit {
     let _ = eprintln!(rt; "explain: {name}{text}: {why}");
     Exit::Printed(Stop::Usage)
 }
 
 /// Returns the value of an argument that is present, as its text was parsed. If it is invalid, prints why, after its
 /// name.
-fn parsed<R: Eprint, T: Drop>(
+fn parsed_value<R: Eprint, T: Drop>(
     rt: &R,
     name: &str,
     given: Option<&str>,
@@ -359,7 +359,7 @@ fn parsed<R: Eprint, T: Drop>(
 ) -> Result<Option<T>, Exit> {
     match value {
         Some(Ok(value)) => Ok(Some(value)),
-        Some(Err(why)) => Err(wrong(rt, name, given.unwrap_or(""), why)),
+        Some(Err(why)) => Err(print_wrong_argument(rt, name, given.unwrap_or(""), why)),
         None => Ok(None),
     }
 }
@@ -378,7 +378,7 @@ fn host_of(text: &str) -> Result<Party, &'static str> {
 }
 
 fn moment_of(text: &str) -> Result<TimeSpan, &'static str> {
-    span_of(text).map_err(|no_time| no_time.words(
+    span_of(text).map_err(|no_time| no_time.message(
         "expected seconds since 1970, as 90 or 1.5, or a date, as 2026-11-26T10:02:07Z",
     ))
 }

@@ -3,7 +3,9 @@
 
 use crate::options::ExplainOptions;
 use napt_commands::{Exit, unwritten};
-use napt_program::{FileRole, Stop, closed_text, is_same, place_of, same_file_text, shared_text};
+use napt_program::{
+    FileRole, Stop, closed_text, is_same, location_of, same_file_text, shared_text,
+};
 use std::alloc::AllocError;
 use std::fs;
 use std::rt::Files;
@@ -14,14 +16,14 @@ pub fn print_file<R: Files + Eprint + AllocGlobal>(
     options: &ExplainOptions<'_>,
     role: FileRole,
 ) -> Exit {
-    match print_if(rt, options.named().reason(rt, rt.alloc(), role)) {
+    match print_if_some(rt, options.named_files().reason(rt, rt.alloc(), role)) {
         Ok(_) => Exit::Printed(Stop::File(role)),
         Err(refused) => Exit::from(refused),
     }
 }
 
 /// Prints a reason, if there is one, and returns whether there is.
-fn print_if<R: Eprint>(
+fn print_if_some<R: Eprint>(
     rt: &R,
     reason: Result<Option<String>, AllocError>,
 ) -> Result<bool, AllocError> {
@@ -42,7 +44,7 @@ fn print_again<R: Eprint + AllocGlobal>(
     other: &str,
 ) -> Result<bool, AllocError> {
     let text = same_file_text(rt.alloc(), name, path, other)?;
-    print_if(rt, Ok(Some(text)))
+    print_if_some(rt, Ok(Some(text)))
 }
 
 /// Prints that the standard stream for a role is closed, and returns how `napt` would stop.
@@ -71,7 +73,7 @@ pub fn refuse_written<R: Files + Eprint + AllocGlobal>(
     rt: &R,
     options: &ExplainOptions<'_>,
 ) -> Result<(), Exit> {
-    let written = options.form.written();
+    let written = options.form.written_files();
     for (name, path) in written {
         if let Some(path) = path
             && print_unwritable(rt, options, name, path)?
@@ -81,7 +83,7 @@ pub fn refuse_written<R: Files + Eprint + AllocGlobal>(
     }
     match written {
         [(first, Some(one)), (second, Some(other))]
-            if is_same(place_of(rt, one), place_of(rt, other)) => {
+            if is_same(location_of(rt, one), location_of(rt, other)) => {
             print_again(rt, second, other, first)?;
             Err(unwritten())
         }
@@ -99,9 +101,11 @@ fn print_unwritable<R: Files + Eprint + AllocGlobal>(
     if path == "-" {
         return print_again(rt, name, path, "standard output");
     }
-    if print_if(
+    if print_if_some(
         rt,
-        options.named().output_reason(rt, rt.alloc(), name, path),
+        options
+            .named_files()
+            .output_reason(rt, rt.alloc(), name, path),
     )? {
         return Ok(true);
     }
@@ -124,7 +128,7 @@ pub fn refuse_log<R: Files + Eprint + AllocGlobal>(
     let Some(path) = options.log else {
         return Ok(());
     };
-    match print_if(rt, options.named().log_reason(rt, rt.alloc(), path))? {
+    match print_if_some(rt, options.named_files().log_reason(rt, rt.alloc(), path))? {
         true => Err(Exit::Printed(Stop::File(FileRole::Log))),
         false => Ok(()),
     }

@@ -15,7 +15,7 @@ pub struct ExplainProgress {
 impl ExplainProgress {
     /// Reports progress if standard error is a terminal and standard output is not. On a terminal the lines themselves
     /// show the progress.
-    pub fn of<R: Files + AllocGlobal>(rt: &R) -> ExplainProgress {
+    pub fn new<R: Files + AllocGlobal>(rt: &R) -> ExplainProgress {
         ExplainProgress {
             is_printed: is_terminal(rt, "/proc/self/fd/2") && !is_terminal(rt, "/proc/self/fd/1"),
         }
@@ -36,7 +36,7 @@ impl ExplainProgress {
     }
 }
 
-/// Whether a stream of this process is a terminal, by the name of its file in Linux.
+/// Returns whether a stream of this process is a terminal, by the name of its file in Linux.
 fn is_terminal<R: Files + AllocGlobal>(rt: &R, stream: &str) -> bool {
     let Ok(path) = fs::read_link(rt, stream) else {
         return false;

@@ -7,8 +7,8 @@ use napt_attribution::{HolderRequest, answer_by_log, requests_at};
 use napt_commands::{Exit, RunStart, print_failed, text_at};
 use napt_config::{Config, ConfigFault, ConfigPlace};
 use napt_program::{
-    FileRole, InputFiles, MEMORY, StandardStreams, Stop, closed_stream, open_inputs, print_ended,
-    refuse_unmade,
+    FileRole, InputFiles, MEMORY, StandardStreams, Stop, closed_stream, open_inputs,
+    print_ended_bindings, refuse_unmade,
 };
 use napt_rules::StateBinding;
 use napt_state::{SavedBinding, StateFileContents, TakenState, read_state};
@@ -71,7 +71,7 @@ impl GivenLog {
         let saved = saved_at(rt, options)?;
         let other = match &self.other {
             Some(config) => {
-                let saved = copied(rt.alloc(), &saved)?;
+                let saved = copy_without_accounts(rt.alloc(), &saved)?;
                 Some(start_under(rt, options, config, saved)?)
             }
             None => None,
@@ -126,7 +126,7 @@ pub fn saved_at<R: Files + Eprint + AllocGlobal>(
             return Err(Exit::Printed(Stop::File(FileRole::Resume)));
         }
     };
-    let reader = BufReader::new(alloc, file).map_err(|_| Exit::As(MEMORY))?;
+    let reader = BufReader::new(alloc, file).map_err(|_| Exit::Unprinted(MEMORY))?;
     match read_state(alloc, reader) {
         Ok(saved) => Ok(saved),
         Err(fault) => Err(refusals::print_state(rt, path, &fault)),
@@ -147,7 +147,7 @@ fn start_under<'a, R: Eprint + AllocGlobal>(
             if !log.is_valid(rt.alloc(), &state)? {
                 return Err(refusals::print_accounts(rt, path));
             }
-            print_ended(rt, "explain", ended);
+            print_ended_bindings(rt, "explain", ended);
             Ok(RunStart::new(config, state, log))
         }
         Err((row, misfit)) => Err(refusals::print_binding(rt, path, row, misfit)),
@@ -155,7 +155,10 @@ fn start_under<'a, R: Eprint + AllocGlobal>(
 }
 
 /// Returns a copy of the contents without accounts.
-fn copied(alloc: Global, saved: &StateFileContents) -> Result<StateFileContents, AllocError> {
+fn copy_without_accounts(
+    alloc: Global,
+    saved: &StateFileContents,
+) -> Result<StateFileContents, AllocError> {
     let mut copy = StateFileContents::new(alloc, saved.clock);
     for binding in &saved.bindings {
         copy.bindings.push(match binding {
@@ -176,7 +179,7 @@ fn refuse_shared<R: Eprint + AllocGlobal>(
     options: &ExplainOptions<'_>,
 ) -> Result<(), Exit> {
     if let Some(role) = options.repeated_stream() {
-        return Err(print_shared(rt, options.named().option_of(role), role));
+        return Err(print_shared(rt, options.named_files().option_of(role), role));
     }
     refuse_more_input(
         rt,
@@ -210,7 +213,7 @@ fn explain_file<R: Files + Eprint + AllocGlobal, T: Drop>(
     match opened {
         Ok(opened) => Ok(opened),
         Err(Stop::File(role)) => Err(print_file(rt, options, role)),
-        Err(stop) => Err(Exit::As(stop)),
+        Err(stop) => Err(Exit::Unprinted(stop)),
     }
 }
 
@@ -224,7 +227,7 @@ pub fn configuration<R: Files + Input + Eprint + AllocGlobal>(
     }
     match Config::built_in(rt.alloc()) {
         Ok(config) => Ok(config),
-        Err(_) => Err(Exit::As(Stop::Config(ConfigFault::Memory))),
+        Err(_) => Err(Exit::Unprinted(Stop::Config(ConfigFault::Memory))),
     }
 }
 
@@ -248,7 +251,9 @@ pub fn requests_of<R: Files + Input + Eprint + AllocGlobal>(
     form: OutputForm<'_>,
 ) -> Result<Vec<HolderRequest>, Exit> {
     match form {
-        OutputForm::Holders(request) => Ok(vec![in rt.alloc(); HolderRequest::of(request)]?),
+        OutputForm::Holders(request) => Ok(vec![in rt.alloc();
+            HolderRequest::from_request(request),
+        ]?),
         OutputForm::Requests(path) => requests_at(rt, path),
         _ => Ok(Vec::new(rt.alloc())),
     }

@@ -47,7 +47,9 @@ pub fn print_state<R: Eprint>(rt: &R, path: &str, fault: &StateFault) -> Exit {
 
 /// Prints that the accounts of the state at a path are those of no log, and returns how `napt` would stop.
 pub fn print_accounts<R: Eprint>(rt: &R, path: &str) -> Exit {
-    let _ = eprintln!(rt; "the state {path} is refused: numbers that no log has");
+    let _ = eprintln!(rt;
+        "the state {path} is refused: its bindings have numbers that no log can have"
+    );
     Exit::Printed(Stop::File(FileRole::Resume))
 }
 

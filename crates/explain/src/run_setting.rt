@@ -7,8 +7,10 @@ use crate::options::{ExplainOptions, OutputForm};
 use crate::reading::{GivenLog, RunStarts};
 use napt_attribution::{Holders, begin_run_log};
 use napt_capture::{EmptySource, Source, Watched};
-use napt_commands::{CommandOutput, Exit, RunStart, take_all};
-use napt_lines::{PacketLines, PacketObjects, Replies, RunComparison, SinglePacket, ends_of};
+use napt_commands::{CommandOutput, Exit, RunStart, pass_all};
+use napt_lines::{
+    PacketLines, PacketObjects, Replies, RunComparison, SinglePacket, inside_endpoints_of,
+};
 use napt_program::{InputFiles, StandardStreams, print_new_entries};
 use napt_sequential::Input;
 use napt_wire::Side;
@@ -81,7 +83,7 @@ impl<'a> RunSetting<'a> {
         outside: OpenCaptures<'_, B>,
     ) -> Result<(), Exit> {
         let clock = self.starts.first.clock();
-        let mut captures = CaptureInputs::of(rt.alloc(), self.refusing(), clock, inside, outside);
+        let mut captures = CaptureInputs::new(rt.alloc(), self.refusing(), clock, inside, outside);
         let answer = self.explain(rt, &mut captures);
         captures.close();
         answer
@@ -114,10 +116,10 @@ impl<'a> RunSetting<'a> {
         let first = &self.starts.first;
         let mut against = RunComparison::begin(rt.alloc(), options.choice, first, other)?;
         if options.outside.follows() {
-            let inputs = captures.all(rt)?;
+            let inputs = captures.read_all(rt)?;
             against.follow(rt, options.outside, &inputs)?;
         } else {
-            captures.hand_over(rt, &mut against)?;
+            captures.pass_to(rt, &mut against)?;
         }
         captures.flaws().print(rt, options.form)?;
         let path = options.files.config.as_ref();
@@ -136,10 +138,10 @@ impl<'a> RunSetting<'a> {
         if !options.outside.follows() {
             return self.explain_packets(rt, captures, None, None);
         }
-        let mut inputs = captures.all(rt)?;
-        let ends = ends_of(rt.alloc(), &mut inputs)?;
+        let mut inputs = captures.read_all(rt)?;
+        let ends = inside_endpoints_of(rt.alloc(), &mut inputs)?;
         let inputs = options.outside.inputs_under(rt.alloc(), config, inputs)?;
-        let replies = Replies::of(options.outside, config, &ends);
+        let replies = Replies::new(options.outside, config, &ends);
         self.explain_packets(rt, captures, Some(inputs.as_slice()), replies)
     }
 
@@ -153,7 +155,7 @@ impl<'a> RunSetting<'a> {
     ) -> Result<(), Exit> {
         let (options, start) = (self.options, &self.starts.first);
         let (alloc, choice) = (rt.alloc(), options.choice);
-        let begun = BegunRun::of(alloc, start)?;
+        let begun = BegunRun::from_start(alloc, start)?;
         let packets = RunPackets {
             options,
             kept,
@@ -172,7 +174,7 @@ impl<'a> RunSetting<'a> {
                 packets.explain(rt, captures, begun, log)
             }
             (OutputForm::Holders(_) | OutputForm::Requests(_), _) => {
-                let mut holders = Holders::of(alloc, &self.given.asked)?;
+                let mut holders = Holders::new(alloc, &self.given.asked)?;
                 holders.add(&begun.ended)?;
                 packets.explain(rt, captures, begun, holders)
             }
@@ -192,7 +194,7 @@ impl<'a> RunSetting<'a> {
         path: &str,
     ) -> Result<(), Exit> {
         let (options, start) = (self.options, &self.starts.first);
-        let inputs = captures.all(rt)?;
+        let inputs = captures.read_all(rt)?;
         let inputs = options
             .outside
             .inputs_under(rt.alloc(), start.config(), inputs)?;
@@ -223,8 +225,8 @@ impl<'a, 'i, 'k> RunPackets<'a, 'i, 'k> {
     {
         let mut explanation = Explanation::begin(rt, self.options, begun, self.replies, output)?;
         match self.kept {
-            None => captures.hand_over(rt, &mut explanation)?,
-            Some(inputs) => take_all(rt, inputs, &mut explanation)?,
+            None => captures.pass_to(rt, &mut explanation)?,
+            Some(inputs) => pass_all(rt, inputs, &mut explanation)?,
         }
         explanation.end(rt, captures.flaws())
     }

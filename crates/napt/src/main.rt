@@ -8,8 +8,8 @@ use std::process::ExitCode;
 
 fn main(rt: HostRuntime) -> ExitCode {
     let streams = StandardStreams::open_now(&rt);
-    let call = ProgramCall::of(&rt, streams, "napt");
+    let call = ProgramCall::new(&rt, streams, "napt");
     let mut reason = StopReason::new(call.at_terminal);
     let answer = program::serve(&rt, streams, call, &mut reason);
-    call.ended(&rt, &answer, &reason)
+    call.finish(&rt, &answer, &reason)
 }

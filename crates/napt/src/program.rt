@@ -4,7 +4,7 @@ ghost use Rattle.std.specs.Prelude.{◌≡◌, IfErr, IfOk, IfSome, OnOk, is_som
 ghost use Rattle.napt_dispatch.specs.RunsThrough.{LeavesState};
 ghost use Rattle.napt_rules.specs.Prelude.{State, TakesState};
 ghost use Rattle.napt_state.specs.Saved.{IsSavedState};
-ghost use Rattle.napt_program.specs.{CommandLine.{files_with_log, line_of_words}, Command.{IsLineStop, IsRunStop, LineIsTaken, IsStopUnderOpenGate}, declared.streams.StandardStreams.StandardStreams as Known};
+ghost use Rattle.napt_program.specs.{CommandLine.{files_with_log, line_of_words}, Command.{IsLineStop, IsRunStop, LineIsAccepted, IsStopUnderOpenGate}, declared.streams.StandardStreams.StandardStreams as Known};
 
 use napt_config::Config;
 use napt_pool::OpenGate;
@@ -38,7 +38,7 @@ pub fn serve<R: ProgramHost>(
     let mut call = call.with_misfits(&mut words);
     if take_verbose(&mut words) {
         reason.is_requested = true;
-        call = call.verbose();
+        call = call.with_verbose();
     }
     serve_words(rt, streams, call, words, reason)
 }
@@ -52,7 +52,7 @@ pub fn serve_words<R: ProgramHost>(
     words: Vec<String>,
     reason: &mut StopReason,
 ) -> Result<(), Stop>
-    ensures taken { OnOk result (LineIsTaken (line_of_words (map string_bytes words.items))) }
+    ensures taken { OnOk result (LineIsAccepted (line_of_words (map string_bytes words.items))) }
     ensures stop { IfErr result
         (IsLineStop streams (line_of_words (map string_bytes words.items))) }
 {
@@ -89,7 +89,7 @@ fn run<R: ProgramHost>(
         save,
         ..
     } = open(rt, streams, options, &mut reason.place, call.ends_misfits)?;
-    call.print_ended(rt, ended);
+    call.print_ended_bindings(rt, ended);
     let start = Start {
         config: &config,
         state: &state,

@@ -5,7 +5,7 @@ use Rattle.std.specs.{BTreeMap.{BTreeMap, InsertsAll, IsOrdered, get, is_at}, Cm
 use Rattle.napt_rules.specs.Prelude.{Each}
 use Rattle.napt_account.specs.{declared.log.{Entry.Entry, LogEntry.LogEntry}, LogParts.Rises}
 use Rattle.napt_account.proofs.Rising.{rises_above, rises_filter, rises_mapped}
-use Rattle.napt_attribution.specs.{RequestParties.{is_asked_about, is_wanted}, SavedLogs.{Keeps, asked_entries, entry_of, entry_with_end, has_no_end, is_ended_and_asked, passing}, declared.{requests.HolderRequest.HolderRequest, kept_entries.KeptEntries.KeptEntries, wanted_endpoints.WantedEndpoints.WantedEndpoints}}
+use Rattle.napt_attribution.specs.{RequestParties.{is_asked_about, is_wanted}, SavedLogs.{TracksEntries, asked_entries, entry_of, entry_with_end, has_no_end, is_ended_and_asked, entry_if}, declared.{requests.HolderRequest.HolderRequest, kept_entries.KeptEntries.KeptEntries, wanted_endpoints.WantedEndpoints.WantedEndpoints}}
 
 -- ONE MORE
 
@@ -69,7 +69,7 @@ some_of : (b : Bool) (x e : Entry) → cond b (Some x) None ≡ Some e → Some 
 some_of true x e h = h
 some_of false x e h = cc
 
-pub found_open : (o : Option Entry) (e : Entry) → passing has_no_end o ≡ Some e → (o ≡ Some e) × (e.end ≡ None)
+pub found_open : (o : Option Entry) (e : Entry) → entry_if has_no_end o ≡ Some e → (o ≡ Some e) × (e.end ≡ None)
 found_open None e h = cc
 found_open (Some x) e h =
     let same : Some x ≡ Some e = some_of (has_no_end x) x e h in (
@@ -83,36 +83,36 @@ module _ (asked : List HolderRequest) where
   is_told = is_ended_and_asked asked
 
   unended_more : (b : Bool) (e : Entry) (o : Option Entry) → e.end ≡ None →
-      cond b (Some e) (passing has_no_end o) ≡ passing has_no_end (cond b (Some e) o)
+      cond b (Some e) (entry_if has_no_end o) ≡ entry_if has_no_end (cond b (Some e) o)
   unended_more true e o endless = sym (ap (λ (x : Option ℕ). cond (not (is_some x)) (Some e) None) endless)
   unended_more false e o endless = refl
 
   ended_more : (b : Bool) (e : Entry) (o : Option Entry) → e.end ≡ None → (b ≡ true → o ≡ None) →
-      passing is_told o ≡ passing is_told (cond b (Some e) o)
-  ended_more true e o endless none = ap (passing is_told) (none refl)
+      entry_if is_told o ≡ entry_if is_told (cond b (Some e) o)
+  ended_more true e o endless none = ap (entry_if is_told) (none refl)
       ∙ sym (ap (λ (x : Option ℕ). cond (is_some x && is_asked_about asked e.binding.external) (Some e) None) endless)
   ended_more false e o endless none = refl
 
-  unended_less : (b : Bool) (end : ℕ) (o : Option Entry) → cond b None (passing has_no_end o)
-      ≡ passing has_no_end (cond b (option_map (with_end (Some end)) o) o)
+  unended_less : (b : Bool) (end : ℕ) (o : Option Entry) → cond b None (entry_if has_no_end o)
+      ≡ entry_if has_no_end (cond b (option_map (with_end (Some end)) o) o)
   unended_less true end None = refl
   unended_less true end (Some e) = refl
   unended_less false end o = refl
 
   ended_told : (b : Bool) (end : ℕ) (o : Option Entry) (e : Entry) → (b ≡ true → o ≡ Some e) →
-      is_asked_about asked e.binding.external ≡ true → cond b (Some (with_end (Some end) e)) (passing is_told o)
-      ≡ passing is_told (cond b (option_map (with_end (Some end)) o) o)
+      is_asked_about asked e.binding.external ≡ true → cond b (Some (with_end (Some end) e)) (entry_if is_told o)
+      ≡ entry_if is_told (cond b (option_map (with_end (Some end)) o) o)
   ended_told true end o e found is = sym (ap
-      (λ (x : Option Entry). passing is_told (option_map (with_end (Some end)) x)) (found refl)
+      (λ (x : Option Entry). entry_if is_told (option_map (with_end (Some end)) x)) (found refl)
       ∙ ap (λ (x : Bool). cond x (Some (with_end (Some end) e)) None) is)
   ended_told false end o e found is = refl
 
   ended_untold : (b : Bool) (end : ℕ) (o : Option Entry) (e : Entry) → (b ≡ true → o ≡ Some e) → e.end ≡ None →
-      is_asked_about asked e.binding.external ≡ false → passing is_told o
-      ≡ passing is_told (cond b (option_map (with_end (Some end)) o) o)
-  ended_untold true end o e found endless not_asked = ap (passing is_told) (found refl)
+      is_asked_about asked e.binding.external ≡ false → entry_if is_told o
+      ≡ entry_if is_told (cond b (option_map (with_end (Some end)) o) o)
+  ended_untold true end o e found endless not_asked = ap (entry_if is_told) (found refl)
       ∙ (ap (λ (x : Option ℕ). cond (is_some x && is_asked_about asked e.binding.external) (Some e) None) endless
-      ∙ sym (ap (λ (x : Option Entry). passing is_told (option_map (with_end (Some end)) x)) (found refl)
+      ∙ sym (ap (λ (x : Option Entry). entry_if is_told (option_map (with_end (Some end)) x)) (found refl)
       ∙ ap (λ (x : Bool). cond x (Some (with_end (Some end) e)) None) not_asked))
   ended_untold false end o e found endless not_asked = refl
 
@@ -121,21 +121,21 @@ module _ (asked : List HolderRequest) where
     of_maps unended ended = record { wanted = wanted; unended = unended; ended = ended }
 
     pub inserted : (unended later ended : BTreeMap ℕ Entry) (entries : List LogEntry) (l : LogEntry) →
-        Keeps asked (of_maps unended ended) entries → l.entry.end ≡ None → Rises 1 (entries ++ l ∷ []) →
+        TracksEntries asked (of_maps unended ended) entries → l.entry.end ≡ None → Rises 1 (entries ++ l ∷ []) →
         ((q : ℕ) → get nat_cmp later q ≡ cond (is_at (nat_cmp l.number) q) (Some l.entry) (get nat_cmp unended q)) →
-        Keeps asked (of_maps later ended) (entries ++ l ∷ [])
+        TracksEntries asked (of_maps later ended) (entries ++ l ∷ [])
     inserted unended later ended entries l keeps endless rises has = record {
       wanted = keeps.wanted;
       rising = rises;
       unended = λ q. has q
           ∙ (ap₂ (λ (b : Bool) (o : Option Entry). cond b (Some l.entry) o) (at_number l.number q) (keeps.unended q)
           ∙ (unended_more (l.number == q) l.entry (entry_of entries q) endless
-          ∙ sym (ap (passing has_no_end) (entry_of_pushed 1 entries l rises q))));
+          ∙ sym (ap (entry_if has_no_end) (entry_of_pushed 1 entries l rises q))));
       ended = λ q. keeps.ended q
           ∙ (ended_more (l.number == q) l.entry (entry_of entries q) endless
           (λ same. subst (λ (k : ℕ). entry_of entries k ≡ None) (same_number l.number q same)
           (new_number 1 entries l rises))
-          ∙ sym (ap (passing is_told) (entry_of_pushed 1 entries l rises q)));
+          ∙ sym (ap (entry_if is_told) (entry_of_pushed 1 entries l rises q)));
     }
 
     module _ (unended later : BTreeMap ℕ Entry) (entries : List LogEntry) (number end : ℕ) (e : Entry)
@@ -147,18 +147,18 @@ module _ (asked : List HolderRequest) where
       found_at : (q : ℕ) → (number == q) ≡ true → entry_of entries q ≡ Some e
       found_at q same = subst (λ (k : ℕ). entry_of entries k ≡ Some e) (same_number number q same) found
 
-      fewer : ((q : ℕ) → get nat_cmp unended q ≡ passing has_no_end (entry_of entries q)) → (q : ℕ) →
-          get nat_cmp later q ≡ passing has_no_end (entry_of ended_entries q)
+      fewer : ((q : ℕ) → get nat_cmp unended q ≡ entry_if has_no_end (entry_of entries q)) → (q : ℕ) →
+          get nat_cmp later q ≡ entry_if has_no_end (entry_of ended_entries q)
       fewer kept q = has q
           ∙ (ap₂ (λ (b : Bool) (o : Option Entry). cond b None o) (at_number number q) (kept q)
           ∙ (unended_less (number == q) end (entry_of entries q)
-          ∙ sym (ap (passing has_no_end) (entry_of_ended number (Some end) entries q))))
+          ∙ sym (ap (entry_if has_no_end) (entry_of_ended number (Some end) entries q))))
 
-      pub closed_told : (ended more : BTreeMap ℕ Entry) → Keeps asked (of_maps unended ended) entries →
+      pub closed_told : (ended more : BTreeMap ℕ Entry) → TracksEntries asked (of_maps unended ended) entries →
           is_asked_about asked e.binding.external ≡ true →
           ((q : ℕ) → get nat_cmp more q
           ≡ cond (is_at (nat_cmp number) q) (Some (with_end (Some end) e)) (get nat_cmp ended q)) →
-          Keeps asked (of_maps later more) ended_entries
+          TracksEntries asked (of_maps later more) ended_entries
       closed_told ended more keeps is_asked gets = record {
         wanted = keeps.wanted;
         rising = ended_rise number (Some end) 1 entries keeps.rising;
@@ -167,18 +167,19 @@ module _ (asked : List HolderRequest) where
             ∙ (ap₂ (λ (b : Bool) (o : Option Entry). cond b (Some (with_end (Some end) e)) o) (at_number number q)
             (keeps.ended q)
             ∙ (ended_told (number == q) end (entry_of entries q) e (found_at q) is_asked
-            ∙ sym (ap (passing is_told) (entry_of_ended number (Some end) entries q))));
+            ∙ sym (ap (entry_if is_told) (entry_of_ended number (Some end) entries q))));
       }
 
-      pub closed_untold : (ended : BTreeMap ℕ Entry) → Keeps asked (of_maps unended ended) entries → e.end ≡ None →
-          is_asked_about asked e.binding.external ≡ false → Keeps asked (of_maps later ended) ended_entries
+      pub closed_untold : (ended : BTreeMap ℕ Entry) → TracksEntries asked (of_maps unended ended) entries →
+          e.end ≡ None →
+          is_asked_about asked e.binding.external ≡ false → TracksEntries asked (of_maps later ended) ended_entries
       closed_untold ended keeps endless not_asked = record {
         wanted = keeps.wanted;
         rising = ended_rise number (Some end) 1 entries keeps.rising;
         unended = fewer keeps.unended;
         ended = λ q. keeps.ended q
             ∙ (ended_untold (number == q) end (entry_of entries q) e (found_at q) endless not_asked
-            ∙ sym (ap (passing is_told) (entry_of_ended number (Some end) entries q)));
+            ∙ sym (ap (entry_if is_told) (entry_of_ended number (Some end) entries q)));
       }
 
   -- ALL IN ORDER
@@ -186,7 +187,7 @@ module _ (asked : List HolderRequest) where
   abbrev is_kept : Entry → Bool
   is_kept e = has_no_end e || is_told e
 
-  either : (o : Option Entry) → option_or (passing has_no_end o) (passing is_told o) ≡ passing is_kept o
+  either : (o : Option Entry) → option_or (entry_if has_no_end o) (entry_if is_told o) ≡ entry_if is_kept o
   either None = refl
   either (Some e) = elim (has_no_end e) as (λ b. option_or (cond b (Some e) None) (cond (is_told e) (Some e) None)
       ≡ cond (b || is_told e) (Some e) None) [ true ↦ refl | false ↦ refl ]
@@ -222,30 +223,30 @@ module _ (asked : List HolderRequest) where
   at_flipped q m = grind (arith, nat_tests)
 
   beside : (b : Bool) (e : Entry) (o : Option Entry) → is_kept e ≡ false → (b ≡ true → o ≡ None) →
-      passing is_kept o ≡ passing is_kept (cond b (Some e) o)
-  beside true e o is none = ap (passing is_kept) (none refl) ∙ sym (ap (λ (b : Bool). cond b (Some e) None) is)
+      entry_if is_kept o ≡ entry_if is_kept (cond b (Some e) o)
+  beside true e o is none = ap (entry_if is_kept) (none refl) ∙ sym (ap (λ (b : Bool). cond b (Some e) None) is)
   beside false e o is none = refl
 
-  here : (q m : ℕ) (e : Entry) (o found : Option Entry) → is_kept e ≡ true → found ≡ passing is_kept o →
-      cond (is_at (nat_cmp q) m) (Some e) found ≡ passing is_kept (cond (m == q) (Some e) o)
+  here : (q m : ℕ) (e : Entry) (o found : Option Entry) → is_kept e ≡ true → found ≡ entry_if is_kept o →
+      cond (is_at (nat_cmp q) m) (Some e) found ≡ entry_if is_kept (cond (m == q) (Some e) o)
   here q m e o found is rest = ap₂ (λ (b : Bool) (x : Option Entry). cond b (Some e) x) (at_flipped q m) rest
-      ∙ elim (m == q) as (λ b. cond b (Some e) (passing is_kept o) ≡ passing is_kept (cond b (Some e) o)) [
+      ∙ elim (m == q) as (λ b. cond b (Some e) (entry_if is_kept o) ≡ entry_if is_kept (cond b (Some e) o)) [
         | true ↦ sym (ap (λ (b : Bool). cond b (Some e) None) is)
         | false ↦ refl
       ]
 
   there : (q m : ℕ) (e : Entry) (o found : Option Entry) → is_kept e ≡ false → ((m == q) ≡ true → o ≡ None) →
-      found ≡ passing is_kept o → found ≡ passing is_kept (cond (m == q) (Some e) o)
+      found ≡ entry_if is_kept o → found ≡ entry_if is_kept (cond (m == q) (Some e) o)
   there q m e o found is none rest = rest ∙ beside (m == q) e o is none
 
   look_up : (q n : ℕ) (ls : List LogEntry) → Rises n ls →
-      lookup (is_at (nat_cmp q)) (pairs (kept_of ls)) ≡ passing is_kept (entry_of ls q)
+      lookup (is_at (nat_cmp q)) (pairs (kept_of ls)) ≡ entry_if is_kept (entry_of ls q)
   look_up q n [] h = refl
   look_up q n (l ∷ ls) h =
       let rest = look_up q (l.number + 1) ls h.1 in
       elim (is_kept l.entry) as (λ b. is_kept l.entry ≡ b →
       lookup (is_at (nat_cmp q)) (pairs (cond b (l ∷ kept_of ls) (kept_of ls)))
-      ≡ passing is_kept (cond (l.number == q) (Some l.entry) (entry_of ls q))) [
+      ≡ entry_if is_kept (cond (l.number == q) (Some l.entry) (entry_of ls q))) [
         | true ↦ λ is. here q l.number l.entry (entry_of ls q) _ is rest
         | false ↦ λ is. there q l.number l.entry (entry_of ls q) _ is
             (λ same. let e : l.number ≡ q = same_number l.number q same in
@@ -290,7 +291,8 @@ module _ (asked : List HolderRequest) where
   truth h = subst T (sym h) tt
 
   pub all_asked : (wanted : WantedEndpoints) (unended ended all : BTreeMap ℕ Entry) (entries : List LogEntry) →
-      Keeps asked (record { wanted = wanted; unended = unended; ended = ended }) entries → IsOrdered nat_cmp unended →
+      TracksEntries asked (record { wanted = wanted; unended = unended; ended = ended }) entries →
+      IsOrdered nat_cmp unended →
       InsertsAll nat_cmp ended unended.entries all →
       filter (λ e. is_wanted wanted e.binding.external) (values_of all.entries) ≡ asked_entries asked entries
   all_asked wanted unended ended all entries keeps ordered all_in =

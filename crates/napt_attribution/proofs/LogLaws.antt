@@ -8,7 +8,7 @@ use Rattle.napt_rules.specs.declared.Row.{Row}
 use Rattle.napt_account.specs.{Questions.is_meant, declared.log.{Entry.Entry, LogEntry.LogEntry, Shortage.Shortage}, Log.{LogModel, begun_after, first_entry, log_of, log_on, numbered_from, unnumbered, unused_entry}, LogParts.{IsNumbered, LogDelta, in_order_of_end, is_open, living_at}, OpenEntries.Has, ResumedLogRuns.{left_of, part_of}, WholeLogs.{ArePartsOfLog, PartsAreTheLog, all_parts, origin, parts_joined}}
 use Rattle.napt_account.proofs.{InOrder.{Differ, each_has, has_each}, Numbers.{begun_numbered, differ_moved, log_rises}, Rising.rises_differ, Sorted.{has_back, has_moved}}
 use Rattle.napt_log_text.specs.{LogReaders.{events_after, part_events}, Logs.log_anew, Requests.{holders, is_asked, is_holder, meets}, declared.{event.LogEvent.{LogEvent, TheVariants.{Made, Ended, Living, Refused}}, request.{Request.Request, TimeSpan.TimeSpan}}}
-use Rattle.napt_attribution.specs.{RequestParties.is_asked_about, LogLaws.{RowsNameTheHolders, RowsTellTheLog, whole_events, without_counts}, SavedLogs.{asked_entries, bare_entry, row_end_among, end_told, entries_in, made_in}, declared.requests.HolderRequest.HolderRequest}
+use Rattle.napt_attribution.specs.{RequestParties.is_asked_about, LogLaws.{RowsNameTheHolders, RowsDetermineTheLog, whole_events, without_counts}, SavedLogs.{asked_entries, bare_entry, row_end_among, end_told, entries_in, made_in}, declared.requests.HolderRequest.HolderRequest}
 
 -- THE ROWS THAT TELL AN END, by their entries
 
@@ -184,7 +184,7 @@ begun_open : (rules : Rules) (number : ℕ) (redirects : List Redirect) → Each
 begun_open rules number [] = tt
 begun_open rules number (r ∷ rs) = (refl, begun_open rules (number + 1) rs)
 
-pub rows_tell : PartsAreTheLog → RowsTellTheLog
+pub rows_tell : PartsAreTheLog → RowsDetermineTheLog
 rows_tell parts rules invariant inputs =
     let state : State = initial_state rules in
     let log : LogModel = (log_anew rules).log in
@@ -272,7 +272,7 @@ holders_bare request (e ∷ es) =
       | false ↦ holders_bare request es
     ]
 
-pub rows_name : RowsTellTheLog → RowsNameTheHolders
+pub rows_name : RowsDetermineTheLog → RowsNameTheHolders
 rows_name tell rules invariant inputs asked one has =
     let es : List LogEntry = entries_in (whole_events rules inputs) in
     let log : List LogEntry = (log_of rules inputs).entries in

@@ -4,7 +4,7 @@ use Rattle.std.specs.{Io.KnownBytes.prepend_known, List.flat_map, Result.IsErr}
 use Rattle.napt_config.specs.Rules.{Rules}
 use Rattle.napt_rules.specs.Prelude.{Each}
 use Rattle.napt_log_text.specs.{LogReaders.LogUnlessUnread, LogRows.IsEvent, Rows.csv_row, declared.{event.LogEvent.LogEvent, log_reader.LogFileFault.LogFileFault, log_row.LogRow.LogRow}}
-use Rattle.napt_attribution.specs.{SavedLogs.{FollowAll, Follows, Tells, entries_in}, declared.{requests.HolderRequest.HolderRequest, saved_rows.SavedRows.SavedRows}}
+use Rattle.napt_attribution.specs.{SavedLogs.{FollowAll, Follows, RowsTrackEvents, entries_in}, declared.{requests.HolderRequest.HolderRequest, saved_rows.SavedRows.SavedRows}}
 
 -- If the read failed, so does what needs it.
 pub unless : {A B E : Type 0} (read : Result A LogFileFault) (fact : Type 0) (result : Result B E) (P : B → Type 0) →
@@ -20,19 +20,20 @@ pub record IsRead (rules : Rules) (asked : List HolderRequest) (events : List Lo
   pub joined : done ++ rest ≡ events
   pub fit : Each IsEvent rest
   pub bytes : left ≡ Some (flat_map (csv_row rules) rest)
-  pub tells : Tells asked rows done
+  pub tells : RowsTrackEvents asked rows done
   pub follow : FollowAll done rest → FollowAll [] events
 
 module _ (rules : Rules) (asked : List HolderRequest) (events : List LogEvent) (left later : Option (List ℕ))
     (old new : SavedRows)
     (more : Bool)
     (row : (es : List LogEvent) (e : LogEvent) (rest : List ℕ) → IsEvent e → left ≡ Some (csv_row rules e ++ rest) →
-    Tells asked old es → (more ≡ true) × Follows (entries_in es) e × Tells asked new (es ++ e ∷ []) ×
+    RowsTrackEvents asked old es →
+    (more ≡ true) × Follows (entries_in es) e × RowsTrackEvents asked new (es ++ e ∷ []) ×
     (later ≡ Some rest))
     (end : left ≡ Some [] → (more ≡ false) × (new ≡ old)) where
   go_on : (done rest : List LogEvent) → done ++ rest ≡ events → Each IsEvent rest → left ≡
       Some (flat_map (csv_row rules) rest) →
-      Tells asked old done → (FollowAll done rest → FollowAll [] events) → more ≡ true →
+      RowsTrackEvents asked old done → (FollowAll done rest → FollowAll [] events) → more ≡ true →
       IsRead rules asked events later new
   go_on done [] joined fit bytes tells follow is = let none = (end bytes).0 in absurd (cc (none, is))
   go_on done (e ∷ rest) joined fit bytes tells follow is =
@@ -51,22 +52,22 @@ module _ (rules : Rules) (asked : List HolderRequest) (events : List LogEvent) (
 
   stop : (done rest : List LogEvent) → done ++ rest ≡ events → Each IsEvent rest → left ≡
       Some (flat_map (csv_row rules) rest) →
-      Tells asked old done → (FollowAll done rest → FollowAll [] events) → more ≡ false →
-      FollowAll [] events × Tells asked new events
+      RowsTrackEvents asked old done → (FollowAll done rest → FollowAll [] events) → more ≡ false →
+      FollowAll [] events × RowsTrackEvents asked new events
   stop done [] joined fit bytes tells follow is = (
     follow tt,
-    subst (λ (s : SavedRows). Tells asked s events) (sym (end bytes).1)
-        (subst (Tells asked old) (sym (append-nil done) ∙ joined) tells),
+    subst (λ (s : SavedRows). RowsTrackEvents asked s events) (sym (end bytes).1)
+        (subst (RowsTrackEvents asked old) (sym (append-nil done) ∙ joined) tells),
   )
   stop done (e ∷ rest) joined fit bytes tells follow is =
       let some = (row done e (flat_map (csv_row rules) rest) fit.0 bytes tells).0 in absurd (cc (some, is))
 
-  pub stops : IsRead rules asked events left old → more ≡ false → FollowAll [] events × Tells asked new events
+  pub stops : IsRead rules asked events left old → more ≡ false → FollowAll [] events × RowsTrackEvents asked new events
   stops i = stop i.done i.rest i.joined i.fit i.bytes i.tells i.follow
 
 pub begins : (rules : Rules) (asked : List HolderRequest) (events : List LogEvent) (left : Option (List ℕ))
     (rows : SavedRows) →
-    Each IsEvent events → left ≡ Some (flat_map (csv_row rules) events) → Tells asked rows [] →
+    Each IsEvent events → left ≡ Some (flat_map (csv_row rules) events) → RowsTrackEvents asked rows [] →
     IsRead rules asked events left rows
 begins rules asked events left rows fit bytes tells = record {
   done = [];

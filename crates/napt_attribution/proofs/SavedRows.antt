@@ -5,7 +5,7 @@ use Rattle.napt_wire.specs.declared.{Cause.TheVariants.OverQuota, Protocol.Proto
 use Rattle.napt_rules.specs.{Prelude.Each, declared.Row.Row}
 use Rattle.napt_account.{specs.{declared.log.{Entry.Entry, LogEntry.LogEntry, Shortage.Shortage}, LogParts.Rises}, proofs.Rising.rises_pushed}
 use Rattle.napt_log_text.specs.{LogRows.{number_field, saved_row}, Rows.shortage_number, declared.{event.LogEvent.{LogEvent, TheVariants.{Made, Ended, Living, Refused}}, log_row.{LogField.TheVariants.{Empty, Number}, LogRow.LogRow}}}
-use Rattle.napt_attribution.specs.{SavedLogs.{Follows, HasBinding, HasOpen, Keeps, KeepsAll, Tells, bare_entry, row_end_among, end_told, entries_in, entry_of, entry_with_end, has_no_end, made_in, passing}, declared.{requests.HolderRequest.HolderRequest, kept_entries.KeptEntries.KeptEntries, saved_rows.SavedRows.SavedRows}}
+use Rattle.napt_attribution.specs.{SavedLogs.{Follows, HasBinding, HasOpen, TracksEntries, RowsTrackEntries, RowsTrackEvents, bare_entry, row_end_among, end_told, entries_in, entry_of, entry_with_end, has_no_end, made_in, entry_if}, declared.{requests.HolderRequest.HolderRequest, kept_entries.KeptEntries.KeptEntries, saved_rows.SavedRows.SavedRows}}
 
 -- EVENTS
 
@@ -90,10 +90,10 @@ unended b None e binding h = refl
 unended b (Some x) e binding h = absurd h
 
 no_end : (end : ℕ → Option ℕ) (ms : List LogEntry) (n : ℕ) (binding : Row) →
-    HasBinding binding (passing has_no_end (entry_of (with_ends end ms) n)) → end n ≡ None
+    HasBinding binding (entry_if has_no_end (entry_of (with_ends end ms) n)) → end n ≡ None
 no_end end [] n binding h = absurd h
 no_end end (m ∷ ms) n binding h =
-    elim (m.number == n) as (λ b. (m.number == n) ≡ b → HasBinding binding (passing has_no_end
+    elim (m.number == n) as (λ b. (m.number == n) ≡ b → HasBinding binding (entry_if has_no_end
     (cond b (Some (bare_entry (end m.number) m).entry) (entry_of (with_ends end ms) n))) → end n ≡ None) [
       | true ↦ λ same has. subst (λ (k : ℕ). end k ≡ None) (number_same m.number n same)
           (unended true (end m.number) (bare_entry (end m.number) m).entry binding has)
@@ -107,7 +107,7 @@ pub open_made : (made : ℕ) (ls : List LogEntry) (l : LogEntry) → Each (λ m.
     l.number ≤ made
 open_made made [] l each h = absurd h
 open_made made (m ∷ ls) l each h =
-    elim (m.number == l.number) as (λ b. (m.number == l.number) ≡ b → HasBinding l.entry.binding (passing has_no_end
+    elim (m.number == l.number) as (λ b. (m.number == l.number) ≡ b → HasBinding l.entry.binding (entry_if has_no_end
     (cond b (Some m.entry) (entry_of ls l.number))) → l.number ≤ made) [
       | true ↦ λ same has. subst (λ (k : ℕ). k ≤ made) (number_same m.number l.number same) each.0
       | false ↦ λ same has. open_made made ls l each.1 has
@@ -151,16 +151,17 @@ rises_more made ls l rises each less =
 
 -- ONE ROW MORE
 
-module _ (asked : List HolderRequest) (old new : SavedRows) (es : List LogEvent) (tells : Tells asked old es) where
+module _ (asked : List HolderRequest) (old new : SavedRows) (es : List LogEvent)
+    (tells : RowsTrackEvents asked old es) where
   pub told_made : (l : LogEntry) → old.made < l.number → new.made ≡ l.number → new.unrepeated.entries ≡ [] →
-      Keeps asked new.kept (entries_in es ++ bare_entry None l ∷ []) →
-      Follows (entries_in es) (Made l) × Tells asked new (es ++ Made l ∷ [])
+      TracksEntries asked new.kept (entries_in es ++ bare_entry None l ∷ []) →
+      Follows (entries_in es) (Made l) × RowsTrackEvents asked new (es ++ Made l ∷ [])
   told_made l less made none kept =
       let same : row_end_among (es ++ Made l ∷ []) ≡ row_end_among es = same_ends es (Made l) (λ number. refl) in
       let here : row_end_among es l.number ≡ None = tells.ends l.number less in (
         each_below old.made l.number (entries_in es) tells.keeps.made less,
         record {
-          keeps = subst (KeepsAll asked new) (sym (entries_made es l here)) (record {
+          keeps = subst (RowsTrackEntries asked new) (sym (entries_made es l here)) (record {
             kept = kept;
             made = subst (λ (n : ℕ). Each (λ m. m.number ≤ n) (entries_in es ++ bare_entry None l ∷ [])) (sym made)
                 (each_pushed old.made l.number (entries_in es) (bare_entry None l) tells.keeps.made less refl);
@@ -179,19 +180,21 @@ module _ (asked : List HolderRequest) (old new : SavedRows) (es : List LogEvent)
 
   pub told_ended : (e : LogEvent) (l : LogEntry) → made_in (e ∷ []) ≡ [] →
       ((number : ℕ) → row_end_among (e ∷ []) number ≡ end_told l number None) → HasOpen (entries_in es) l →
-      KeepsAll asked new (map (entry_with_end l.number l.entry.end) (entries_in es)) → new.made ≡ old.made →
-      Tells asked new (es ++ e ∷ [])
+      RowsTrackEntries asked new (map (entry_with_end l.number l.entry.end) (entries_in es)) → new.made ≡ old.made →
+      RowsTrackEvents asked new (es ++ e ∷ [])
   told_ended e l unmade tells_end has keeps made = record {
-    keeps = subst (KeepsAll asked new) (sym (entries_ended es e l unmade tells_end (open_no_end es l has))) keeps;
+    keeps = subst (RowsTrackEntries asked new) (sym (entries_ended es e l unmade tells_end (open_no_end es l has)))
+        keeps;
     ends = λ number above. ends_more e l tells_end (open_made old.made (entries_in es) l tells.keeps.made has) number
         (omega (arith, above, made));
   }
 
   pub told_same : (e : LogEvent) → made_in (e ∷ []) ≡ [] → ((number : ℕ) → row_end_among (e ∷ []) number ≡ None) →
-      new.kept ≡ old.kept → new.made ≡ old.made → new.unrepeated ≡ old.unrepeated → Tells asked new (es ++ e ∷ [])
+      new.kept ≡ old.kept → new.made ≡ old.made → new.unrepeated ≡ old.unrepeated →
+      RowsTrackEvents asked new (es ++ e ∷ [])
   told_same e unmade none kept made repeated = record {
-    keeps = subst (KeepsAll asked new) (sym (entries_same es e unmade none)) (record {
-      kept = subst (λ (k : KeptEntries). Keeps asked k (entries_in es)) (sym kept) tells.keeps.kept;
+    keeps = subst (RowsTrackEntries asked new) (sym (entries_same es e unmade none)) (record {
+      kept = subst (λ (k : KeptEntries). TracksEntries asked k (entries_in es)) (sym kept) tells.keeps.kept;
       made = subst (λ (n : ℕ). Each (λ m. m.number ≤ n) (entries_in es)) (sym made) tells.keeps.made;
       repeated = ap (λ (m : BTreeMap (Protocol × ℕ × ℕ) ℕ). m.entries) repeated ∙ tells.keeps.repeated;
     });
@@ -199,8 +202,9 @@ module _ (asked : List HolderRequest) (old new : SavedRows) (es : List LogEvent)
   }
 
 pub kept_ended : (asked : List HolderRequest) (old new : SavedRows) (ls : List LogEntry) (number end : ℕ) →
-    KeepsAll asked old ls → Keeps asked new.kept (map (entry_with_end number (Some end)) ls) → new.made ≡ old.made →
-    new.unrepeated.entries ≡ [] → KeepsAll asked new (map (entry_with_end number (Some end)) ls)
+    RowsTrackEntries asked old ls → TracksEntries asked new.kept (map (entry_with_end number (Some end)) ls) →
+    new.made ≡ old.made →
+    new.unrepeated.entries ≡ [] → RowsTrackEntries asked new (map (entry_with_end number (Some end)) ls)
 kept_ended asked old new ls number end keeps kept made none = record {
   kept = kept;
   made = subst (λ (n : ℕ). Each (λ m. m.number ≤ n) (map (entry_with_end number (Some end)) ls)) (sym made)
@@ -267,15 +271,15 @@ no_end_told l none number = ap (λ (x : Option ℕ). cond (l.number == number) (
     [ true ↦ refl | false ↦ refl ]
 
 pub is_open : (ls : List LogEntry) (l : LogEntry) (n : ℕ) (e : Entry) → n ≡ l.number →
-    passing has_no_end (entry_of ls n) ≡ Some e → e.binding ≡ l.entry.binding → HasOpen ls l
+    entry_if has_no_end (entry_of ls n) ≡ Some e → e.binding ≡ l.entry.binding → HasOpen ls l
 is_open ls l n e same found binding = subst (HasBinding l.entry.binding)
-    (sym (ap (λ (k : ℕ). passing has_no_end (entry_of ls k)) (sym same) ∙ found)) binding
+    (sym (ap (λ (k : ℕ). entry_if has_no_end (entry_of ls k)) (sym same) ∙ found)) binding
 
 has_some : (binding : Row) (o : Option Entry) → HasBinding binding o → IsSome o
 has_some binding None h = absurd h
 has_some binding (Some e) h = search rules
 
 pub open_some : (ls : List LogEntry) (l : LogEntry) (n : ℕ) → n ≡ l.number → HasOpen ls l →
-    IsSome (passing has_no_end (entry_of ls n))
-open_some ls l n same has = subst (λ (k : ℕ). IsSome (passing has_no_end (entry_of ls k))) (sym same)
+    IsSome (entry_if has_no_end (entry_of ls n))
+open_some ls l n same has = subst (λ (k : ℕ). IsSome (entry_if has_no_end (entry_of ls k))) (sym same)
     (has_some l.entry.binding _ has)

@@ -11,8 +11,8 @@ abbrev pub whole_events : Rules → List Arrival → List LogEvent
 whole_events rules inputs = log_events rules (initial_state rules) (log_anew rules) false inputs
 
 -- The rows of a run's log tell its entries, each with its end, in the order of making.
-abbrev pub RowsTellTheLog : Type 0
-RowsTellTheLog = (rules : Rules) → RulesInvariant rules → (inputs : List Arrival) →
+abbrev pub RowsDetermineTheLog : Type 0
+RowsDetermineTheLog = (rules : Rules) → RulesInvariant rules → (inputs : List Arrival) →
     entries_in (whole_events rules inputs)
     ≡ map (λ listed. bare_entry listed.entry.end listed) (log_of rules inputs).entries
 

@@ -42,9 +42,9 @@ entry_of [] number = None
 entry_of (listed ∷ more) number = cond (listed.number == number) (Some listed.entry) (entry_of more number)
 
 -- An entry that passes a test.
-abbrev pub passing : (Entry → Bool) → Option Entry → Option Entry
-passing test None = None
-passing test (Some entry) = cond (test entry) (Some entry) None
+abbrev pub entry_if : (Entry → Bool) → Option Entry → Option Entry
+entry_if test None = None
+entry_if test (Some entry) = cond (test entry) (Some entry) None
 
 abbrev pub has_no_end : Entry → Bool
 has_no_end entry = not (is_some entry.end)
@@ -53,12 +53,12 @@ abbrev pub is_ended_and_asked : List HolderRequest → Entry → Bool
 is_ended_and_asked asked entry = is_some entry.end && is_asked_about asked entry.binding.external
 
 -- Of these entries those without an end, and those that requests ask about.
-pub record Keeps (asked : List HolderRequest) (kept : KeptEntries) (entries : List LogEntry) : Type 0 where
+pub record TracksEntries (asked : List HolderRequest) (kept : KeptEntries) (entries : List LogEntry) : Type 0 where
   pub wanted : Wants asked kept.wanted
   pub rising : Rises 1 entries
-  pub unended : (number : ℕ) → get nat_cmp kept.unended number ≡ passing has_no_end (entry_of entries number)
+  pub unended : (number : ℕ) → get nat_cmp kept.unended number ≡ entry_if has_no_end (entry_of entries number)
   pub ended : (number : ℕ) → get nat_cmp kept.ended number ≡
-      passing (is_ended_and_asked asked) (entry_of entries number)
+      entry_if (is_ended_and_asked asked) (entry_of entries number)
 
 -- The entry of this number gets an end.
 abbrev pub entry_with_end : ℕ → Option ℕ → LogEntry → LogEntry
@@ -66,14 +66,14 @@ entry_with_end number end listed =
     cond (number == listed.number) (record listed { entry = record listed.entry { end = end } }) listed
 
 -- It keeps these entries, whose numbers are among those given; no entry is still to be repeated.
-pub record KeepsAll (asked : List HolderRequest) (rows : SavedRows) (entries : List LogEntry) : Type 0 where
-  pub kept : Keeps asked rows.kept entries
+pub record RowsTrackEntries (asked : List HolderRequest) (rows : SavedRows) (entries : List LogEntry) : Type 0 where
+  pub kept : TracksEntries asked rows.kept entries
   pub made : Each (λ listed. listed.number ≤ rows.made) entries
   pub repeated : rows.unrepeated.entries ≡ []
 
 -- The rows of these events have been read.
-pub record Tells (asked : List HolderRequest) (rows : SavedRows) (events : List LogEvent) : Type 0 where
-  pub keeps : KeepsAll asked rows (entries_in events)
+pub record RowsTrackEvents (asked : List HolderRequest) (rows : SavedRows) (events : List LogEvent) : Type 0 where
+  pub keeps : RowsTrackEntries asked rows (entries_in events)
   pub ends : (number : ℕ) → rows.made < number → row_end_among events number ≡ None
 
 -- WHICH ROWS MAY FOLLOW: a new binding has a greater number than those before it, and a binding that ends, or is live
@@ -84,7 +84,7 @@ HasBinding binding None = ⊥
 HasBinding binding (Some entry) = entry.binding ≡ binding
 
 abbrev pub HasOpen : List LogEntry → LogEntry → Type 0
-HasOpen entries listed = HasBinding listed.entry.binding (passing has_no_end (entry_of entries listed.number))
+HasOpen entries listed = HasBinding listed.entry.binding (entry_if has_no_end (entry_of entries listed.number))
 
 abbrev pub Follows : List LogEntry → LogEvent → Type 0
 Follows entries (Made listed) = Each (λ other. other.number < listed.number) entries

@@ -63,7 +63,7 @@ struct OutsideTime {
     last: Option<u64>,
 }
 
-/// Answers requests from the blocks of a configuration. Fails with `Nobody` if one has no answer.
+/// Answers requests from the blocks of a configuration. Fails with `NoHolder` if one has no answer.
 pub fn answer_by_blocks<R: Print + AllocGlobal>(
     rt: &R,
     streams: StandardStreams,
@@ -84,7 +84,7 @@ pub fn answer_by_blocks<R: Print + AllocGlobal>(
 }
 
 /// Answers requests from the log whose pieces have these paths, under a configuration if it is known. Prints why a
-/// piece is refused. Fails with `Nobody` if a request has no answer.
+/// piece is refused. Fails with `NoHolder` if a request has no answer.
 pub fn answer_by_log<R: Files + Input + Print + Eprint + AllocGlobal>(
     rt: &R,
     streams: StandardStreams,
@@ -111,7 +111,7 @@ pub fn answer_by_log<R: Files + Input + Print + Eprint + AllocGlobal>(
 }
 
 /// Prints for each request the hosts whose blocks contain it and a line for each binding that had the endpoint, in the
-/// order in which they were made, or that nobody had it. Fails with `Nobody` if a request has no answer.
+/// order in which they were made, or that nobody had it. Fails with `NoHolder` if a request has no answer.
 pub fn print_answers<R: Print + AllocGlobal>(
     rt: &R,
     asked: &[HolderRequest],
@@ -119,7 +119,7 @@ pub fn print_answers<R: Print + AllocGlobal>(
 ) -> Result<(), Exit> {
     let sorted = match asked.len() {
         0 | 1 => None,
-        _ => Some(SortedEntries::of(Vec::from_slice(rt.alloc(), known.entries)?)?),
+        _ => Some(SortedEntries::from_entries(Vec::from_slice(rt.alloc(), known.entries)?)?),
     };
     let mut page = Page::new(rt.alloc());
     let mut is_answered = true;
@@ -136,7 +136,7 @@ pub fn print_answers<R: Print + AllocGlobal>(
     if is_answered {
         Ok(())
     } else {
-        Err(Exit::Nobody)
+        Err(Exit::NoHolder)
     }
 }
 
@@ -154,14 +154,14 @@ fn print_answer<R: Print + AllocGlobal>(
     }
     let holders = asked.request.holders_among(rt.alloc(), known.entries)?;
     for entry in &holders {
-        mark(asked, &mut page.text)?;
+        add_line_number(asked, &mut page.text)?;
         add_holder(entry, known.last, &mut page.text)?;
         page.write_if_full(rt)?;
     }
     if !holders.is_empty() {
         return Ok(true);
     }
-    mark(asked, &mut page.text)?;
+    add_line_number(asked, &mut page.text)?;
     let (request, text) = (&asked.request, &mut page.text);
     if let Some(beside) = known.uncovered_time(request) {
         add_uncovered_time(request, beside, text)?;
@@ -203,7 +203,7 @@ fn add_uncovered_time(
 }
 
 /// Begins a line of a request that is one of several.
-pub fn mark(asked: &HolderRequest, text: &mut String) -> Result<(), AllocError> {
+pub fn add_line_number(asked: &HolderRequest, text: &mut String) -> Result<(), AllocError> {
     match asked.line {
         Some(number) => add_mark(number, text),
         None => Ok(()),

@@ -70,7 +70,7 @@ pub fn host_of_block(config: &Config, size: u16, address: u32, nth: u32) -> Opti
 }
 
 /// Prints that no log is needed to find who had an external endpoint, if each host has a block.
-pub fn print_needless<R: Eprint>(rt: &R, config: &Config) {
+pub fn print_log_not_needed<R: Eprint>(rt: &R, config: &Config) {
     if config.block().is_some() {
         let _ = eprintln!(rt;
             "explain: each host has a block of its own, so no log is needed to find who had an endpoint (explain who, explain blocks)"

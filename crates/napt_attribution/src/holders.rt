@@ -19,10 +19,10 @@ pub struct Holders<'a> {
 
 impl<'a> Holders<'a> {
     /// Returns the value before the first packet.
-    pub fn of(alloc: Global, asked: &'a [HolderRequest]) -> Result<Holders<'a>, AllocError> {
+    pub fn new(alloc: Global, asked: &'a [HolderRequest]) -> Result<Holders<'a>, AllocError> {
         Ok(Holders {
             asked,
-            wanted: WantedEndpoints::of(alloc, asked)?,
+            wanted: WantedEndpoints::from_requests(alloc, asked)?,
             ended: Vec::new(alloc),
         })
     }
@@ -30,7 +30,7 @@ impl<'a> Holders<'a> {
     /// Adds bindings that ended, if requests ask about them.
     pub fn add(&mut self, entries: &[LogEntry]) -> Result<(), AllocError> {
         for listed in entries {
-            if self.wanted.has(listed.entry.binding.external) {
+            if self.wanted.contains(listed.entry.binding.external) {
                 self.ended.push(*listed)?;
             }
         }
@@ -50,7 +50,7 @@ impl<R: Print + AllocGlobal> CommandOutput<R> for Holders<'_> {
         Ok(())
     }
 
-    /// Prints the answers. Fails with `Nobody` if a request has none.
+    /// Prints the answers. Fails with `NoHolder` if a request has none.
     fn end(self, rt: &R, _page: &mut Page, ending: &EndedRun<'_>) -> Result<(), Exit> {
         let mut holders = self;
         holders.add(&ending.living)?;

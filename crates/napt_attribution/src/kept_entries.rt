@@ -24,11 +24,11 @@ pub struct KeptEntries {
 
 impl KeptEntries {
     /// Returns the value before the first row.
-    pub fn of(alloc: Global, asked: &[HolderRequest]) -> Result<KeptEntries, AllocError>
-        ensures { IfOk result (λ kept. logs.Keeps asked.now kept []) }
+    pub fn new(alloc: Global, asked: &[HolderRequest]) -> Result<KeptEntries, AllocError>
+        ensures { IfOk result (λ kept. logs.TracksEntries asked.now kept []) }
     {
         Ok(KeptEntries {
-            wanted: WantedEndpoints::of(alloc, asked)?,
+            wanted: WantedEndpoints::from_requests(alloc, asked)?,
             unended: BTreeMap::new(alloc),
             ended: BTreeMap::new(alloc),
         })
@@ -36,9 +36,10 @@ impl KeptEntries {
 
     /// Takes an entry without an end, whose number is greater than those before.
     pub fn insert(&mut self, number: u64, entry: Entry) -> Result<(), AllocFailed<(u64, Entry)>>
-        ensures { (asked : List Asked) (entries : List Listed) → logs.Keeps asked self.old entries →
+        ensures { (asked : List Asked) (entries : List Listed) →
+            logs.TracksEntries asked self.old entries →
             entry.end ≡ None → Rises 1 (entries ++ record { number = number; entry = entry } ∷ []) →
-            OnOk result (logs.Keeps asked self.new
+            OnOk result (logs.TracksEntries asked self.new
             (entries ++ record { number = number; entry = entry } ∷ [])) }
     {
         self.unended.insert(number, entry)?;
@@ -47,8 +48,10 @@ impl KeptEntries {
 
     /// Returns the entry of a number, if it has no end.
     pub fn get(&self, number: u64) -> Option<&Entry>
-        ensures { (asked : List Asked) (entries : List Listed) → logs.Keeps asked self.now entries →
-            IfSome result (λ entry. logs.passing logs.has_no_end (logs.entry_of entries number) ≡ Some entry.now) }
+        ensures { (asked : List Asked) (entries : List Listed) →
+            logs.TracksEntries asked self.now entries →
+            IfSome result (λ entry. logs.entry_if logs.has_no_end (logs.entry_of entries number)
+            ≡ Some entry.now) }
     {
         self.unended.get(&number)
     }
@@ -60,13 +63,14 @@ impl KeptEntries {
 
     /// Ends the entry of a number, if it has no end.
     pub fn close(&mut self, number: u64, end: u128) -> Result<(), AllocFailed<(u64, Entry)>>
-        ensures { (asked : List Asked) (entries : List Listed) → logs.Keeps asked self.old entries →
-            IsSome (logs.passing logs.has_no_end (logs.entry_of entries number)) →
-            OnOk result (logs.Keeps asked self.new
+        ensures { (asked : List Asked) (entries : List Listed) →
+            logs.TracksEntries asked self.old entries →
+            IsSome (logs.entry_if logs.has_no_end (logs.entry_of entries number)) →
+            OnOk result (logs.TracksEntries asked self.new
             (map (logs.entry_with_end number (Some end)) entries)) }
     {
         if let Some(mut entry) = self.unended.remove(&number) {
-            if self.wanted.has(entry.binding.external) {
+            if self.wanted.contains(entry.binding.external) {
                 entry.end = Some(end);
                 self.ended.insert(number, entry)?;
             }
@@ -76,7 +80,8 @@ impl KeptEntries {
 
     /// Returns the entries that are asked about, in the order of their numbers.
     pub fn into_entries(self, alloc: Global) -> Result<Vec<Entry>, AllocError>
-        ensures { (asked : List Asked) (entries : List Listed) → logs.Keeps asked self entries →
+        ensures { (asked : List Asked) (entries : List Listed) →
+            logs.TracksEntries asked self entries →
             IfOk result (λ found. found.items ≡ logs.asked_entries asked entries) }
     {
         let KeptEntries {

@@ -8,7 +8,7 @@ use napt_account::parts_are_the_log;
 /// finds among what [`SavedRows`](crate::saved_rows::SavedRows) keeps of them are those that it finds in the log of
 /// the run.
 pub fn saved_logs_name_the_holders()
-    ensures tell { laws.RowsTellTheLog }
+    ensures tell { laws.RowsDetermineTheLog }
     ensures name { laws.RowsNameTheHolders }
 {
     parts_are_the_log();

@@ -9,7 +9,7 @@ ghost use Rattle.napt_log_text.specs.declared.event.LogEvent.{LogEvent as Told};
 ghost use Rattle.napt_attribution.specs.SavedLogs as logs;
 ghost use Rattle.napt_attribution.specs.declared.requests.HolderRequest.{HolderRequest as Asked};
 
-use crate::row_fault::{RowFault, SavedLogRefusal, wrong};
+use crate::row_fault::{RowFault, SavedLogRefusal, invalid_row};
 use crate::saved_rows::SavedRows;
 use napt_config::Config;
 use napt_log_text::{LogFileFault, LogReader, LogRow};
@@ -38,20 +38,20 @@ impl LogPiece<'_> {
         ensures { (rules : Rules) (asked : List Asked) (events : List Told) → self.entry.is_first ≡ true →
             Each IsEvent events →
             D.remaining device ≡ Some (csv_header ++ flat_map (csv_row rules) events) →
-            logs.Tells asked rows.old [] →
-            OnOk result (logs.FollowAll [] events × logs.Tells asked rows.new events) }
+            logs.RowsTrackEvents asked rows.old [] →
+            OnOk result (logs.FollowAll [] events × logs.RowsTrackEvents asked rows.new events) }
     {
         let reader = match BufReader::new(alloc, device) {
             Ok(reader) => reader,
-            Err(error) => return Err(unread(LogFileFault::Unread(error))),
+            Err(error) => return Err(header_refusal(LogFileFault::Unread(error))),
         };
         if self.is_first {
             match LogReader::open(alloc, reader) {
                 Ok(mut log) => self.add_rows(rows, &mut log),
-                Err(fault) => Err(unread(fault)),
+                Err(fault) => Err(header_refusal(fault)),
             }
         } else {
-            let mut log = LogReader::piece(alloc, reader);
+            let mut log = LogReader::for_piece(alloc, reader);
             match self.begin(rows, &mut log) {
                 Ok(true) => self.add_rows(rows, &mut log),
                 Ok(false) => Ok(()),
@@ -67,7 +67,7 @@ impl LogPiece<'_> {
         log: &mut LogReader<R>,
     ) -> Result<bool, RowFault> {
         let read = log.next();
-        let has_names = log.is_at_names();
+        let has_names = log.is_at_header();
         rows.begin_piece(has_names)?;
         if has_names {
             return Ok(true);
@@ -83,8 +83,8 @@ impl LogPiece<'_> {
     ) -> Result<(), SavedLogRefusal>
         ensures { (rules : Rules) (asked : List Asked) (events : List Told) → Each IsEvent events →
             R.remaining log.old.reader ≡ Some (flat_map (csv_row rules) events) →
-            logs.Tells asked rows.old [] →
-            OnOk result (logs.FollowAll [] events × logs.Tells asked rows.new events) }
+            logs.RowsTrackEvents asked rows.old [] →
+            OnOk result (logs.FollowAll [] events × logs.RowsTrackEvents asked rows.new events) }
     {
         for row in 2..u64::MAX {
             match self.add_next(rows, log) {
@@ -95,7 +95,7 @@ impl LogPiece<'_> {
         }
         Err(SavedLogRefusal {
             row: u64::MAX,
-            fault: wrong("expected the end of the log"),
+            fault: invalid_row("expected the end of the log"),
         })
     }
 
@@ -108,9 +108,9 @@ impl LogPiece<'_> {
         ensures row { (rules : Rules) (asked : List Asked) (events : List Told) (event : Told)
             (rest : List ℕ) → IsEvent event →
             R.remaining log.old.reader ≡ Some (csv_row rules event ++ rest) →
-            logs.Tells asked rows.old events → IfOk result (λ more. (more ≡ true)
+            logs.RowsTrackEvents asked rows.old events → IfOk result (λ more. (more ≡ true)
             × logs.Follows (logs.entries_in events) event
-            × logs.Tells asked rows.new (events ++ event ∷ [])
+            × logs.RowsTrackEvents asked rows.new (events ++ event ∷ [])
             × (R.remaining log.new.reader ≡ Some rest)) }
         ensures end { R.remaining log.old.reader ≡ Some [] →
             IfOk result (λ more. (more ≡ false) × (rows.new ≡ rows.old)) }
@@ -126,9 +126,9 @@ impl LogPiece<'_> {
         read: Result<Option<LogRow>, LogFileFault>,
     ) -> Result<bool, RowFault>
         ensures row { (asked : List Asked) (events : List Told) (event : Told) →
-            read ≡ Ok (Some (saved_row event)) → logs.Tells asked rows.old events →
+            read ≡ Ok (Some (saved_row event)) → logs.RowsTrackEvents asked rows.old events →
             IfOk result (λ more. (more ≡ true) × logs.Follows (logs.entries_in events) event
-            × logs.Tells asked rows.new (events ++ event ∷ [])) }
+            × logs.RowsTrackEvents asked rows.new (events ++ event ∷ [])) }
         ensures end { read ≡ Ok None →
             IfOk result (λ more. (more ≡ false) × (rows.new ≡ rows.old)) }
         ensures err { IsErr read → IsErr result }
@@ -139,27 +139,28 @@ impl LogPiece<'_> {
                 rows.end_piece()?;
                 Ok(false)
             }
-            Err(fault) => Err(RowFault::Saved(fault)),
+            Err(fault) => Err(RowFault::File(fault)),
         }
     }
 
     /// Adds a row after the names, and returns that more may follow.
     fn add_row(self, rows: &mut SavedRows, row: &LogRow) -> Result<bool, RowFault>
         ensures { (asked : List Asked) (events : List Told) (event : Told) →
-            row.now ≡ saved_row event → logs.Tells asked rows.old events →
+            row.now ≡ saved_row event → logs.RowsTrackEvents asked rows.old events →
             IfOk result (λ more. (more ≡ true) × logs.Follows (logs.entries_in events) event
-            × logs.Tells asked rows.new (events ++ event ∷ [])) }
+            × logs.RowsTrackEvents asked rows.new (events ++ event ∷ [])) }
     {
         let made = rows.take(row)?;
         if let Some(binding) = made
             && self.is_elsewhere(&binding)
         {
-            return Err(RowFault::Elsewhere(binding));
+            return Err(RowFault::OutsideBlock(binding));
         }
         Ok(true)
     }
 
-    /// Whether a binding other than a redirect is outside its host's block in the configuration.
+    /// Returns whether a binding other than a redirect is outside its host's block in the
+    /// configuration.
     fn is_elsewhere(self, binding: &Row) -> bool {
         let Endpoint { address, number } = binding.external;
         let config = self
@@ -170,9 +171,9 @@ impl LogPiece<'_> {
 }
 
 /// Why the first row of a log is refused.
-fn unread(fault: LogFileFault) -> SavedLogRefusal {
+fn header_refusal(fault: LogFileFault) -> SavedLogRefusal {
     SavedLogRefusal {
         row: 1,
-        fault: RowFault::Saved(fault),
+        fault: RowFault::File(fault),
     }
 }

@@ -2,7 +2,7 @@
 
 ghost use Rattle.std.specs.Prelude.{◌≡◌, ◌<◌, IfOk};
 
-use crate::row_fault::{RowFault, wrong};
+use crate::row_fault::{RowFault, invalid_row};
 use napt_log_text::LogField;
 
 const NO_TIME: &str = "observationTimeNanoseconds: expected a number";
@@ -36,7 +36,7 @@ impl LogTimes {
 
     /// Returns the time from which on the log has every binding, and that of its last event. If bindings are missing,
     /// it has every binding only from the first event other than a making on.
-    pub fn covered(&self) -> (u64, u64) {
+    pub fn covered_span(&self) -> (u64, u64) {
         let first = match self.after_opening {
             _ if !self.lacks => self.first.min(self.last),
             Some(at) => at,
@@ -57,7 +57,7 @@ impl LogTimes {
     }
 
     /// Returns the time of an event other than the making of a binding.
-    pub fn other(&mut self, time: LogField) -> Result<u64, RowFault>
+    pub fn time_of_other(&mut self, time: LogField) -> Result<u64, RowFault>
         ensures { IfOk result (λ at. time ≡ LogField.Number at) }
     {
         let at = self.next(time)?;
@@ -87,15 +87,17 @@ impl LogTimes {
         ensures { IfOk result (λ at. time ≡ LogField.Number at) }
     {
         let LogField::Number(time) = time else {
-            return Err(wrong(NO_TIME));
+            return Err(invalid_row(NO_TIME));
         };
         match u64::try_from(time) {
             Ok(at) if at >= self.last => {
                 self.last = at;
                 Ok(at)
             }
-            Ok(_) => Err(wrong("observationTimeNanoseconds: it is earlier than in a row above")),
-            Err(_) => Err(wrong(NO_TIME)),
+            Ok(_) => Err(invalid_row(
+                "observationTimeNanoseconds: it is earlier than in a row above",
+            )),
+            Err(_) => Err(invalid_row(NO_TIME)),
         }
     }
 }

@@ -1,6 +1,6 @@
 //! The owners of an external endpoint by the configuration alone, if each inside host has a block (RFC 7422).
 
-use crate::answers::{AnswerBasis, Basis, mark};
+use crate::answers::{AnswerBasis, Basis, add_line_number};
 use crate::blocks::{MOST_BLOCKS, host_of_block, numbers_of};
 use crate::requests::HolderRequest;
 use napt_account::Party;
@@ -65,7 +65,7 @@ fn add_host(
     let Some((first, last)) = numbers_of(config, host) else {
         return Ok(false);
     };
-    mark(asked, text)?;
+    add_line_number(asked, text)?;
     write!(text, "{} at ", Address(host))?;
     add_party(asked.request.party, text)?;
     writeln!(text, " always: its block is {first} to {last}")?;
@@ -81,7 +81,7 @@ fn add_redirects(
     let mut has_one = false;
     for redirect in config.redirects() {
         if is_asked(&asked.request, config, redirect) {
-            mark(asked, text)?;
+            add_line_number(asked, text)?;
             add_redirect(config, redirect, text)?;
             has_one = true;
         }
@@ -89,7 +89,7 @@ fn add_redirects(
     Ok(has_one)
 }
 
-/// Whether a request names the external endpoint of a redirect.
+/// Returns whether a request names the external endpoint of a redirect.
 fn is_asked(request: &Request, config: &Config, redirect: &Redirect) -> bool {
     let party = request.party;
     config.pair(redirect.address) == party.address
@@ -123,7 +123,7 @@ fn add_redirect(config: &Config, redirect: &Redirect, text: &mut String) -> Resu
 /// Appends the line that says that nobody ever has an endpoint, and why.
 fn add_nobody(asked: &HolderRequest, config: &Config, text: &mut String) -> Result<(), AllocError> {
     let party = asked.request.party;
-    mark(asked, text)?;
+    add_line_number(asked, text)?;
     text.push_str("nobody has ")?;
     add_party(party, text)?;
     text.push_str(match config.pool_index(party.address) {

@@ -1,6 +1,6 @@
 //! Requests: who had an external endpoint, and when. The command line has one, or a file has many.
 
-use crate::spans::{BadTime, span_of};
+use crate::spans::{TimeFault, span_of};
 use napt_account::Party;
 use napt_commands::{Exit, text_at};
 use napt_config::Address;
@@ -25,7 +25,7 @@ pub struct HolderRequest {
 
 impl HolderRequest {
     /// Returns the request of the command line.
-    pub fn of(request: Request) -> HolderRequest {
+    pub fn from_request(request: Request) -> HolderRequest {
         HolderRequest {
             line: None,
             request,
@@ -76,7 +76,7 @@ pub fn requests_at<R: Files + Input + Eprint + AllocGlobal>(
                 line: Some(number),
                 request,
             })?,
-            Err(no_time) => return Err(print_wrong(rt, path, number, no_time.words(WANTED))),
+            Err(no_time) => return Err(print_wrong(rt, path, number, no_time.message(WANTED))),
         }
     }
     Ok(asked)
@@ -95,9 +95,9 @@ fn line_at(text: &[u8], place: usize) -> u64 {
 }
 
 /// Parses an endpoint or an address, a time, and perhaps a protocol. A date may have a space before its time of day.
-fn request_of(line: &str) -> Result<Request, BadTime> {
+fn request_of(line: &str) -> Result<Request, TimeFault> {
     let (party, rest) = first_word(line.trim());
-    let party = party_of(party).ok_or(BadTime::Unread)?;
+    let party = party_of(party).ok_or(TimeFault::Unread)?;
     let (time, last) = last_word(rest);
     let (time, protocol) = match protocol_of(last) {
         Some(protocol) => (time, Some(protocol)),

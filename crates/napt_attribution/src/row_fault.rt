@@ -19,37 +19,37 @@ pub struct SavedLogRefusal {
 /// The fault of a row.
 #[derive(Drop)]
 pub enum RowFault {
-    Saved(LogFileFault),
+    File(LogFileFault),
     /// The binding is outside its host's block.
-    Elsewhere(Row),
+    OutsideBlock(Row),
     /// The number of a new binding is not the next one.
     Number { next: u64, given: u64 },
     /// The piece neither repeats nor ends the entry of this number.
-    Unrepeated(u64),
+    NotRepeated(u64),
 }
 
 impl From<LogFileFault> for RowFault {
     fn from(fault: LogFileFault) -> RowFault {
-        RowFault::Saved(fault)
+        RowFault::File(fault)
     }
 }
 
 impl<T: Drop> From<AllocFailed<T>> for RowFault {
     fn from(_refused: AllocFailed<T>) -> RowFault {
-        RowFault::Saved(LogFileFault::Unread(io::Error::from(ErrorKind::OutOfMemory)))
+        RowFault::File(LogFileFault::Unread(io::Error::from(ErrorKind::OutOfMemory)))
     }
 }
 
 impl fmt::Display for RowFault {
     fn fmt<W: fmt::Write>(&self, f: &mut fmt::Formatter<W>) -> fmt::Result {
         match self {
-            RowFault::Saved(LogFileFault::Unread(error))
-                if error.kind() == ErrorKind::InvalidData => {
-                f.write_str("expected text in UTF-8")
-            }
-            RowFault::Saved(LogFileFault::Unread(error)) => write!(f, "{error}"),
-            RowFault::Saved(LogFileFault::Wrong(why)) => f.write_str(why),
-            RowFault::Saved(LogFileFault::Torn) => f.write_str("it breaks off, and is left out"),
+            RowFault::File(LogFileFault::Unread(error)) if error.kind() == ErrorKind::InvalidData =>
+                { f.write_str("expected text in UTF-8") }
+            RowFault::File(LogFileFault::Unread(error)) => write!(f, "{error}"),
+            RowFault::File(LogFileFault::InvalidRow(why)) => f.write_str(why),
+            RowFault::File(LogFileFault::IncompleteRow) => f.write_str(
+                "it breaks off, and is left out",
+            ),
             RowFault::Number { next, given } if given > next => write!(
                 f,
                 "binding: expected {next}, found {given}: earlier rows, or an earlier piece, are missing"
@@ -57,11 +57,11 @@ impl fmt::Display for RowFault {
             RowFault::Number { next, given } => {
                 write!(f, "binding: expected {next}, found {given}")
             }
-            RowFault::Unrepeated(number) => write!(
+            RowFault::NotRepeated(number) => write!(
                 f,
                 "binding {number} is neither repeated nor ended: a piece before it is missing, or they are out of order"
             ),
-            RowFault::Elsewhere(binding) => {
+            RowFault::OutsideBlock(binding) => {
                 let (host, external) = (Address(binding.inside.address), binding.external);
                 let external = EndpointText(external);
                 write!(
@@ -74,6 +74,6 @@ impl fmt::Display for RowFault {
 }
 
 /// Returns the fault of a row that is not one of a log: what was expected.
-pub fn wrong(why: &'static str) -> RowFault {
-    RowFault::Saved(LogFileFault::Wrong(why))
+pub fn invalid_row(why: &'static str) -> RowFault {
+    RowFault::File(LogFileFault::InvalidRow(why))
 }

@@ -1,6 +1,6 @@
 //! The files that `explain log` writes about a run: its log and, if they are requested, its packets and its report.
 
-use crate::blocks::print_needless;
+use crate::blocks::print_log_not_needed;
 use crate::log_file::{LogFile, LogOpening, begin_log};
 use crate::packet_file::{PacketFile, begin_packets};
 use napt_commands::{CommandOutput, Coverage, EndedRun, Exit, Page, RunPacket, print_unwritten};
@@ -102,7 +102,7 @@ impl<R: Files + Print + Eprint + AllocGlobal, W: Write + Drop> CommandOutput<R> 
         }
         if let Some(report) = &mut self.report {
             report.counts.count(&passing.step.outcome);
-            report.coverage.take(passing.input, passing.step);
+            report.coverage.count_packet(passing.input, passing.step);
         }
         self.log.take(rt, config, passing)
     }
@@ -129,7 +129,7 @@ impl<R: Files + Print + Eprint + AllocGlobal, W: Write + Drop> CommandOutput<R> 
         match &report {
             Some(report) => report.write(rt, ending),
             None => {
-                print_needless(rt, ending.config);
+                print_log_not_needed(rt, ending.config);
                 Ok(())
             }
         }

@@ -4,7 +4,7 @@ use crate::log_piece::LogPiece;
 use crate::requests::HolderRequest;
 use crate::row_fault::{RowFault, SavedLogRefusal};
 use crate::saved_rows::{SavedBindings, SavedRows};
-use napt_commands::{Exit, opened};
+use napt_commands::{Exit, open_file};
 use napt_config::Config;
 use napt_log_text::LogFileFault;
 use std::io::ErrorKind;
@@ -21,7 +21,7 @@ pub fn read_saved<R: Files + Input + Eprint + AllocGlobal>(
     let mut rows = SavedRows::new(rt.alloc(), asked)?;
     let mut previous = None;
     for path in paths {
-        let device = opened(rt, "--from-log", path)?;
+        let device = open_file(rt, "--from-log", path)?;
         let piece = LogPiece {
             is_first: previous.is_none(),
             config,
@@ -42,19 +42,19 @@ fn print_refused<R: Eprint>(
     refused: &SavedLogRefusal,
 ) -> Result<(), Exit> {
     let SavedLogRefusal { row, fault } = refused;
-    if let RowFault::Saved(LogFileFault::Unread(error)) = fault
+    if let RowFault::File(LogFileFault::Unread(error)) = fault
         && error.kind() == ErrorKind::OutOfMemory
     {
-        return Err(Exit::As(napt_program::MEMORY));
+        return Err(Exit::Unprinted(napt_program::MEMORY));
     }
     let _ = match (fault, previous) {
-        (RowFault::Unrepeated(_), Some(previous)) => eprintln!(rt;
+        (RowFault::NotRepeated(_), Some(previous)) => eprintln!(rt;
             "explain: --from-log {path}: it does not continue {previous}: {fault}"
         ),
         _ => eprintln!(rt; "explain: --from-log {path}: row {row}: {fault}"),
     };
     match fault {
-        RowFault::Saved(LogFileFault::Torn) => Ok(()),
+        RowFault::File(LogFileFault::IncompleteRow) => Ok(()),
         _ => Err(Exit::Log),
     }
 }

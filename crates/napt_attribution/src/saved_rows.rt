@@ -11,7 +11,7 @@ ghost use Rattle.napt_attribution.specs.declared.requests.HolderRequest.{HolderR
 use crate::kept_entries::KeptEntries;
 use crate::log_times::LogTimes;
 use crate::requests::HolderRequest;
-use crate::row_fault::{RowFault, wrong};
+use crate::row_fault::{RowFault, invalid_row};
 use napt_account::Entry;
 use napt_log_text::{LogField, LogRow};
 use napt_rules::Row;
@@ -51,10 +51,10 @@ const NO_BINDING: &str = "binding: no row above makes it, or it has ended";
 impl SavedRows {
     /// Returns the value before the first row.
     pub fn new(alloc: Global, asked: &[HolderRequest]) -> Result<SavedRows, AllocError>
-        ensures { IfOk result (λ rows. logs.Tells asked.now rows []) }
+        ensures { IfOk result (λ rows. logs.RowsTrackEvents asked.now rows []) }
     {
         Ok(SavedRows {
-            kept: KeptEntries::of(alloc, asked)?,
+            kept: KeptEntries::new(alloc, asked)?,
             unrepeated: BTreeMap::new(alloc),
             made: 0,
             times: LogTimes::new(),
@@ -70,7 +70,7 @@ impl SavedRows {
         for (number, entry) in self.kept.unended() {
             // two at one external endpoint: the end of the first one is missing
             if let Some(first) = self.unrepeated.insert(end_of(&entry.binding), *number)? {
-                return Err(RowFault::Unrepeated(first));
+                return Err(RowFault::NotRepeated(first));
             }
         }
         Ok(())
@@ -79,19 +79,20 @@ impl SavedRows {
     /// Ends a piece, whose rows are all there.
     pub fn end_piece(&self) -> Result<(), RowFault> {
         match self.unrepeated.values().min() {
-            Some(number) => Err(RowFault::Unrepeated(*number)),
+            Some(number) => Err(RowFault::NotRepeated(*number)),
             None => Ok(()),
         }
     }
 
     /// Returns the bindings that are asked about.
     pub fn into_bindings(self, alloc: Global) -> Result<SavedBindings, AllocError>
-        ensures { (asked : List Asked) (events : List Told) → logs.Tells asked self events →
+        ensures { (asked : List Asked) (events : List Told) →
+            logs.RowsTrackEvents asked self events →
             IfOk result (λ saved. saved.entries.items
             ≡ logs.asked_entries asked (logs.entries_in events)) }
     {
         let SavedRows { kept, times, .. } = self;
-        let (first, last) = times.covered();
+        let (first, last) = times.covered_span();
         Ok(SavedBindings {
             entries: kept.into_entries(alloc)?,
             first,
@@ -102,32 +103,32 @@ impl SavedRows {
     /// Takes a row after the names. Returns the binding that it makes, if it makes one.
     pub fn take(&mut self, row: &LogRow) -> Result<Option<Row>, RowFault>
         ensures { (asked : List Asked) (events : List Told) (event : Told) →
-            logs.Tells asked self.old events → row.now ≡ rows.saved_row event →
+            logs.RowsTrackEvents asked self.old events → row.now ≡ rows.saved_row event →
             OnOk result (logs.Follows (logs.entries_in events) event
-            × logs.Tells asked self.new (events ++ event ∷ [])) }
+            × logs.RowsTrackEvents asked self.new (events ++ event ∷ [])) }
     {
         match row.event {
             LogField::Number(8) => {
-                let binding = self.make(row)?;
+                let binding = self.add_made(row)?;
                 return Ok(Some(binding));
             }
             LogField::Number(9) => self.end(row)?,
             LogField::Number(event) if is_refusal(event) => {
-                self.times.other(row.time)?;
+                self.times.time_of_other(row.time)?;
             }
-            LogField::Empty => self.live_on(row)?,
-            _ => return Err(wrong("natEvent: expected 8, 9, 12, 13 or nothing")),
+            LogField::Empty => self.add_living(row)?,
+            _ => return Err(invalid_row("natEvent: expected 8, 9, 12, 13 or nothing")),
         }
         Ok(None)
     }
 
     /// Begins the entry of a binding, unless the piece repeats it. One that it replaces, of the same external
     /// endpoint, ends: of a log that begins new entries in a new file, no row ends the ones before.
-    fn make(&mut self, row: &LogRow) -> Result<Row, RowFault>
+    fn add_made(&mut self, row: &LogRow) -> Result<Row, RowFault>
         ensures { (asked : List Asked) (events : List Told) (listed : Listed) →
-            logs.Tells asked self.old events → row.now ≡ rows.saved_row (Made listed) →
+            logs.RowsTrackEvents asked self.old events → row.now ≡ rows.saved_row (Made listed) →
             OnOk result (logs.Follows (logs.entries_in events) (Made listed)
-            × logs.Tells asked self.new (events ++ Made listed ∷ [])) }
+            × logs.RowsTrackEvents asked self.new (events ++ Made listed ∷ [])) }
     {
         let binding = binding_of(row)?;
         let replaced = self.unrepeated.remove(&end_of(&binding));
@@ -152,7 +153,8 @@ impl SavedRows {
         Ok(())
     }
 
-    /// Whether the binding of a row has an entry without an end that was made at the time of the row.
+    /// Returns whether the binding of a row has an entry without an end that was made at the time
+    /// of the row.
     fn is_open_since(&self, row: &LogRow, binding: Row) -> bool {
         match self.open_entry(row.number, binding) {
             Some((_, made)) => row.time == LogField::Number(u128::from(made)),
@@ -163,45 +165,46 @@ impl SavedRows {
     /// Ends the entry of a binding at the time of the row.
     fn end(&mut self, row: &LogRow) -> Result<(), RowFault>
         ensures { (asked : List Asked) (events : List Told) (listed : Listed) →
-            logs.Tells asked self.old events → row.now ≡ rows.saved_row (Ended listed) →
+            logs.RowsTrackEvents asked self.old events → row.now ≡ rows.saved_row (Ended listed) →
             OnOk result (logs.Follows (logs.entries_in events) (Ended listed)
-            × logs.Tells asked self.new (events ++ Ended listed ∷ [])) }
+            × logs.RowsTrackEvents asked self.new (events ++ Ended listed ∷ [])) }
     {
         let binding = binding_of(row)?;
-        let at = self.times.other(row.time)?;
+        let at = self.times.time_of_other(row.time)?;
         self.end_at(row.number, binding, u128::from(at))
     }
 
     /// Takes a binding that is live at the end of the log, with the time at which it ends if no packet arrives. A
     /// redirect does not end.
-    fn live_on(&mut self, row: &LogRow) -> Result<(), RowFault>
+    fn add_living(&mut self, row: &LogRow) -> Result<(), RowFault>
         ensures { (asked : List Asked) (events : List Told) (listed : Listed) →
-            logs.Tells asked self.old events → row.now ≡ rows.saved_row (Living listed) →
+            logs.RowsTrackEvents asked self.old events → row.now ≡ rows.saved_row (Living listed) →
             OnOk result (logs.Follows (logs.entries_in events) (Living listed)
-            × logs.Tells asked self.new (events ++ Living listed ∷ [])) }
+            × logs.RowsTrackEvents asked self.new (events ++ Living listed ∷ [])) }
     {
         let binding = binding_of(row)?;
         match row.time {
             LogField::Number(end) if !binding.fixed => self.end_at(row.number, binding, end),
             LogField::Empty if binding.fixed => match self.open_entry(row.number, binding) {
                 Some(_) => Ok(()),
-                None => Err(wrong(NO_BINDING)),
+                None => Err(invalid_row(NO_BINDING)),
             },
-            LogField::Number(_) => Err(wrong(NO_BINDING)),
-            _ => Err(wrong(NO_TIME)),
+            LogField::Number(_) => Err(invalid_row(NO_BINDING)),
+            _ => Err(invalid_row(NO_TIME)),
         }
     }
 
     /// Ends the entry of a binding.
     fn end_at(&mut self, number: LogField, binding: Row, end: u128) -> Result<(), RowFault>
         ensures { (asked : List Asked) (entries : List Listed) (listed : Listed) →
-            logs.KeepsAll asked self.old entries → number ≡ LogField.Number listed.number →
+            logs.RowsTrackEntries asked self.old entries → number ≡ LogField.Number listed.number →
             binding ≡ listed.entry.binding → OnOk result (logs.HasOpen entries listed
-            × logs.KeepsAll asked self.new (map (logs.entry_with_end listed.number (Some end)) entries)
+            × logs.RowsTrackEntries asked self.new
+            (map (logs.entry_with_end listed.number (Some end)) entries)
             × (self.new.made ≡ self.old.made)) }
     {
         let Some((number, _)) = self.open_entry(number, binding) else {
-            return Err(wrong(NO_BINDING));
+            return Err(invalid_row(NO_BINDING));
         };
         self.unrepeated.remove(&end_of(&binding));
         self.kept.close(number, end)?;
@@ -211,7 +214,7 @@ impl SavedRows {
     /// The number of a binding's entry and the time when it was made, if a row above made it and none ended it.
     fn open_entry(&self, number: LogField, binding: Row) -> Option<(u64, u64)>
         ensures { (asked : List Asked) (entries : List Listed) (listed : Listed) →
-            logs.KeepsAll asked self.now entries → number ≡ LogField.Number listed.number →
+            logs.RowsTrackEntries asked self.now entries → number ≡ LogField.Number listed.number →
             binding ≡ listed.entry.binding →
             IfSome result (λ found. (found.0 ≡ listed.number) × logs.HasOpen entries listed) }
     {
@@ -230,7 +233,8 @@ impl SavedRows {
     }
 }
 
-/// Whether it is the natEvent of a packet that got no binding (RFC 8158): ports exhausted, or quota exceeded.
+/// Returns whether it is the natEvent of a packet that got no binding (RFC 8158): ports exhausted,
+/// or quota exceeded.
 fn is_refusal(event: u128) -> bool
     ensures { result ≡ true → 12 ≤ event }
 {
@@ -245,7 +249,7 @@ fn binding_of(row: &LogRow) -> Result<Row, RowFault>
 {
     match row.binding() {
         Ok(binding) => Ok(binding),
-        Err(why) => Err(wrong(why)),
+        Err(why) => Err(invalid_row(why)),
     }
 }
 

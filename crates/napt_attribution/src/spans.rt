@@ -23,19 +23,19 @@ const CLOCK: usize = 6;
 
 /// The reason why a text is not a time.
 #[derive(Clone, Copy)]
-pub enum BadTime {
+pub enum TimeFault {
     /// The text is neither a number of seconds nor a date.
     Unread,
     /// The text has more seconds than `LAST`.
     TooLate,
 }
 
-impl BadTime {
+impl TimeFault {
     /// The message, if `wanted` was expected.
-    pub fn words(self, wanted: &'static str) -> &'static str {
+    pub fn message(self, wanted: &'static str) -> &'static str {
         match self {
-            BadTime::Unread => wanted,
-            BadTime::TooLate => {
+            TimeFault::Unread => wanted,
+            TimeFault::TooLate => {
                 "more than 100000000000 seconds since 1970: are these milliseconds, microseconds or nanoseconds?"
             }
         }
@@ -43,11 +43,11 @@ impl BadTime {
 }
 
 /// Returns the span that a time stands for: seconds since 1970, or a date in RFC 3339.
-pub fn span_of(text: &str) -> Result<TimeSpan, BadTime> {
+pub fn span_of(text: &str) -> Result<TimeSpan, TimeFault> {
     match span_of_seconds(text) {
-        Some(span) if span.first / u128::from(SECOND) > u128::from(LAST) => Err(BadTime::TooLate),
+        Some(span) if span.first / u128::from(SECOND) > u128::from(LAST) => Err(TimeFault::TooLate),
         Some(span) => Ok(span),
-        None => span_of_date(text).ok_or(BadTime::Unread),
+        None => span_of_date(text).ok_or(TimeFault::Unread),
     }
 }
 

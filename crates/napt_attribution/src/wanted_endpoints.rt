@@ -18,7 +18,10 @@ pub struct WantedEndpoints {
 
 impl WantedEndpoints {
     /// Returns the addresses and endpoints that the requests name.
-    pub fn of(alloc: Global, asked: &[HolderRequest]) -> Result<WantedEndpoints, AllocError>
+    pub fn from_requests(
+        alloc: Global,
+        asked: &[HolderRequest],
+    ) -> Result<WantedEndpoints, AllocError>
         ensures { IfOk result (λ wanted. Wants asked.now wanted) }
     {
         let mut parties = BTreeSet::new(alloc);
@@ -29,8 +32,8 @@ impl WantedEndpoints {
         Ok(WantedEndpoints { parties })
     }
 
-    /// Whether a request asks about an external endpoint.
-    pub fn has(&self, external: Endpoint) -> bool
+    /// Returns whether a request asks about an external endpoint.
+    pub fn contains(&self, external: Endpoint) -> bool
         ensures { result ≡ is_wanted self.now external }
     {
         let Endpoint { address, number } = external;
@@ -48,7 +51,7 @@ impl WantedEndpoints {
     {
         entries
             .values()
-            .filter(|entry| self.has(entry.binding.external))
+            .filter(|entry| self.contains(entry.binding.external))
             .copied()
             .collect(alloc)
     }

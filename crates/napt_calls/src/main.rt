@@ -48,8 +48,8 @@ fn main(rt: HostRuntime) -> ExitCode {
     };
     let done = match words.get(1).map(String::as_str) {
         Some("refused") => return refused::print_call(&rt, words.get(2)),
-        Some("play") => play::played(&rt),
-        _ => runs::measured(&rt, &words),
+        Some("play") => play::play_calls(&rt),
+        _ => runs::measure(&rt, &words),
     };
     match done {
         Ok(()) => ExitCode::SUCCESS,

@@ -38,7 +38,7 @@ struct Player {
 }
 
 /// Makes the calls, up to the end or to a line without a valid call.
-pub(crate) fn played<R: Input + Print + AllocGlobal>(rt: &R) -> Result<(), CallFault> {
+pub(crate) fn play_calls<R: Input + Print + AllocGlobal>(rt: &R) -> Result<(), CallFault> {
     let alloc = rt.alloc();
     let reader = BufReader::new(alloc, rt.reader()).map_err(|_| CallFault::Call)?;
     let mut player = Player {
@@ -50,7 +50,7 @@ pub(crate) fn played<R: Input + Print + AllocGlobal>(rt: &R) -> Result<(), CallF
     };
     for text in reader.lines(alloc) {
         let text = text.map_err(|_| CallFault::File)?;
-        player.play(&mut Line::of(rt, alloc, text.as_str()))?;
+        player.play(&mut Line::new(rt, alloc, text.as_str()))?;
     }
     Ok(())
 }
@@ -61,8 +61,8 @@ impl Player {
         let call = line.word()?;
         match call {
             "read" => self.packet = packets::read(line)?,
-            "table" => self.table = Some(table::begun(line)?),
-            "translators" => self.translators = Some(translators::begun(line)?),
+            "table" => self.table = Some(table::new_table(line)?),
+            "translators" => self.translators = Some(translators::new_translators(line)?),
             "fix_check" | "fix_check_udp" => packets::print_check(line, call)?,
             "read_capture" => captures::print_read(line)?,
             "write_capture" => captures::print_written(line)?,

@@ -52,7 +52,7 @@ impl<R: Clock> Gate for SlowStart<R> {
 }
 
 /// Runs the part that the words name.
-pub(crate) fn measured<
+pub(crate) fn measure<
     R: Files + Input + Print + AllocGlobal + Clock + Threads + Wait + Copy + Send + Sync + 'static,
 >(rt: &R, words: &[String]) -> Result<(), CallFault> {
     let how = measurement_of(words.get(1))?;

@@ -34,7 +34,7 @@ impl<'a> CountedRun<'a> {
     pub fn step(&mut self, alloc: Global, input: &Input) -> Result<Outcome, RunFault> {
         let outcome = self.run.step(alloc, input)?;
         self.counts.count(&outcome);
-        self.losses.take(self.run.config(), input, &outcome);
+        self.losses.count_packet(self.run.config(), input, &outcome);
         Ok(outcome)
     }
 }

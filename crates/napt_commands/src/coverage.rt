@@ -24,7 +24,7 @@ pub struct Coverage {
 
 impl Coverage {
     /// Counts the next packet, and what it did to the bindings.
-    pub fn take(&mut self, input: &Input, step: &LogStep) {
+    pub fn count_packet(&mut self, input: &Input, step: &LogStep) {
         let many = match input.side {
             Side::Inside => &mut self.from_inside,
             Side::Outside => &mut self.from_outside,

@@ -13,17 +13,17 @@ pub enum Exit {
     /// A stop of `napt` whose reason has already been printed.
     Printed(Stop),
     /// A stop of `napt` whose fault line is to be printed.
-    As(Stop),
+    Unprinted(Stop),
     /// Standard output was closed at startup.
     NoOutput,
     /// Standard output cannot be written.
     Output(io::Error),
     /// Some packets have another outcome under the other configuration.
-    Differ,
+    Differences,
     /// Nobody had the endpoint in question.
-    Nobody,
+    NoHolder,
     /// The gateway of the captures used other numbers, which has already been printed.
-    Others,
+    OtherNumbers,
     /// A saved log is refused, and the reason has already been printed.
     Log,
 }
@@ -33,18 +33,18 @@ impl Exit {
     /// capture; 7 if the captured gateway used other numbers; 1 if packets differ or nobody had the endpoint.
     pub fn status(&self) -> u8 {
         match self {
-            Exit::Printed(stop) | Exit::As(stop) => stop_status(stop),
+            Exit::Printed(stop) | Exit::Unprinted(stop) => stop_status(stop),
             Exit::NoOutput | Exit::Output(_) => 6,
             Exit::Log => 4,
-            Exit::Others => 7,
-            Exit::Differ | Exit::Nobody => 1,
+            Exit::OtherNumbers => 7,
+            Exit::Differences | Exit::NoHolder => 1,
         }
     }
 
     /// Prints the reason, unless it has been printed already or standard output was a closed pipe.
     pub fn print<R: Eprint>(&self, rt: &R) {
         let _ = match self {
-            Exit::As(stop) => eprintln!(rt; "explain: {stop}"),
+            Exit::Unprinted(stop) => eprintln!(rt; "explain: {stop}"),
             Exit::NoOutput => eprintln!(rt; "explain: standard output is closed"),
             // A program whose output pipe is closed ends without a message.
             Exit::Output(error) if error.kind() == ErrorKind::BrokenPipe => Ok(()),
@@ -56,19 +56,19 @@ impl Exit {
 
 impl From<AllocError> for Exit {
     fn from(_refused: AllocError) -> Exit {
-        Exit::As(MEMORY)
+        Exit::Unprinted(MEMORY)
     }
 }
 
 impl<T: Drop> From<AllocFailed<T>> for Exit {
     fn from(_refused: AllocFailed<T>) -> Exit {
-        Exit::As(MEMORY)
+        Exit::Unprinted(MEMORY)
     }
 }
 
 impl From<RunFault> for Exit {
     fn from(fault: RunFault) -> Exit {
-        Exit::As(Stop::Run(Fault::Run(fault)))
+        Exit::Unprinted(Stop::Run(Fault::Run(fault)))
     }
 }
 

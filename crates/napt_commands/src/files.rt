@@ -18,7 +18,7 @@ pub fn print_unwritten<R: Eprint>(rt: &R, name: &str, path: &str, error: &io::Er
 }
 
 /// Prints that a file cannot be written if the system gives no reason, and returns how the program stops.
-pub fn unexplained<R: Eprint>(rt: &R, name: &str, path: &str) -> Exit {
+pub fn print_unexplained<R: Eprint>(rt: &R, name: &str, path: &str) -> Exit {
     let _ = eprintln!(rt; "explain: {name} {path}: it cannot be written whole");
     unwritten()
 }
@@ -29,7 +29,7 @@ pub fn unwritten() -> Exit {
 }
 
 /// Opens a file for reading, or standard input for `-`, and prints the reason if that fails. `name` names its option.
-pub fn opened<R: Files + Input + Eprint + AllocGlobal>(
+pub fn open_file<R: Files + Input + Eprint + AllocGlobal>(
     rt: &R,
     name: &str,
     path: &str,
@@ -46,7 +46,7 @@ pub fn text_at<R: Files + Input + Eprint + AllocGlobal>(
     name: &str,
     path: &str,
 ) -> Result<Vec<u8>, Exit> {
-    match config_text(rt.alloc(), opened(rt, name, path)?) {
+    match config_text(rt.alloc(), open_file(rt, name, path)?) {
         Ok(text) => Ok(text),
         Err(stop) => Err(print_unread(rt, name, path, stop)),
     }
@@ -60,7 +60,7 @@ fn print_unread<R: Files + Eprint + AllocGlobal>(
     stop: Stop,
 ) -> Exit {
     if !matches!(stop, Stop::File(_)) {
-        return Exit::As(stop);
+        return Exit::Unprinted(stop);
     }
     match input_reason(rt, rt.alloc(), name, path) {
         Ok(text) => {

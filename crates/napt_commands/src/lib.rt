@@ -21,11 +21,13 @@ pub use crate::command_output::CommandOutput;
 pub use crate::counted_run::CountedRun;
 pub use crate::coverage::Coverage;
 pub use crate::exit::Exit;
-pub use crate::files::{opened, print_failed, print_unwritten, text_at, unexplained, unwritten};
+pub use crate::files::{
+    open_file, print_failed, print_unexplained, print_unwritten, text_at, unwritten,
+};
 pub use crate::loss_counts::{LossCounts, SourceKind, destination_of, source_of};
-pub use crate::outside_capture::{OutsideCapture, copied};
+pub use crate::outside_capture::{OutsideCapture, copy_inputs};
 pub use crate::page::Page;
-pub use crate::run_packet::{Consumer, EndedRun, RunPacket, take_all};
+pub use crate::run_packet::{EndedRun, PacketConsumer, RunPacket, pass_all};
 pub use crate::seconds::Seconds;
 pub use crate::sorted_entries::SortedEntries;
 pub use crate::start::RunStart;

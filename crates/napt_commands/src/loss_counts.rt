@@ -42,10 +42,10 @@ impl LossCounts {
     }
 
     /// Counts the next packet.
-    pub fn take(&mut self, config: &Config, input: &Input, outcome: &Outcome) {
+    pub fn count_packet(&mut self, config: &Config, input: &Input, outcome: &Outcome) {
         if input.side == Side::Inside {
             self.inside = self.inside.saturating_add(1);
-            if let SourceKind::Inside = SourceKind::of(config, &input.bytes) {
+            if let SourceKind::Inside = SourceKind::from_datagram(config, &input.bytes) {
                 self.from_hosts = self.from_hosts.saturating_add(1);
             }
             if let Outcome::Dropped(Cause::OverQuota | Cause::NoPort) = outcome {
@@ -59,7 +59,10 @@ impl LossCounts {
                 self.no_binding = self.no_binding.saturating_add(1);
             }
             Outcome::Dropped(Cause::NotOurs) => self.not_ours = self.not_ours.saturating_add(1),
-            Outcome::Dropped(Cause::Spoofed) => match SourceKind::of(config, &input.bytes) {
+            Outcome::Dropped(Cause::Spoofed) => match SourceKind::from_datagram(
+                config,
+                &input.bytes,
+            ) {
                 SourceKind::Inside => self.from_inside = self.from_inside.saturating_add(1),
                 SourceKind::Pool(place) => {
                     if let Some(many) = self.from_pool.get_mut(place as usize) {
@@ -79,12 +82,13 @@ impl LossCounts {
         self.no_binding.saturating_add(self.not_ours)
     }
 
-    /// Whether more than a fifth, and more than one, found no binding or were not for the gateway.
+    /// Returns whether more than a fifth, and more than one, found no binding or were not for the
+    /// gateway.
     pub fn exceeds_fifth_unmet(&self) -> bool {
         self.unmet() > self.all / 5 && self.unmet() > 1
     }
 
-    /// Whether more than a fifth, and more than one, found no binding.
+    /// Returns whether more than a fifth, and more than one, found no binding.
     pub fn exceeds_fifth_unbound(&self) -> bool
         ensures { (result ≡ true)
             ↔ ((self.now.all / 5 < self.now.no_binding) × (1 < self.now.no_binding)) }
@@ -92,12 +96,13 @@ impl LossCounts {
         self.no_binding > self.all / 5 && self.no_binding > 1
     }
 
-    /// Whether no packet from inside comes from an inside address, and more than half of those from outside do.
+    /// Returns whether no packet from inside comes from an inside address, and more than half of
+    /// those from outside do.
     pub fn are_swapped(&self) -> bool {
         self.inside > 0 && self.from_hosts == 0 && self.from_inside > self.all / 2
     }
 
-    /// Whether more than half were not for the gateway.
+    /// Returns whether more than half were not for the gateway.
     pub fn exceeds_half_not_ours(&self) -> bool
         ensures { (result ≡ true) ↔ (self.now.all / 2 < self.now.not_ours) }
     {
@@ -118,7 +123,7 @@ pub enum SourceKind {
 
 impl SourceKind {
     /// Returns the origin of the datagram that begins with these bytes.
-    pub fn of(config: &Config, bytes: &[u8]) -> SourceKind {
+    pub fn from_datagram(config: &Config, bytes: &[u8]) -> SourceKind {
         let Some(source) = source_of(bytes) else {
             return SourceKind::Remote;
         };

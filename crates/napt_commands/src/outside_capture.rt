@@ -30,7 +30,7 @@ impl OutsideCapture {
         }
     }
 
-    /// Whether the packets of the capture follow the run.
+    /// Returns whether the packets of the capture follow the run.
     pub fn follows(self) -> bool {
         self == OutsideCapture::Replies
     }
@@ -50,7 +50,7 @@ impl OutsideCapture {
 }
 
 /// Returns a copy of the inputs.
-pub fn copied(alloc: Global, inputs: &[Input]) -> Result<Vec<Input>, AllocError> {
+pub fn copy_inputs(alloc: Global, inputs: &[Input]) -> Result<Vec<Input>, AllocError> {
     let mut copies = Vec::new(alloc);
     for input in inputs {
         copies.push(Input {

@@ -41,7 +41,7 @@ pub struct EndedRun<'a> {
 }
 
 /// Takes the packets of the captures, one after another, and keeps none.
-pub trait Consumer<R> {
+pub trait PacketConsumer<R> {
     /// Takes the next packet, which has this number, from 1.
     fn take(&mut self, rt: &R, number: u64, input: &Input) -> Result<(), Exit>;
 
@@ -52,7 +52,11 @@ pub trait Consumer<R> {
 }
 
 /// Passes packets in memory to a consumer, one after another.
-pub fn take_all<R, C: Consumer<R>>(rt: &R, inputs: &[Input], consumer: &mut C) -> Result<(), Exit> {
+pub fn pass_all<R, C: PacketConsumer<R>>(
+    rt: &R,
+    inputs: &[Input],
+    consumer: &mut C,
+) -> Result<(), Exit> {
     let mut number = 0u64;
     for input in inputs {
         number = number.saturating_add(1);

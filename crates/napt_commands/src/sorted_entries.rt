@@ -11,7 +11,7 @@ pub struct SortedEntries {
 }
 
 impl SortedEntries {
-    pub fn of(entries: Vec<Entry>) -> Result<SortedEntries, AllocError> {
+    pub fn from_entries(entries: Vec<Entry>) -> Result<SortedEntries, AllocError> {
         let mut entries = entries;
         // The sort is stable: entries of one endpoint keep their order.
         entries.sort_by_key(|entry| place_of(entry.binding.external))?;

@@ -17,7 +17,7 @@ pub struct ColumnWidths {
 
 impl ColumnWidths {
     /// Widens the columns for the next packet, by its number and its time.
-    pub fn take(&mut self, number: u64, input: &Input) {
+    pub fn widen_for(&mut self, number: u64, input: &Input) {
         self.number = self.number.max(number);
         self.seconds = self.seconds.max(input.clock / 1_000_000_000);
     }

@@ -19,7 +19,7 @@ pub use crate::lines::{PacketLine, has_party};
 pub use crate::packet_objects::PacketObjects;
 pub use crate::packet_selection::PacketSelection;
 pub use crate::remotes::Remotes;
-pub use crate::replies::{Replies, ends_of};
+pub use crate::replies::{Replies, inside_endpoints_of};
 pub use crate::run_comparison::RunComparison;
 pub use crate::single_packet::SinglePacket;
 pub use crate::summary::PacketLines;

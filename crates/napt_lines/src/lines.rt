@@ -18,7 +18,7 @@ use std::alloc::{AllocError, Global};
 /// A packet of a run.
 #[derive(Clone, Copy)]
 pub struct PacketLine<'a> {
-    pub passing: RunPacket<'a>,
+    pub run_packet: RunPacket<'a>,
     /// The packets from outside, if they are replies.
     replies: Option<Replies<'a>>,
     /// The inside endpoint that was the destination of the packet, if it is a valid reply.
@@ -27,42 +27,43 @@ pub struct PacketLine<'a> {
 
 impl<'a> PacketLine<'a> {
     /// Returns the line of a packet of a run.
-    pub fn of(passing: RunPacket<'a>, replies: Option<Replies<'a>>) -> PacketLine<'a> {
-        let end = replies.and_then(|replies| replies.end_at(passing.number));
+    pub fn new(passing: RunPacket<'a>, replies: Option<Replies<'a>>) -> PacketLine<'a> {
+        let end = replies.and_then(|replies| replies.inside_endpoint_at(passing.number));
         PacketLine {
-            passing,
+            run_packet: passing,
             replies,
             end,
         }
     }
 
     fn outcome(self) -> &'a Outcome {
-        &self.passing.step.outcome
+        &self.run_packet.step.outcome
     }
 
     /// Returns the packet's object in JSON.
     pub fn object(self) -> JsonObject<'a> {
         JsonObject {
-            number: self.passing.number,
-            input: self.passing.input,
+            number: self.run_packet.number,
+            input: self.run_packet.input,
             outcome: self.outcome(),
-            note: self.passing.step.part.used.note,
+            note: self.run_packet.step.part.used.note,
         }
     }
 
-    /// Whether the packet is selected.
+    /// Returns whether the packet is selected.
     pub fn is_chosen(self, alloc: Global, choice: PacketSelection) -> Result<bool, AllocError> {
         let is_dropped = matches!(self.outcome(), Outcome::Dropped(_));
         match choice.host {
-            _ if !choice.takes(self.passing.number, is_dropped) => Ok(false),
+            _ if !choice.selects(self.run_packet.number, is_dropped) => Ok(false),
             None => Ok(true),
             Some(host) => self.has_host(alloc, host),
         }
     }
 
-    /// Whether the packet arrives or leaves with this host or endpoint, or was sent to it as a reply.
+    /// Returns whether the packet arrives or leaves with this host or endpoint, or was sent to it
+    /// as a reply.
     pub fn has_host(self, alloc: Global, host: Party) -> Result<bool, AllocError> {
-        let input = self.passing.input;
+        let input = self.run_packet.input;
         Ok(
             leaves_with(self.outcome(), host)
                 || self.end.is_some_and(|end| host.has(end))
@@ -78,7 +79,7 @@ impl<'a> PacketLine<'a> {
         text: &mut String,
         widths: ColumnWidths,
     ) -> Result<(), AllocError> {
-        let RunPacket { number, input, .. } = self.passing;
+        let RunPacket { number, input, .. } = self.run_packet;
         add_number_within(text, number, widths.number())?;
         text.push_str(" ")?;
         add_seconds(text, input.time, widths.seconds())?;
@@ -92,14 +93,14 @@ impl<'a> PacketLine<'a> {
 
     /// Appends what happened to the packet, and the packet as it leaves.
     fn add_rest(self, text: &mut String) -> Result<(), AllocError> {
-        let RunPacket { input, step, .. } = self.passing;
+        let RunPacket { input, step, .. } = self.run_packet;
         let (packet, is_hairpin) = match &step.outcome {
             Outcome::Dropped(cause) => return self.add_loss(text, *cause),
             Outcome::ToInside(packet) => (packet, input.side == Side::Inside),
             Outcome::ToOutside(packet) => (packet, false),
         };
         let begin = text.len();
-        text.push_str(used(packet, step.part.used.note))?;
+        text.push_str(binding_effect(packet, step.part.used.note))?;
         end_column(text, begin, HAPPENED)?;
         if is_hairpin {
             text.push_str("hairpin: ")?;
@@ -109,7 +110,7 @@ impl<'a> PacketLine<'a> {
 
     /// Appends why the packet was dropped.
     fn add_loss(self, text: &mut String, cause: Cause) -> Result<(), AllocError> {
-        let input = self.passing.input;
+        let input = self.run_packet.input;
         text.push_str("dropped, ")?;
         text.push_str(cause_name(cause))?;
         text.push_str(": ")?;
@@ -118,7 +119,7 @@ impl<'a> PacketLine<'a> {
                 return Ok(());
             }
         }
-        text.push_str(CauseText::of(cause).meaning)
+        text.push_str(CauseText::from_cause(cause).meaning)
     }
 }
 
@@ -130,7 +131,7 @@ pub fn side_column(side: Side) -> &'static str {
     }
 }
 
-/// Whether a packet leaves with this host or endpoint.
+/// Returns whether a packet leaves with this host or endpoint.
 pub fn leaves_with(outcome: &Outcome, host: Party) -> bool {
     match outcome {
         Outcome::ToOutside(packet) | Outcome::ToInside(packet) => is_end_of(host, packet),
@@ -138,13 +139,13 @@ pub fn leaves_with(outcome: &Outcome, host: Party) -> bool {
     }
 }
 
-/// Whether a binding has the selected host or endpoint, if one is selected.
+/// Returns whether a binding has the selected host or endpoint, if one is selected.
 pub fn has_party(row: &Row, host: Option<Party>) -> bool {
     host.is_none_or(|host| host.has(row.inside) || host.has(row.external))
 }
 
 /// Returns what a forwarded packet did to a binding.
-fn used(packet: &Packet, note: LogNote) -> &'static str {
+fn binding_effect(packet: &Packet, note: LogNote) -> &'static str {
     match (packet.kind(), note) {
         (Kind::ErrorOf(_), _) => "error about a binding",
         (_, LogNote::Made) => "made a binding",

@@ -22,7 +22,7 @@ impl<R: AllocGlobal> CommandOutput<R> for PacketObjects<'_> {
         passing: RunPacket<'_>,
         text: &mut String,
     ) -> Result<(), Exit> {
-        let line = PacketLine::of(passing, self.replies);
+        let line = PacketLine::new(passing, self.replies);
         if line.is_chosen(rt.alloc(), self.choice)? {
             line.object().add_to(rt.alloc(), text)?;
         }

@@ -62,15 +62,15 @@ impl Remotes {
         }
     }
 
-    /// Whether at least half of the packets from outside that found no binding, or were not for the gateway, are
-    /// answers.
+    /// Returns whether at least half of the packets from outside that found no binding, or were not
+    /// for the gateway, are answers.
     pub fn are_answers(&self, losses: &LossCounts) -> bool {
         let others = losses.unmet().saturating_sub(self.unmet_answers);
         self.unmet_answers > 0 && self.unmet_answers >= others
     }
 
-    /// Whether more than one in a thousand answers, and more than one, go astray: the captured gateway had other
-    /// numbers.
+    /// Returns whether more than one in a thousand answers, and more than one, go astray: the
+    /// captured gateway had other numbers.
     pub fn are_astray(&self) -> bool {
         self.astray > 1 && self.astray > self.answers / 1_000
     }
@@ -83,11 +83,11 @@ impl Remotes {
             "explain: the captured gateway used other numbers: {astray} of {answers} answers from outside, the first of them packet \
 {first}, do not reach the host that asked for them (--as-napt answers from the run of napt)"
         );
-        Exit::Others
+        Exit::OtherNumbers
     }
 
-    /// Takes the next packet.
-    pub fn take(&mut self, alloc: Global, passing: RunPacket<'_>) -> Result<(), AllocError> {
+    /// Adds the next packet.
+    pub fn add_packet(&mut self, alloc: Global, passing: RunPacket<'_>) -> Result<(), AllocError> {
         let step = passing.step;
         for listed in &step.part.ended {
             self.of_bindings.remove(&listed.number);
@@ -140,7 +140,7 @@ impl Remotes {
                 *before = sent;
             }
             None => {
-                self.forget(now);
+                self.remove_stale(now);
                 self.sent.insert(remote, sent)?;
             }
         }
@@ -148,7 +148,7 @@ impl Remotes {
     }
 
     /// Forgets the remotes to which nothing was sent for a minute, once there are twice as many as after the last time.
-    fn forget(&mut self, now: u64) {
+    fn remove_stale(&mut self, now: u64) {
         if self.sent.len() < self.full {
             return;
         }
@@ -158,7 +158,7 @@ impl Remotes {
     }
 
     /// Returns what was sent to a remote, if a packet was sent to it within the minute before.
-    fn just_sent(&self, remote: Remote, now: u64) -> Option<SentCounts> {
+    fn recently_sent(&self, remote: Remote, now: u64) -> Option<SentCounts> {
         let sent = self.sent.get(&remote).copied()?;
         (now.saturating_sub(sent.at) <= JUST_BEFORE).then_some(sent)
     }
@@ -169,12 +169,12 @@ impl Remotes {
         let (bytes, now) = (&input.bytes, input.clock);
         if matches!(outcome, Outcome::Dropped(Cause::NoBinding | Cause::NotOurs))
             && let Some(address) = source_of(bytes)
-            && self.just_sent((None, address, 0), now).is_some()
+            && self.recently_sent((None, address, 0), now).is_some()
         {
             self.unmet_answers = self.unmet_answers.saturating_add(1);
         }
         if let Some(remote) = remote_of(bytes, Side::Outside)
-            && let Some(sent) = self.just_sent(remote, now)
+            && let Some(sent) = self.recently_sent(remote, now)
         {
             self.answer(passing, outcome, remote, sent);
         }
@@ -207,7 +207,8 @@ impl Remotes {
         }
     }
 
-    /// Whether a packet of the binding with a number went to a remote, or this is not known.
+    /// Returns whether a packet of the binding with a number went to a remote, or this is not
+    /// known.
     fn has_sent(&self, number: Option<u64>, remote: Remote) -> bool {
         match number.and_then(|number| self.of_bindings.get(&number)) {
             Some(remotes) => remotes.len() >= MOST || remotes.contains(&remote),

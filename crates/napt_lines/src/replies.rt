@@ -26,15 +26,18 @@ pub struct Replies<'a> {
 
 /// Returns the inside endpoint to which each input is sent, if it comes from outside and is a valid packet. Bytes after
 /// the packet's end are cut off, as they are when it follows the run.
-pub fn ends_of(alloc: Global, inputs: &mut [Input]) -> Result<Vec<Option<Endpoint>>, AllocError> {
+pub fn inside_endpoints_of(
+    alloc: Global,
+    inputs: &mut [Input],
+) -> Result<Vec<Option<Endpoint>>, AllocError> {
     let mut ends = Vec::new(alloc);
     for input in inputs.iter_mut() {
-        ends.push(end_of(alloc, input))?;
+        ends.push(inside_endpoint_of(alloc, input))?;
     }
     Ok(ends)
 }
 
-fn end_of(alloc: Global, input: &mut Input) -> Option<Endpoint> {
+fn inside_endpoint_of(alloc: Global, input: &mut Input) -> Option<Endpoint> {
     if input.side == Side::Inside {
         return None;
     }
@@ -54,7 +57,7 @@ fn end_of(alloc: Global, input: &mut Input) -> Option<Endpoint> {
 
 impl<'a> Replies<'a> {
     /// Returns the replies of a run under a configuration, with their inside endpoints, if the capture has replies.
-    pub fn of(
+    pub fn new(
         outside: OutsideCapture,
         config: &'a Config,
         ends: &'a [Option<Endpoint>],
@@ -63,7 +66,7 @@ impl<'a> Replies<'a> {
     }
 
     /// Returns the inside endpoint to which the packet with this number, from 1, was sent, if it is a valid reply.
-    pub fn end_at(self, number: u64) -> Option<Endpoint> {
+    pub fn inside_endpoint_at(self, number: u64) -> Option<Endpoint> {
         let at = usize::try_from(number.checked_sub(1)?).ok()?;
         *self.ends.get(at)?
     }
@@ -87,7 +90,7 @@ impl<'a> Replies<'a> {
                 text.push_str("it is not to an inside host, but to ")?;
                 add_address(text, end.address)?;
             }
-            Cause::Spoofed => match SourceKind::of(self.config, bytes) {
+            Cause::Spoofed => match SourceKind::from_datagram(self.config, bytes) {
                 SourceKind::Inside => write!(text, "from an inside address: {FROM_INSIDE}")?,
                 SourceKind::Pool(_) => write!(text, "from an address of the pool: {FROM_POOL}")?,
                 SourceKind::Remote => return Ok(false),

@@ -4,7 +4,7 @@ use crate::lines::{leaves_with, side_column};
 use crate::packet_fields::{add_arrival, add_packet, is_end_of_arrival};
 use crate::packet_selection::PacketSelection;
 use napt_commands::{
-    Consumer, CountedRun, Exit, OutsideCapture, RunStart, Seconds, copied, print_warning,
+    CountedRun, Exit, OutsideCapture, PacketConsumer, RunStart, Seconds, copy_inputs, print_warning,
 };
 use napt_records::{OutcomeCounts, cause_name};
 use napt_sequential::{Input, Outcome};
@@ -23,7 +23,7 @@ pub struct RunComparison<'a> {
 
 /// A packet, numbered from 1, and its outcomes under both configurations.
 #[derive(Clone, Copy)]
-struct Pair<'a> {
+struct OutcomePair<'a> {
     number: u64,
     input: &'a Input,
     first: &'a Outcome,
@@ -54,8 +54,12 @@ impl<'a> RunComparison<'a> {
         inputs: &[Input],
     ) -> Result<(), Exit> {
         let alloc = rt.alloc();
-        let first = outside.inputs_under(alloc, self.first.config(), copied(alloc, inputs)?)?;
-        let second = outside.inputs_under(alloc, self.second.config(), copied(alloc, inputs)?)?;
+        let first = outside.inputs_under(alloc, self.first.config(), copy_inputs(alloc, inputs)?)?;
+        let second = outside.inputs_under(
+            alloc,
+            self.second.config(),
+            copy_inputs(alloc, inputs)?,
+        )?;
         let both = first.iter().zip(&second);
         for (place, (input, (first, second))) in inputs.iter().zip(both).enumerate() {
             let number = (place as u64).saturating_add(1);
@@ -76,7 +80,7 @@ impl<'a> RunComparison<'a> {
         let [first, second] = inputs;
         let first = self.first.step(rt.alloc(), first)?;
         let second = self.second.step(rt.alloc(), second)?;
-        let pair = Pair {
+        let pair = OutcomePair {
             number,
             input,
             first: &first,
@@ -90,7 +94,7 @@ impl<'a> RunComparison<'a> {
     }
 
     /// Prints the warnings and the counts of both runs; `names` are the paths of their configurations. Fails with
-    /// `Differ` if the outcomes of any packet, selected or not, differ.
+    /// `Differences` if the outcomes of any packet, selected or not, differ.
     pub fn print<R: Print + Eprint>(
         &self,
         rt: &R,
@@ -102,7 +106,7 @@ impl<'a> RunComparison<'a> {
         print_warning(rt, outside, Some(second), &self.second.losses);
         self.print_counts(rt)?;
         if self.different > 0 {
-            return Err(Exit::Differ);
+            return Err(Exit::Differences);
         }
         Ok(())
     }
@@ -120,7 +124,7 @@ impl<'a> RunComparison<'a> {
     }
 }
 
-impl<R: Print + AllocGlobal> Consumer<R> for RunComparison<'_> {
+impl<R: Print + AllocGlobal> PacketConsumer<R> for RunComparison<'_> {
     fn take(&mut self, rt: &R, number: u64, input: &Input) -> Result<(), Exit> {
         self.take_both(rt, number, input, [input, input])
     }
@@ -141,8 +145,8 @@ fn print_drops<R: Print>(
     Ok(())
 }
 
-impl<'a> Pair<'a> {
-    /// Whether both outcomes are the same, byte for byte.
+impl<'a> OutcomePair<'a> {
+    /// Returns whether both outcomes are the same, byte for byte.
     fn ends_alike(self) -> bool {
         match (self.first, self.second) {
             (Outcome::Dropped(one), Outcome::Dropped(other)) => one == other,
@@ -162,7 +166,7 @@ impl<'a> Pair<'a> {
     }
 
     fn is_chosen(self, alloc: Global, choice: PacketSelection) -> Result<bool, AllocError> {
-        if !choice.takes(self.number, self.is_dropped()) {
+        if !choice.selects(self.number, self.is_dropped()) {
             return Ok(false);
         }
         let Some(host) = choice.host else {
@@ -175,7 +179,7 @@ impl<'a> Pair<'a> {
         is_end_of_arrival(host, alloc, input.side, &input.bytes)
     }
 
-    /// Whether either configuration drops the packet.
+    /// Returns whether either configuration drops the packet.
     fn is_dropped(self) -> bool {
         matches!(self.first, Outcome::Dropped(_)) || matches!(self.second, Outcome::Dropped(_))
     }

@@ -99,13 +99,13 @@ impl<R: Print + Eprint + AllocGlobal> CommandOutput<R> for SinglePacket<'_> {
             return Ok(());
         }
         self.is_found = true;
-        let line = PacketLine::of(passing, self.replies);
+        let line = PacketLine::new(passing, self.replies);
         self.is_chosen = line.is_chosen(rt.alloc(), self.choice)?;
         if !self.is_chosen {
             return Ok(());
         }
         let mut widths = ColumnWidths::default();
-        widths.take(number, input);
+        widths.widen_for(number, input);
         line.add(rt.alloc(), text, widths)?;
         self.out = step.part.used.out.map(UsedBinding::new);
         self.into = step.part.used.into.map(UsedBinding::new);
@@ -116,7 +116,9 @@ impl<R: Print + Eprint + AllocGlobal> CommandOutput<R> for SinglePacket<'_> {
     fn end(self, rt: &R, page: &mut Page, ending: &EndedRun<'_>) -> Result<(), Exit> {
         if !self.is_found {
             let (number, packets) = (self.number, ending.packets);
-            let _ = eprintln!(rt; "explain: --only {number}: there are {packets} packets");
+            let _ = eprintln!(rt;
+                "explain: --only {number}: the captures contain fewer packets: {packets}"
+            );
             return Err(Exit::Printed(Stop::Usage));
         }
         if !self.is_chosen {

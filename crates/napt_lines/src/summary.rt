@@ -41,7 +41,7 @@ impl<'a> PacketLines<'a> {
         }
     }
 
-    /// Whether the end of a binding is selected.
+    /// Returns whether the end of a binding is selected.
     fn has_chosen(&self, entry: &Entry) -> bool {
         !self.choice.dropped && has_party(&entry.binding, self.choice.host)
     }
@@ -55,7 +55,7 @@ impl<'a> PacketLines<'a> {
         ending: &EndedRun<'_>,
     ) -> Result<(), Exit> {
         let living = ending.living.iter().map(|listed| listed.entry);
-        let living = SortedEntries::of(living.collect(rt.alloc())?)?;
+        let living = SortedEntries::from_entries(living.collect(rt.alloc())?)?;
         let time = Seconds(ending.last);
         let many = ending.rows.len();
         writeln!(page.text, "live bindings at {time}: {many}")?;
@@ -91,7 +91,7 @@ impl<'a> PacketLines<'a> {
         if many == 0 {
             return Ok(());
         }
-        let (name, meaning) = (cause_name(cause), CauseText::of(cause).meaning);
+        let (name, meaning) = (cause_name(cause), CauseText::from_cause(cause).meaning);
         writeln!(text, "  {many} dropped, {name}: {meaning}")?;
         if let Some(replies) = self.replies {
             replies.add_losses(text, cause, &ending.losses)?;
@@ -116,7 +116,7 @@ impl<'a> PacketLines<'a> {
         if is_answered {
             writeln!(text, "    many packets have this cause: {OTHER_NUMBERS}")?;
         }
-        let told = CauseText::of(cause);
+        let told = CauseText::from_cause(cause);
         let told = match self.replies {
             Some(_) => told.advice_of_replies.or(told.advice),
             None => told.advice,
@@ -145,13 +145,13 @@ impl<R: Print + AllocGlobal> CommandOutput<R> for PacketLines<'_> {
             step,
         } = passing;
         self.counts.count(&step.outcome);
-        self.widths.take(number, input);
+        self.widths.widen_for(number, input);
         for listed in &step.part.ended {
             if self.has_chosen(&listed.entry) {
                 add_end(text, self.widths, &listed.entry)?;
             }
         }
-        let line = PacketLine::of(passing, self.replies);
+        let line = PacketLine::new(passing, self.replies);
         if line.is_chosen(rt.alloc(), self.choice)? {
             line.add(rt.alloc(), text, self.widths)?;
         }

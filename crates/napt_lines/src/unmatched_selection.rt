@@ -14,20 +14,20 @@ pub struct UnmatchedSelection {
 
 impl UnmatchedSelection {
     /// Returns the value before the first packet, with the bindings of redirects.
-    pub fn of(choice: PacketSelection, opening: &[LogEntry]) -> UnmatchedSelection {
+    pub fn new(choice: PacketSelection, opening: &[LogEntry]) -> UnmatchedSelection {
         let mut unmatched = UnmatchedSelection { host: choice.host };
-        unmatched.take_bindings(opening);
+        unmatched.add_bindings(opening);
         unmatched
     }
 
-    /// Takes the next packet, and the bindings that it made.
-    pub fn take(
+    /// Adds the next packet, and the bindings that it made.
+    pub fn add_packet(
         &mut self,
         alloc: Global,
         line: PacketLine<'_>,
         made: &[LogEntry],
     ) -> Result<(), AllocError> {
-        self.take_bindings(made);
+        self.add_bindings(made);
         if let Some(host) = self.host
             && line.has_host(alloc, host)?
         {
@@ -36,7 +36,7 @@ impl UnmatchedSelection {
         Ok(())
     }
 
-    fn take_bindings(&mut self, bindings: &[LogEntry]) {
+    fn add_bindings(&mut self, bindings: &[LogEntry]) {
         if bindings
             .iter()
             .any(|listed| has_party(&listed.entry.binding, self.host))
@@ -52,9 +52,12 @@ impl UnmatchedSelection {
         };
         let address = Address(host.address);
         let _ = match host.number {
-            Some(number) => eprint!(rt; "explain: --host {address}:{number}: "),
-            None => eprint!(rt; "explain: --host {address}: "),
+            Some(number) => eprintln!(rt;
+                "explain: --host {address}:{number}: no packet or binding has this endpoint"
+            ),
+            None => eprintln!(rt;
+                "explain: --host {address}: no packet or binding has this address"
+            ),
         };
-        let _ = eprintln!(rt; "no packet and no binding has it");
     }
 }

@@ -34,12 +34,12 @@ abbrev pub year_length : ℕ → ℕ
 year_length year = if is_leap year then 366 else 365
 
 -- The number of leap days in the years from 1 to a year.
-abbrev pub leaps : ℕ → ℕ
-leaps year = (year / 4 + year / 400) - year / 100
+abbrev pub leap_days_through : ℕ → ℕ
+leap_days_through year = (year / 4 + year / 400) - year / 100
 
 -- The number of days between January 1st of 1970 and that of a later year.
 abbrev pub days_before : ℕ → ℕ
-days_before year = (365 * (year - 1970) + leaps (year - 1)) - leaps 1969
+days_before year = (365 * (year - 1970) + leap_days_through (year - 1)) - leap_days_through 1969
 
 -- The number of days from 1970-01-01 to 10000-01-01; the years before it have four digits (RFC 3339, section 1).
 abbrev pub dated_days : ℕ

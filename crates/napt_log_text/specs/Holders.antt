@@ -7,12 +7,12 @@ use Rattle.napt_account.specs.declared.{log.Entry.Entry, question.Party.Party}
 use Rattle.napt_log_text.specs.{declared.request.{Request.Request, NearestEntries.NearestEntries, TimeSpan.TimeSpan}, Times.{TimeText, seconds_text, moment_text}}
 
 -- An end after the last packet comes only if no packet does.
-abbrev pub premise_text : ℕ → ℕ → TimeText
-premise_text last end = if nat_le end last then [] else codes ", if no packet comes"
+abbrev pub end_condition_text : ℕ → ℕ → TimeText
+end_condition_text last end = if nat_le end last then [] else codes ", if no packet comes"
 
 abbrev pub times_text : ℕ → ℕ → ℕ → TimeText
 times_text last made end =
-    codes " from " ++ moment_text made ++ codes " until " ++ moment_text end ++ premise_text last end
+    codes " from " ++ moment_text made ++ codes " until " ++ moment_text end ++ end_condition_text last end
 
 -- A binding has no end if it is a redirect, or if a saved log is incomplete and does not have the end.
 abbrev pub why_open : Bool → TimeText

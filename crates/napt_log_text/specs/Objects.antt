@@ -13,7 +13,7 @@ use Rattle.napt_config.specs.Text.{address_text}
 use Rattle.napt_rules.specs.{Prelude.Arrival, declared.Outcome.{Outcome, TheVariants.{ToOutside, ToInside, Dropped}}}
 use Rattle.napt_records.specs.Report.{cause_name, protocol_name}
 use Rattle.napt_account.specs.declared.binding_tally.LogNote.{LogNote, TheVariants.{Nothing, Made, Found, Redirect}}
-use Rattle.napt_log_text.specs.{declared.json_object.{Ends.Ends, PacketNumbers.{PacketNumbers, TheVariants.{Ports, Identifier, Absent}}}, Times.TimeText}
+use Rattle.napt_log_text.specs.{declared.json_object.{PacketEnds.PacketEnds, PacketNumbers.{PacketNumbers, TheVariants.{Ports, Identifier, Absent}}}, Times.TimeText}
 
 -- JSON
 
@@ -61,14 +61,14 @@ numbers_in protocols.Icmp = Identifier
 numbers_in protocols.Tcp = Ports
 numbers_in protocols.Udp = Ports
 
-abbrev pub ends_of : List ℕ → Ends
+abbrev pub ends_of : List ℕ → PacketEnds
 ends_of packet = record {
   source = source packet;
   destination = destination packet;
   numbers = packet_numbers (kind packet);
 }
 
-abbrev pub ends_in : Inner → Ends
+abbrev pub ends_in : Inner → PacketEnds
 ends_in inner = record {
   source = inner.source;
   destination = inner.destination;
@@ -86,7 +86,7 @@ identifier_text Ports one other = null
 identifier_text Identifier one other = decimal (max one other)
 identifier_text Absent one other = null
 
-unfoldable pub end_members : Ends → TimeText
+unfoldable pub end_members : PacketEnds → TimeText
 end_members ends = members (
     json_member (codes "source") (quoted (address_text ends.source.address))
     ∷ json_member (codes "source_port") (port_text ends.numbers ends.source.number)
@@ -175,10 +175,10 @@ abbrev pub arrival_member : Arrival → Option (List ℕ)
 arrival_member input = result_ok (reading input.side input.bytes)
 
 -- The packet that leaves.
-abbrev pub left : Outcome → Option (List ℕ)
-left (ToOutside packet) = Some packet
-left (ToInside packet) = Some packet
-left (Dropped cause) = None
+abbrev pub packet_sent : Outcome → Option (List ℕ)
+packet_sent (ToOutside packet) = Some packet
+packet_sent (ToInside packet) = Some packet
+packet_sent (Dropped cause) = None
 
 -- The time in ns since 1970-01-01 UTC, and the packet as it arrived and as it leaves.
 unfoldable pub object_of : ℕ → Arrival → Outcome → LogNote → TimeText
@@ -187,7 +187,7 @@ object_of number input outcome note = object (
     ∷ json_member (codes "time") (decimal input.time)
     ∷ fate_members input.side outcome note
     ∷ json_member (codes "before") (packet_or_null (arrival_member input))
-    ∷ json_member (codes "after") (packet_or_null (left outcome))
+    ∷ json_member (codes "after") (packet_or_null (packet_sent outcome))
     ∷ [])
 
 abbrev pub object_text : ℕ → Arrival → Outcome → LogNote → TimeText

@@ -18,17 +18,17 @@ pub struct Date {
 
 impl Date {
     /// Returns the day that is this number of days after 1970-01-01.
-    pub(crate) fn on(days: u32) -> Date
+    pub(crate) fn from_days(days: u32) -> Date
         requires { days < calendar.dated_days }
         ensures { result ≡ calendar.date_on days }
     {
         // No year has more than 366 days.
         let year = 1970 + days / 366;
-        Date::after(year, days - days_before(year))
+        Date::from_year(year, days - days_before(year))
     }
 
     /// Returns the day that is this number of days after January 1st of a year: few, since it goes from month to month.
-    fn after(year: u32, days: u32) -> Date
+    fn from_year(year: u32, days: u32) -> Date
         requires { (year < 10000) × (days < 7000) }
         ensures { (begin : ℕ) → calendar.date_on begin ≡ calendar.first_of_month year 1 →
             result ≡ calendar.date_on (begin + days) }
@@ -62,7 +62,7 @@ impl Date {
     }
 }
 
-/// Whether a year has a leap day.
+/// Returns whether a year has a leap day.
 fn is_leap(year: u32) -> bool
     ensures { result ≡ calendar.is_leap year }
 {
@@ -86,12 +86,12 @@ fn days_before(year: u32) -> u32
     requires { (1970 ≤ year) × (year < 10000) }
     ensures { result ≡ calendar.days_before year }
 {
-    365 * (year - 1970) + leaps(year - 1) - leaps(1969)
+    365 * (year - 1970) + leap_days_through(year - 1) - leap_days_through(1969)
 }
 
 /// Returns the number of leap days in the years from 1 to a year.
-fn leaps(year: u32) -> u32
-    ensures { result ≡ calendar.leaps year }
+fn leap_days_through(year: u32) -> u32
+    ensures { result ≡ calendar.leap_days_through year }
 {
     year / 4 - year / 100 + year / 400
 }

@@ -92,12 +92,12 @@ fn add_times(made: u64, end: u128, last: u64, text: &mut String) -> Result<(), A
     TimeStamp(u128::from(made)).add_to(text)?;
     text.push_str(" until ")?;
     TimeStamp(end).add_to(text)?;
-    text.push_str(premise(end, last))?;
+    text.push_str(end_condition(end, last))?;
     Ok(())
 }
 
-fn premise(end: u128, last: u64) -> &'static str
-    ensures { result.now ≡ holders.premise_text last end }
+fn end_condition(end: u128, last: u64) -> &'static str
+    ensures { result.now ≡ holders.end_condition_text last end }
 {
     if end <= u128::from(last) {
         ""
@@ -179,7 +179,7 @@ fn add_reason(
     Ok(())
 }
 
-/// Whether an address is known not to be in the pool.
+/// Returns whether an address is known not to be in the pool.
 fn is_foreign(config: Option<&Config>, address: u32) -> bool
     ensures { result ≡ holders.is_foreign (option_map (λ known. known.now) config.entry) address }
 {

@@ -28,7 +28,7 @@ pub struct JsonObject<'a> {
 
 /// The endpoints of a packet.
 #[derive(Clone, Copy)]
-struct Ends {
+struct PacketEnds {
     source: Endpoint,
     destination: Endpoint,
     numbers: PacketNumbers,
@@ -69,7 +69,7 @@ impl JsonObject<'_> {
         text.push_str(",\"before\":")?;
         add_arrived(alloc, input, text)?;
         text.push_str(",\"after\":")?;
-        add_packet_or_null(left(self.outcome), text)?;
+        add_packet_or_null(packet_sent(self.outcome), text)?;
         text.push_str("}")?;
         Ok(())
     }
@@ -149,8 +149,8 @@ fn hairpin(side: Side, outcome: &Outcome) -> &'static str
 }
 
 /// Returns the packet that leaves, if one does.
-fn left(outcome: &Outcome) -> Option<&Packet>
-    ensures { option_map (λ packet. packet.now) result ≡ objects.left outcome.now }
+fn packet_sent(outcome: &Outcome) -> Option<&Packet>
+    ensures { option_map (λ packet. packet.now) result ≡ objects.packet_sent outcome.now }
 {
     match outcome {
         Outcome::ToOutside(packet) | Outcome::ToInside(packet) => Some(packet),
@@ -188,7 +188,7 @@ fn add_packet(packet: &Packet, text: &mut String) -> Result<(), AllocError>
 {
     text.push_str("{\"kind\":")?;
     text.push_str(kind_text(packet))?;
-    Ends::of(packet).add_to(text)?;
+    PacketEnds::from_packet(packet).add_to(text)?;
     add_about(packet.kind(), text)?;
     text.push_str("}")?;
     Ok(())
@@ -217,31 +217,31 @@ fn add_quoted(inner: Inner, text: &mut String) -> Result<(), AllocError>
     text.push_str("{\"protocol\":\"")?;
     text.push_str(protocol_name(inner.protocol))?;
     text.push_str("\"")?;
-    Ends::quoted(inner).add_to(text)?;
+    PacketEnds::from_quoted(inner).add_to(text)?;
     text.push_str("}")?;
     Ok(())
 }
 
-impl Ends {
+impl PacketEnds {
     /// Returns the endpoints of a packet.
-    fn of(packet: &Packet) -> Ends
+    fn from_packet(packet: &Packet) -> PacketEnds
         ensures { result ≡ objects.ends_of packet.now }
     {
-        Ends {
+        PacketEnds {
             source: packet.source(),
             destination: packet.destination(),
-            numbers: PacketNumbers::of(packet.kind()),
+            numbers: PacketNumbers::from_kind(packet.kind()),
         }
     }
 
     /// Returns the endpoints of the packet that an ICMP error quotes.
-    fn quoted(inner: Inner) -> Ends
+    fn from_quoted(inner: Inner) -> PacketEnds
         ensures { result ≡ objects.ends_in inner }
     {
-        Ends {
+        PacketEnds {
             source: inner.source,
             destination: inner.destination,
-            numbers: PacketNumbers::quoted(inner.protocol),
+            numbers: PacketNumbers::from_protocol(inner.protocol),
         }
     }
 
@@ -268,7 +268,7 @@ impl Ends {
 
 impl PacketNumbers {
     /// Returns the numbers of a packet.
-    fn of(kind: Kind) -> PacketNumbers
+    fn from_kind(kind: Kind) -> PacketNumbers
         ensures { result ≡ objects.packet_numbers kind }
     {
         match kind {
@@ -279,7 +279,7 @@ impl PacketNumbers {
     }
 
     /// Returns the numbers of the packet that an ICMP error quotes.
-    fn quoted(protocol: Protocol) -> PacketNumbers
+    fn from_protocol(protocol: Protocol) -> PacketNumbers
         ensures { result ≡ objects.numbers_in protocol }
     {
         match protocol {

@@ -18,9 +18,9 @@ pub enum LogFileFault {
     /// A read failed, memory ran out, or the bytes are not UTF-8.
     Unread(io::Error),
     /// A line is not a row of a log; the value says what was expected.
-    Wrong(&'static str),
+    InvalidRow(&'static str),
     /// The last row is incomplete: it has no line feed at its end.
-    Torn,
+    IncompleteRow,
 }
 
 /// A log that is read row by row, in the memory of its longest row.
@@ -46,12 +46,14 @@ impl<R: BufRead + Drop> LogReader<R> {
         if log.line.as_str() == header() {
             Ok(log)
         } else {
-            Err(LogFileFault::Wrong("expected the names of the fields, as explain log writes them"))
+            Err(LogFileFault::InvalidRow(
+                "expected the names of the fields, as explain log writes them",
+            ))
         }
     }
 
     /// Returns the reader of a later piece of a log, before anything of it has been read.
-    pub fn piece(alloc: Global, reader: R) -> LogReader<R>
+    pub fn for_piece(alloc: Global, reader: R) -> LogReader<R>
         ensures { R.remaining result.reader ≡ R.remaining reader }
     {
         LogReader {
@@ -60,8 +62,9 @@ impl<R: BufRead + Drop> LogReader<R> {
         }
     }
 
-    /// Whether the line that was read last has the names of the fields, with which a piece may begin.
-    pub fn is_at_names(&self) -> bool {
+    /// Returns whether the line that was read last has the names of the fields, with which a piece
+    /// may begin.
+    pub fn is_at_header(&self) -> bool {
         self.line.as_str() == header()
     }
 
@@ -75,7 +78,7 @@ impl<R: BufRead + Drop> LogReader<R> {
             logs.LogUnlessUnread result (result ≡ Ok None) }
         ensures torn { (torn : List ℕ) → 0 < length torn → All (λ byte. byte ≢ 10) torn →
             R.remaining self.old.reader ≡ Some torn →
-            logs.LogUnlessUnread result (result ≡ Err LogFileFault.Torn) }
+            logs.LogUnlessUnread result (result ≡ Err LogFileFault.IncompleteRow) }
     {
         self.line.clear();
         let length = match self.reader.read_line(&mut self.line) {
@@ -86,11 +89,11 @@ impl<R: BufRead + Drop> LogReader<R> {
             return Ok(None);
         }
         let Some(text) = self.line.as_str().strip_suffix('\n') else {
-            return Err(LogFileFault::Torn);
+            return Err(LogFileFault::IncompleteRow);
         };
         match LogRow::read(text) {
             Some(row) => Ok(Some(row)),
-            None => Err(LogFileFault::Wrong("expected as many fields as there are names")),
+            None => Err(LogFileFault::InvalidRow("expected as many fields as there are names")),
         }
     }
 }

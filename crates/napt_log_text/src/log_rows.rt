@@ -47,8 +47,9 @@ pub fn add_part(config: &Config, part: &InputPart, text: &mut String) -> Result<
     add_refused(config, &part.refused, text)
 }
 
-/// Whether a log in pieces of `each` seconds begins a new piece with an input: from `last` to `now`, in ns, the clock
-/// passes a multiple of them. A log in one piece begins none, nor does the first input of a run, which has no `last`.
+/// Returns whether a log in pieces of `each` seconds begins a new piece with an input: from `last`
+/// to `now`, in ns, the clock passes a multiple of them. A log in one piece begins none, nor does
+/// the first input of a run, which has no `last`.
 #[inline(always)]
 pub fn begins_piece(each: Option<NonZeroU32>, last: Option<u64>, now: u64) -> bool
     ensures { result ≡ logs.begins_piece (option_map non_zero_u32_get each) last now }

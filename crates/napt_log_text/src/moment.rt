@@ -30,7 +30,7 @@ impl TimeStamp {
     }
 
     /// Returns the ns after the last whole second.
-    fn rest(self) -> u32
+    fn subsec_nanos(self) -> u32
         ensures { result ≡ self.0 % times.ns_per_log_second }
     {
         match u64::try_from(self.0) {
@@ -47,11 +47,11 @@ impl TimeStamp {
         let mut digits = Buffer::new();
         text.push_str(digits.format(self.seconds()))?;
         text.push_str(".")?;
-        add_padded(text, self.rest(), 9)?;
+        add_padded(text, self.subsec_nanos(), 9)?;
         Ok(())
     }
 
-    /// Whether the year has four digits.
+    /// Returns whether the year has four digits.
     fn has_date(self) -> bool
         ensures { result ≡ times.has_date self.0 }
     {
@@ -65,12 +65,12 @@ impl TimeStamp {
             ≡ string_bytes text.old ++ times.date_text self.0) }
     {
         let seconds = self.seconds() as u64;
-        let date = Date::on((seconds / 86_400) as u32);
+        let date = Date::from_days((seconds / 86_400) as u32);
         date.add_to(text)?;
         text.push_str("T")?;
         add_clock(text, (seconds % 86_400) as u32)?;
         text.push_str(".")?;
-        add_padded(text, self.rest(), 9)?;
+        add_padded(text, self.subsec_nanos(), 9)?;
         text.push_str("Z")?;
         Ok(())
     }

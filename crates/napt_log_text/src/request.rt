@@ -39,7 +39,7 @@ impl Request {
     {
         entries
             .iter()
-            .filter(|entry| self.is_answered_by(*entry))
+            .filter(|entry| self.is_holder(*entry))
             .copied()
             .collect(alloc)
     }
@@ -51,44 +51,45 @@ impl Request {
     {
         NearestEntries {
             before: self.last_before(entries),
-            after: entries.iter().copied().find(|entry| self.is_before(entry)),
+            after: entries.iter().copied().find(|entry| self.is_next(entry)),
         }
     }
 
-    /// Whether the binding of an entry had the endpoint at some time.
-    fn is_for(&self, entry: &Entry) -> bool
+    /// Returns whether the binding of an entry had the endpoint at some time.
+    fn is_asked(&self, entry: &Entry) -> bool
         ensures { result ≡ requests.is_asked self.now entry.now }
     {
-        is_of(self.protocol, entry.binding.protocol) && self.party.has(entry.binding.external)
+        is_requested_protocol(self.protocol, entry.binding.protocol)
+            && self.party.has(entry.binding.external)
     }
 
-    /// Whether the binding had the endpoint at some moment of the span.
-    fn is_answered_by(&self, entry: &Entry) -> bool
+    /// Returns whether the binding had the endpoint at some moment of the span.
+    fn is_holder(&self, entry: &Entry) -> bool
         ensures { result ≡ requests.is_holder self.now entry.now }
     {
-        self.is_for(entry)
+        self.is_asked(entry)
             && match self.at {
-                Some(span) => span.meets(entry),
+                Some(span) => span.overlaps(entry),
                 None => true,
             }
     }
 
-    /// Whether the binding had the endpoint and was made after the span.
-    fn is_before(&self, entry: &Entry) -> bool
+    /// Returns whether the binding had the endpoint and was made after the span.
+    fn is_next(&self, entry: &Entry) -> bool
         ensures { result ≡ requests.is_next self.now entry.now }
     {
-        self.is_for(entry)
+        self.is_asked(entry)
             && match self.at {
                 Some(span) => span.until <= u128::from(entry.made),
                 None => false,
             }
     }
 
-    /// Whether the binding had the endpoint and had ended before the span.
-    fn is_behind(&self, entry: &Entry) -> bool
+    /// Returns whether the binding had the endpoint and had ended before the span.
+    fn is_past(&self, entry: &Entry) -> bool
         ensures { result ≡ requests.is_past self.now entry.now }
     {
-        self.is_for(entry)
+        self.is_asked(entry)
             && match (self.at, entry.end) {
                 (Some(span), Some(end)) => end <= span.first,
                 _ => false,
@@ -108,7 +109,7 @@ impl Request {
     fn last_so_far(&self, last: Option<Entry>, entry: &Entry) -> Option<Entry>
         ensures { result ≡ requests.last_so_far self.now last entry.now }
     {
-        if self.is_behind(entry) {
+        if self.is_past(entry) {
             Some(later(last, entry))
         } else {
             last
@@ -117,8 +118,8 @@ impl Request {
 }
 
 impl TimeSpan {
-    /// Whether the binding of an entry has a moment in common with the span.
-    fn meets(self, entry: &Entry) -> bool
+    /// Returns whether the binding of an entry has a moment in common with the span.
+    fn overlaps(self, entry: &Entry) -> bool
         ensures { result ≡ requests.has_moment_of self entry.now }
     {
         u128::from(entry.made) < self.until
@@ -129,8 +130,8 @@ impl TimeSpan {
     }
 }
 
-/// Whether a protocol is the requested one, if one is requested.
-fn is_of(wanted: Option<Protocol>, protocol: Protocol) -> bool
+/// Returns whether a protocol is the requested one, if one is requested.
+fn is_requested_protocol(wanted: Option<Protocol>, protocol: Protocol) -> bool
     ensures { result ≡ requests.holder_is_of wanted protocol }
 {
     match (wanted, protocol) {
@@ -152,7 +153,7 @@ fn later(found: Option<Entry>, entry: &Entry) -> Entry
     }
 }
 
-/// Whether the first of two ends is the later one.
+/// Returns whether the first of two ends is the later one.
 fn is_later(one: Option<u128>, other: Option<u128>) -> bool
     ensures { result ≡ requests.is_later one other }
 {

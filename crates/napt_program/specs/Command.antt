@@ -56,10 +56,10 @@ IsUsageStop stop.Usage = Unit {0}
 IsUsageStop other = ⊥
 
 -- Help or the version was requested.
-abbrev pub HelpIsAsked : LineFault → Type 0
-HelpIsAsked (fault.Help text) = Unit {0}
-HelpIsAsked (fault.Version text) = Unit {0}
-HelpIsAsked other = ⊥
+abbrev pub HelpIsRequested : LineFault → Type 0
+HelpIsRequested (fault.Help text) = Unit {0}
+HelpIsRequested (fault.Version text) = Unit {0}
+HelpIsRequested other = ⊥
 
 -- The stop of the program if the command line does not request a run.
 abbrev pub IsLineAnswer : LineFault → Stop → Type 0
@@ -76,9 +76,9 @@ IsLineStop streams version s = IsHelpStop s
 IsLineStop streams mistake s = IsUsageStop s
 
 -- The arguments were understood.
-abbrev pub LineIsTaken : CommandLineMeaning → Type 0
-LineIsTaken mistake = ⊥
-LineIsTaken other = Unit {0}
+abbrev pub LineIsAccepted : CommandLineMeaning → Type 0
+LineIsAccepted mistake = ⊥
+LineIsAccepted other = Unit {0}
 
 -- The stop is not that of a shut gate.
 abbrev pub IsStopUnderOpenGate : Stop → Type 0

@@ -1,6 +1,6 @@
 -- The output that is a file which an earlier option also names.
 use Rattle.std.specs.Prelude.{◌≡◌, ◌||◌, Bool, true, false, not, Option, Some, None, is_some, if◌then◌else◌}
-use Rattle.napt_program.specs.{FileLocation.is_same, declared.{file_location.FileLocation.{FileLocation, TheVariants.Aside}, options.RunOptions.RunOptions, file_locations.{FileLocations.FileLocations, SaveLocations.SaveLocations}, role.FileRole.FileRole}}
+use Rattle.napt_program.specs.{FileLocation.is_same, declared.{file_location.FileLocation.{FileLocation, TheVariants.Special}, options.RunOptions.RunOptions, file_locations.{FileLocations.FileLocations, SaveLocations.SaveLocations}, role.FileRole.FileRole}}
 use Rattle.napt_program.specs.declared.role.FileRole.TheVariants as role
 
 -- There is a location, and it is that of this file.
@@ -26,7 +26,7 @@ is_taken p file = is_input p file || is_there file p.to_outside || is_there file
 
 -- The location is a device, a pipe or a folder.
 abbrev pub is_special_file : FileLocation → Bool
-is_special_file Aside = true
+is_special_file Special = true
 is_special_file _ = false
 
 -- The state's file or new file is no regular file or is another option's, or the new file is the state that is read.

@@ -37,9 +37,9 @@ bytes_before place = min place MOST_TORN
 abbrev pub refusal_at : LogEnd → List ℕ → Option LogRefusal
 refusal_at told text =
     let before : ℕ = bytes_before told.length in
-    if nat_lt (length text) before then Some (refusal.Another told.length)
-    else (if not (is_last_row told.row (take before text)) then Some (refusal.Another told.length)
-    else (if is_torn (drop before text) then None else Some (refusal.Longer told.length)))
+    if nat_lt (length text) before then Some (refusal.OtherLog told.length)
+    else (if not (is_last_row told.row (take before text)) then Some (refusal.OtherLog told.length)
+    else (if is_torn (drop before text) then None else Some (refusal.ExtraText told.length)))
 
 -- The name of the piece with a number: the path of the log, a dot and the number.
 abbrev pub piece_name : List ℕ → ℕ → List ℕ

@@ -12,8 +12,8 @@ use Rattle.napt_program.specs.declared.stop.Stop.TheVariants as stop
 use Rattle.napt_program.specs.declared.stop.StateRefusal.TheVariants as refusal
 
 -- The state has no bindings, its clock is 0, and it has no log.
-abbrev pub IsAnew : ResumedState → Type 0
-IsAnew it = (it.state ≡ record { clock = 0; list = [] }) × (it.saved ≡ no_saved_log)
+abbrev pub IsNewRun : ResumedState → Type 0
+IsNewRun it = (it.state ≡ record { clock = 0; list = [] }) × (it.saved ≡ no_saved_log)
 
 abbrev pub taken_start : ResumedState → TakenState
 taken_start it = record { state = it.state; log = it.saved; ended = it.ended }

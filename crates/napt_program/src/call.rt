@@ -1,7 +1,7 @@
 //! How a program was called, and the messages that it prints at a terminal.
 
 ghost use Rattle.std.specs.{Prelude.{◌≡◌, ◌⊎◌, IfErr, OnOk}, Process.exit_status};
-ghost use Rattle.napt_program.specs.{Command.{HelpIsAsked, IsLineAnswer}, Stop.status_at_end};
+ghost use Rattle.napt_program.specs.{Command.{HelpIsRequested, IsLineAnswer}, Stop.status_at_end};
 
 use crate::command::words;
 use crate::options::{LineFault, Manual};
@@ -23,7 +23,7 @@ use std::process::ExitCode;
 ///
 /// Fails with `Stop::Help` if printing fails, and if the arguments are wrong or memory is refused.
 pub fn answer_line(rt: &impl Print, fault: LineFault) -> Result<(), Stop>
-    ensures asked { OnOk result (HelpIsAsked fault) }
+    ensures asked { OnOk result (HelpIsRequested fault) }
     ensures stop { IfErr result (IsLineAnswer fault) }
 {
     match fault {
@@ -50,10 +50,10 @@ pub fn print_new_entries(
 }
 
 /// Prints on standard error how many bindings of a state end at its start, if any do.
-pub fn print_ended(rt: &impl Eprint, name: &str, ended: u64) {
+pub fn print_ended_bindings(rt: &impl Eprint, name: &str, ended: u64) {
     if ended > 0 {
         let _ = eprintln!(rt;
-            "{name}: bindings of the state that the configuration cannot keep, and that end here: {ended}"
+            "{name}: bindings of the state that end at the start, since the configuration cannot keep them: {ended}"
         );
     }
 }
@@ -64,7 +64,7 @@ pub struct ProgramCall {
     /// The name of the program.
     pub name: &'static str,
     /// Whether standard error is open.
-    pub is_heard: bool,
+    pub has_stderr: bool,
     /// Whether standard error is open and is a terminal.
     pub at_terminal: bool,
     /// Whether standard error gets more than the fault line: at a terminal, or with `--verbose`.
@@ -75,11 +75,11 @@ pub struct ProgramCall {
 
 impl ProgramCall {
     /// Returns the call of the program with this name.
-    pub fn of(rt: &HostRuntime, streams: StandardStreams, name: &'static str) -> ProgramCall {
+    pub fn new(rt: &HostRuntime, streams: StandardStreams, name: &'static str) -> ProgramCall {
         let at_terminal = streams.error && rt.stderr().is_terminal();
         ProgramCall {
             name,
-            is_heard: streams.error,
+            has_stderr: streams.error,
             at_terminal,
             is_verbose: at_terminal,
             ends_misfits: false,
@@ -95,19 +95,24 @@ impl ProgramCall {
     }
 
     /// Returns the call with `--verbose`.
-    pub fn verbose(self) -> ProgramCall {
+    pub fn with_verbose(self) -> ProgramCall {
         ProgramCall {
-            is_verbose: self.is_heard,
+            is_verbose: self.has_stderr,
             ..self
         }
     }
 
     /// Ends the program: prints the fault line, without taking memory, and the reason, if there is
     /// a fault and standard error is open. Returns the exit status.
-    pub fn ended(self, rt: &impl Eprint, answer: &Result<(), Stop>, reason: &StopReason) -> ExitCode
+    pub fn finish(
+        self,
+        rt: &impl Eprint,
+        answer: &Result<(), Stop>,
+        reason: &StopReason,
+    ) -> ExitCode
         ensures { exit_status result ≡ status_at_end answer.now }
     {
-        if let Some(line) = line_at_end(self.name, self.is_heard, answer) {
+        if let Some(line) = line_at_end(self.name, self.has_stderr, answer) {
             let _ = rt.eprintln(line);
         }
         if let Err(stop) = answer {
@@ -145,7 +150,7 @@ impl ProgramCall {
     /// Prints in a line after the fault line why the program stopped, if that is requested, or where help is. Why a run
     /// must not append to a log is printed in any case.
     fn print_reason(self, rt: &impl Eprint, stop: Stop, reason: &StopReason) {
-        if !self.is_heard {
+        if !self.has_stderr {
             return;
         }
         let name = self.name;
@@ -165,16 +170,16 @@ impl ProgramCall {
         alloc: Global,
         clock: u64,
     ) -> Result<(), AllocError> {
-        if self.is_heard {
+        if self.has_stderr {
             print_new_entries(rt, alloc, self.name, clock)?;
         }
         Ok(())
     }
 
     /// Prints how many bindings of the state end at the start, if any do.
-    pub fn print_ended(self, rt: &impl Eprint, ended: u64) {
-        if self.is_heard {
-            print_ended(rt, self.name, ended);
+    pub fn print_ended_bindings(self, rt: &impl Eprint, ended: u64) {
+        if self.has_stderr {
+            print_ended_bindings(rt, self.name, ended);
         }
     }
 
@@ -187,7 +192,7 @@ impl ProgramCall {
         time: u64,
         clock: u64,
     ) -> Result<(), AllocError> {
-        if !self.is_heard {
+        if !self.has_stderr {
             return Ok(());
         }
         let (mut date, mut dated) = (String::new(alloc), String::new(alloc));
@@ -208,7 +213,7 @@ impl ProgramCall {
         inside: &CountedSource<S>,
         outside: &CountedSource<Q>,
     ) {
-        if !self.is_heard {
+        if !self.has_stderr {
             return;
         }
         let name = self.name;
@@ -246,21 +251,21 @@ fn is_called(words: &[String], name: &str) -> bool {
 impl fmt::Display for LogRefusal {
     fn fmt<W: fmt::Write>(&self, f: &mut fmt::Formatter<W>) -> fmt::Result {
         match self {
-            LogRefusal::Anew => f.write_str(
+            LogRefusal::NoState => f.write_str(
                 "has text or pieces, and this run starts without a state: name a new file, or use --resume",
             ),
-            LogRefusal::Untold => f.write_str(
+            LogRefusal::NoSavedLog => f.write_str(
                 "has text, but the state records no log in a file: name a new file",
             ),
-            LogRefusal::Another(bytes) => write!(
+            LogRefusal::OtherLog(bytes) => write!(
                 f,
                 "is not that of the state, which has {bytes} bytes: name that one, or a new file"
             ),
-            LogRefusal::Piece(number) => write!(
+            LogRefusal::OtherPiece(number) => write!(
                 f,
                 "does not end with piece {number} as the state records it: move later pieces away, or name a new file"
             ),
-            LogRefusal::Longer(bytes) => write!(
+            LogRefusal::ExtraText(bytes) => write!(
                 f,
                 "goes on after the {bytes} bytes that the state records: cut it there (truncate -s {bytes}), or name a new file"
             ),

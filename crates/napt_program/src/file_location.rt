@@ -19,13 +19,13 @@ pub struct FileId {
 #[derive(Clone, Copy, Debug)]
 pub enum FileLocation<'a> {
     /// An existing file.
-    There(FileId),
+    Existing(FileId),
     /// A file that does not exist yet: the folder in which it would be created, and its name there.
     New(FileId, &'a str),
     /// Only the path is known.
-    Words(&'a str),
+    PathOnly(&'a str),
     /// A device, a pipe or a folder, to which writing destroys nothing.
-    Aside,
+    Special,
 }
 
 /// Returns the identity of a file, if the system has one.
@@ -46,40 +46,40 @@ fn node_at(device: u64, number: u64) -> Option<FileId>
 }
 
 /// Returns the location of the file at `path`. Follows links, except to a file that does not exist.
-pub fn place_of<'a, R: Files>(rt: &R, path: &'a str) -> FileLocation<'a>
+pub fn location_of<'a, R: Files>(rt: &R, path: &'a str) -> FileLocation<'a>
     ensures { IsOfPath path.now result }
 {
     match fs::metadata(rt, path) {
-        Ok(known) => place_there(&known, path),
-        Err(_) => place_of_new(rt, path),
+        Ok(known) => location_of_existing(&known, path),
+        Err(_) => location_of_new(rt, path),
     }
 }
 
 /// Returns the location of the existing file or folder at `path`.
-fn place_there<'a>(known: &Metadata, path: &'a str) -> FileLocation<'a>
+fn location_of_existing<'a>(known: &Metadata, path: &'a str) -> FileLocation<'a>
     ensures path { IsOfPath path.now result }
     ensures kind { IsOfKind (file_type known.now) result }
 {
     match node_of(known) {
-        Some(_) if !known.is_file() => FileLocation::Aside,
-        Some(node) => FileLocation::There(node),
-        None => FileLocation::Words(path),
+        Some(_) if !known.is_file() => FileLocation::Special,
+        Some(node) => FileLocation::Existing(node),
+        None => FileLocation::PathOnly(path),
     }
 }
 
 /// Returns the location at which a file with this path would be created.
-fn place_of_new<'a, R: Files>(rt: &R, path: &'a str) -> FileLocation<'a>
+fn location_of_new<'a, R: Files>(rt: &R, path: &'a str) -> FileLocation<'a>
     ensures { IsOfPath path.now result }
 {
     let (Some(folder), Some(name)) = (folder_of(path), Path::new(path).file_name()) else {
-        return FileLocation::Words(path);
+        return FileLocation::PathOnly(path);
     };
     let Ok(known) = fs::metadata(rt, folder) else {
-        return FileLocation::Words(path);
+        return FileLocation::PathOnly(path);
     };
     match node_of(&known) {
         Some(node) => FileLocation::New(node, name),
-        None => FileLocation::Words(path),
+        None => FileLocation::PathOnly(path),
     }
 }
 
@@ -109,15 +109,15 @@ fn is_same_node(a: FileId, b: FileId) -> bool
     a.device == b.device && a.number == b.number
 }
 
-/// Returns whether both locations are of one file. `Aside` is the same as nothing.
+/// Returns whether both locations are of one file. `Special` is the same as nothing.
 pub fn is_same(a: FileLocation<'_>, b: FileLocation<'_>) -> bool
     ensures { result ≡ is_same a.entry b.entry }
 {
     match (a, b) {
-        (FileLocation::There(a), FileLocation::There(b)) => is_same_node(a, b),
+        (FileLocation::Existing(a), FileLocation::Existing(b)) => is_same_node(a, b),
         (FileLocation::New(a, a_name), FileLocation::New(b, b_name)) => is_same_node(a, b)
             && a_name == b_name,
-        (FileLocation::Words(a), FileLocation::Words(b)) => a == b,
+        (FileLocation::PathOnly(a), FileLocation::PathOnly(b)) => a == b,
         _ => false,
     }
 }

@@ -3,7 +3,7 @@ ghost use Rattle.std.specs.Prelude.{◌≡◌, IfErr, IfOk, IfSome, is_some, not
 ghost use Rattle.napt_program.specs.CommandLine.{files_of};
 ghost use Rattle.napt_program.specs.{FileLocations.{AreLocationsOf, is_named_elsewhere, is_special_file, is_input, is_log_named_again, is_placed, is_save_lost, is_saved_there, is_taken, is_there, output_named_again}, Standard.names_file};
 
-use crate::file_location::{FileLocation, is_same, place_of};
+use crate::file_location::{FileLocation, is_same, location_of};
 use crate::options::{RunOptions, is_dash};
 use crate::options_with_log::OptionsWithLog;
 use crate::role::FileRole;
@@ -73,7 +73,7 @@ fn lost_file_with_new<R: Files>(
 ) -> Option<FileRole>
     ensures { IfSome result (λ role. names_file (files_of options.now) role ≡ true) }
 {
-    output_named_again(&places_of(rt, options, new))
+    output_named_again(&locations_of(rt, options, new))
 }
 
 /// Returns whether the log is a file that another option also names, or a standard stream. Fails if
@@ -87,12 +87,12 @@ pub fn is_log_lost<R: Files>(
     ensures memory { IfErr result (λ _. is_some options.now.files.save ≡ true) }
 {
     let new = path_of_new(alloc, &options.files)?;
-    let log = place_at(rt, options.log.as_ref(), OUTPUT);
-    Ok(is_log_named_again(&places_of(rt, &options.files, new.as_ref()), log))
+    let log = location_at(rt, options.log.as_ref(), OUTPUT);
+    Ok(is_log_named_again(&locations_of(rt, &options.files, new.as_ref()), log))
 }
 
 /// Returns the locations of the options' files, given the new file's path if a state is saved.
-fn places_of<'a, R: Files>(
+fn locations_of<'a, R: Files>(
     rt: &R,
     options: &'a RunOptions,
     new: Option<&'a String>,
@@ -100,19 +100,19 @@ fn places_of<'a, R: Files>(
     ensures { AreLocationsOf options.now result }
 {
     FileLocations {
-        config: place_at(rt, options.config.as_ref(), INPUT),
-        resume: place_at(rt, options.resume.as_ref(), INPUT),
-        standard_input: place_of_stream(rt, options.inside.as_ref(), INPUT),
-        inside: place_at(rt, options.inside.as_ref(), INPUT),
-        outside: place_at(rt, options.outside.as_ref(), INPUT),
-        standard_output: place_of_stream(rt, options.to_outside.as_ref(), OUTPUT),
-        to_outside: place_at(rt, options.to_outside.as_ref(), OUTPUT),
-        to_inside: place_at(rt, options.to_inside.as_ref(), OUTPUT),
-        report: place_at(rt, options.report.as_ref(), OUTPUT),
+        config: location_at(rt, options.config.as_ref(), INPUT),
+        resume: location_at(rt, options.resume.as_ref(), INPUT),
+        standard_input: location_of_stream(rt, options.inside.as_ref(), INPUT),
+        inside: location_at(rt, options.inside.as_ref(), INPUT),
+        outside: location_at(rt, options.outside.as_ref(), INPUT),
+        standard_output: location_of_stream(rt, options.to_outside.as_ref(), OUTPUT),
+        to_outside: location_at(rt, options.to_outside.as_ref(), OUTPUT),
+        to_inside: location_at(rt, options.to_inside.as_ref(), OUTPUT),
+        report: location_at(rt, options.report.as_ref(), OUTPUT),
         save: match (&options.save, new) {
             (Some(save), Some(new)) => Some(SaveLocations {
-                file: place_of(rt, save),
-                new: place_of(rt, new),
+                file: location_of(rt, save),
+                new: location_of(rt, new),
             }),
             _ => None,
         },
@@ -120,7 +120,7 @@ fn places_of<'a, R: Files>(
 }
 
 /// Returns the location of an option's file, or of the standard stream for `-`.
-fn place_at<'a, R: Files>(
+fn location_at<'a, R: Files>(
     rt: &R,
     path: Option<&'a String>,
     stream: &'a str,
@@ -128,14 +128,14 @@ fn place_at<'a, R: Files>(
     ensures { is_some result ≡ is_some path.entry }
 {
     match path {
-        Some(path) if is_dash(path) => Some(place_of(rt, stream)),
-        Some(path) => Some(place_of(rt, path)),
+        Some(path) if is_dash(path) => Some(location_of(rt, stream)),
+        Some(path) => Some(location_of(rt, path)),
         None => None,
     }
 }
 
 /// Returns the location of the standard stream that replaces an absent option.
-fn place_of_stream<'a, R: Files>(
+fn location_of_stream<'a, R: Files>(
     rt: &R,
     path: Option<&'a String>,
     stream: &'a str,
@@ -144,7 +144,7 @@ fn place_of_stream<'a, R: Files>(
 {
     match path {
         Some(_) => None,
-        None => Some(place_of(rt, stream)),
+        None => Some(location_of(rt, stream)),
     }
 }
 
@@ -188,7 +188,7 @@ fn is_save_lost(places: &FileLocations<'_>) -> bool
 fn is_special_file(place: FileLocation<'_>) -> bool
     ensures { result ≡ is_special_file place.entry }
 {
-    matches!(place, FileLocation::Aside)
+    matches!(place, FileLocation::Special)
 }
 
 /// Returns whether a file is another input or output, apart from the files of states.

@@ -76,7 +76,7 @@ pub fn open_files<'r, R: Files + Input + Print + AllocGlobal>(
     ensures refused { IfErr result (IsOpenStop (files_with_log options.now)) }
 {
     let inputs = open_inputs(rt, &options.files)?;
-    let kept = kept_of_log(rt, options, told)?;
+    let kept = saved_log_place(rt, options, told)?;
     let files = with_outputs(rt, &options.files, inputs)?;
     let log = match &options.log {
         Some(path) if options.has_pieces() => Some(LogOutput {
@@ -91,7 +91,7 @@ pub fn open_files<'r, R: Files + Input + Print + AllocGlobal>(
 
 /// Returns how many bytes the log keeps, or the number of its last piece. Changes nothing.
 /// Fails with its role if another option names it, and as `bytes_to_keep` and `last_piece` do.
-fn kept_of_log<R: Files + AllocGlobal>(
+fn saved_log_place<R: Files + AllocGlobal>(
     rt: &R,
     options: &OptionsWithLog,
     told: Option<LogEnd>,
@@ -126,14 +126,14 @@ fn with_outputs<'r, R: Files + Input + Print>(
     let InputFiles { inside, outside } = inputs;
     let to_outside = match &options.to_outside {
         None => Left(io::writer(rt)),
-        Some(path) => created(rt, path, FileRole::ToOutside)?,
+        Some(path) => create_file(rt, path, FileRole::ToOutside)?,
     };
     Ok(RunFiles {
         inside,
         outside,
         to_outside,
-        to_inside: created_at(rt, options.to_inside.as_ref(), FileRole::ToInside)?,
-        report: created_at(rt, options.report.as_ref(), FileRole::Report)?,
+        to_inside: create_file_if_named(rt, options.to_inside.as_ref(), FileRole::ToInside)?,
+        report: create_file_if_named(rt, options.report.as_ref(), FileRole::Report)?,
     })
 }
 
@@ -150,11 +150,11 @@ pub fn open_inputs<R: Files + Input + AllocGlobal>(
 {
     let inside = match &options.inside {
         None => Left(standard_input(rt)?),
-        Some(path) => opened(rt, path, FileRole::Inside)?,
+        Some(path) => open_file(rt, path, FileRole::Inside)?,
     };
     let outside = match &options.outside {
         None => None,
-        Some(path) => Some(opened(rt, path, FileRole::Outside)?),
+        Some(path) => Some(open_file(rt, path, FileRole::Outside)?),
     };
     refuse_lost_file(rt, options)?;
     Ok(InputFiles { inside, outside })
@@ -172,7 +172,7 @@ fn refuse_lost_file<R: Files + AllocGlobal>(rt: &R, options: &RunOptions) -> Res
 
 /// Opens a file for reading, or standard input for `-`. Fails with its role, or with `MEMORY` if
 /// memory for standard input is refused.
-fn opened<R: Files + Input + AllocGlobal>(
+fn open_file<R: Files + Input + AllocGlobal>(
     rt: &R,
     path: &str,
     role: FileRole,
@@ -197,7 +197,7 @@ fn standard_input<R: Input + AllocGlobal>(rt: &R) -> Result<Box<R::Reader>, Stop
 }
 
 /// Creates or empties a file for writing, or returns standard output for `-`. Fails with its role.
-fn created<'r, R: Files + Print>(
+fn create_file<'r, R: Files + Print>(
     rt: &'r R,
     path: &str,
     role: FileRole,
@@ -212,8 +212,8 @@ fn created<'r, R: Files + Print>(
     Ok(Right(file))
 }
 
-/// Creates or empties a file as `created` does, if there is a path.
-fn created_at<'r, R: Files + Print>(
+/// Creates or empties a file as `create_file` does, if there is a path.
+fn create_file_if_named<'r, R: Files + Print>(
     rt: &'r R,
     path: Option<&String>,
     role: FileRole,
@@ -225,6 +225,6 @@ fn created_at<'r, R: Files + Print>(
 {
     match path {
         None => Ok(None),
-        Some(path) => Ok(Some(created(rt, path, role)?)),
+        Some(path) => Ok(Some(create_file(rt, path, role)?)),
     }
 }

@@ -24,13 +24,13 @@ mod stop;
 mod stop_reason;
 mod streams;
 
-pub use crate::call::{ProgramCall, answer_line, print_ended, print_new_entries};
+pub use crate::call::{ProgramCall, answer_line, print_ended_bindings, print_new_entries};
 pub use crate::command::{RunResources, open, stop_of_run, words};
 pub use crate::config_file::{
     MOST_BYTES, config_from, config_text, configuration, open_config, unread_config,
 };
 pub use crate::devices::{LogDevice, OutputDevices, RunDevices, buffered};
-pub use crate::file_location::{FileId, FileLocation, is_same, place_of};
+pub use crate::file_location::{FileId, FileLocation, is_same, location_of};
 pub use crate::file_locations::{is_log_lost, lost_file};
 pub use crate::files::{FilesWithLog, InputFiles, RunFiles, open_files, open_inputs};
 pub use crate::log_file::{LogOutput, SeekableFile};

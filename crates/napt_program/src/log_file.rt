@@ -45,10 +45,10 @@ pub(crate) fn bytes_to_keep<R: Files + AllocGlobal>(
         return Ok(0);
     }
     let Some(told) = told else {
-        return Err(Stop::LogFile(LogRefusal::Anew));
+        return Err(Stop::LogFile(LogRefusal::NoState));
     };
     if told.length == 0 || told.piece > 0 {
-        return Err(Stop::LogFile(LogRefusal::Untold));
+        return Err(Stop::LogFile(LogRefusal::NoSavedLog));
     }
     match refusal_at(told, &text_around(rt, path, told.length)?) {
         Some(refusal) => Err(Stop::LogFile(refusal)),
@@ -90,15 +90,15 @@ pub(crate) fn refusal_at(told: LogEnd, text: &[u8]) -> Option<LogRefusal>
     ensures { result ≡ refusal_at told text.now }
 {
     let Some((before, after)) = text.split_at_checked(bytes_before(told.length)) else {
-        return Some(LogRefusal::Another(told.length));
+        return Some(LogRefusal::OtherLog(told.length));
     };
     if !is_last_row(told.row, before) {
-        return Some(LogRefusal::Another(told.length));
+        return Some(LogRefusal::OtherLog(told.length));
     }
     if after.len() < MOST_TORN && !after.contains(&b'\n') {
         None
     } else {
-        Some(LogRefusal::Longer(told.length))
+        Some(LogRefusal::ExtraText(told.length))
     }
 }
 

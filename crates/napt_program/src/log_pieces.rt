@@ -167,13 +167,13 @@ pub(crate) fn last_piece<R: Files + AllocGlobal>(
         return Ok(0);
     }
     let Some(told) = told else {
-        return Err(Stop::LogFile(LogRefusal::Anew));
+        return Err(Stop::LogFile(LogRefusal::NoState));
     };
     if told.piece == 0 {
-        return Err(Stop::LogFile(LogRefusal::Untold));
+        return Err(Stop::LogFile(LogRefusal::NoSavedLog));
     }
     if told.piece != last || !ends_at(rt, &name_of(rt.alloc(), path, last)?, told)? {
-        return Err(Stop::LogFile(LogRefusal::Piece(told.piece)));
+        return Err(Stop::LogFile(LogRefusal::OtherPiece(told.piece)));
     }
     Ok(last)
 }

@@ -1,7 +1,7 @@
 //! Why a file of the command line cannot be used: what else names it, or what the system says.
 
 use crate::config_file::MOST_BYTES;
-use crate::file_location::{FileLocation, is_same, place_of};
+use crate::file_location::{FileLocation, is_same, location_of};
 use crate::options::{RunOptions, is_dash};
 use crate::outputs::unmade;
 use crate::role::FileRole;
@@ -31,7 +31,7 @@ pub struct NamedFiles<'a> {
 
 /// A file and what names it: an option, or a standard stream in place of an absent option.
 #[derive(Clone, Copy)]
-struct Named<'a> {
+struct NamedFile<'a> {
     name: &'static str,
     path: Option<&'a str>,
 }
@@ -107,8 +107,8 @@ impl<'a> NamedFiles<'a> {
         path: &str,
     ) -> Result<Option<String>, AllocError> {
         if let Some(save) = &self.files.save {
-            let (new, place) = (new_path(alloc, save)?, place_of(rt, path));
-            if is_same(place, place_of(rt, save)) || is_same(place, place_of(rt, &new)) {
+            let (new, place) = (new_path(alloc, save)?, location_of(rt, path));
+            if is_same(place, location_of(rt, save)) || is_same(place, location_of(rt, &new)) {
                 return Ok(Some(same_file_text(alloc, "--log", path, SAVE)?));
             }
         }
@@ -129,10 +129,10 @@ impl<'a> NamedFiles<'a> {
         if let Some(other) = self.named_before(rt, SAVE, &new) {
             return Ok(Some(same_file_text(alloc, BY_NEW, &new, other)?));
         }
-        if matches!(place_of(rt, path), FileLocation::Aside) {
+        if matches!(location_of(rt, path), FileLocation::Special) {
             return Ok(Some(not_a_file_text(alloc, SAVE, path)?));
         }
-        if matches!(place_of(rt, &new), FileLocation::Aside) {
+        if matches!(location_of(rt, &new), FileLocation::Special) {
             return Ok(Some(not_a_file_text(alloc, BY_NEW, &new)?));
         }
         unmade_reason(rt, alloc, SAVE, path)
@@ -143,7 +143,7 @@ impl<'a> NamedFiles<'a> {
     /// Files are compared by what they are (`is_same`), so another spelling of the path, or a link,
     /// is the same file.
     fn named_before<R: Files>(self, rt: &R, name: &str, path: &str) -> Option<&'static str> {
-        let place = place_of(rt, standing(path, OUTPUT));
+        let place = location_of(rt, path_or_stream(path, OUTPUT));
         let all = self.all();
         let again = all
             .iter()
@@ -154,7 +154,7 @@ impl<'a> NamedFiles<'a> {
 
     /// Returns the same of the file of a state that is saved, which may be that of `--resume`.
     fn saved_again<R: Files>(self, rt: &R, path: &str) -> Option<&'static str> {
-        let place = place_of(rt, path);
+        let place = location_of(rt, path);
         let all = self.all();
         let again = all
             .iter()
@@ -164,46 +164,46 @@ impl<'a> NamedFiles<'a> {
 
     /// Returns the files of the options in their order, except for that of a state that is saved,
     /// and the standard streams that are in use because an option is absent.
-    fn all(self) -> [Named<'a>; 9] {
+    fn all(self) -> [NamedFile<'a>; 9] {
         let files = self.files;
         [
-            Named::of("--config", files.config.as_ref(), INPUT),
-            Named::of("--resume", files.resume.as_ref(), INPUT),
-            Named::of("--inside", files.inside.as_ref(), INPUT),
-            Named {
+            NamedFile::new("--config", files.config.as_ref(), INPUT),
+            NamedFile::new("--resume", files.resume.as_ref(), INPUT),
+            NamedFile::new("--inside", files.inside.as_ref(), INPUT),
+            NamedFile {
                 name: "standard input",
                 path: files.inside.is_none().then_some(INPUT),
             },
-            Named::of(self.outside, files.outside.as_ref(), INPUT),
-            Named {
+            NamedFile::new(self.outside, files.outside.as_ref(), INPUT),
+            NamedFile {
                 name: "standard output",
                 path: files.to_outside.is_none().then_some(OUTPUT),
             },
-            Named::of("--to-outside", files.to_outside.as_ref(), OUTPUT),
-            Named::of("--to-inside", files.to_inside.as_ref(), OUTPUT),
-            Named::of("--report", files.report.as_ref(), OUTPUT),
+            NamedFile::new("--to-outside", files.to_outside.as_ref(), OUTPUT),
+            NamedFile::new("--to-inside", files.to_inside.as_ref(), OUTPUT),
+            NamedFile::new("--report", files.report.as_ref(), OUTPUT),
         ]
     }
 }
 
-impl<'a> Named<'a> {
+impl<'a> NamedFile<'a> {
     /// Returns what names the file of an option; `-` is the standard stream that it stands for.
-    fn of(name: &'static str, path: Option<&'a String>, stream: &'a str) -> Named<'a> {
-        Named {
+    fn new(name: &'static str, path: Option<&'a String>, stream: &'a str) -> NamedFile<'a> {
+        NamedFile {
             name,
-            path: path.map(|path| standing(path, stream)),
+            path: path.map(|path| path_or_stream(path, stream)),
         }
     }
 
     /// Returns whether it is the file at a place.
     fn is_at<R: Files>(self, rt: &R, place: FileLocation<'_>) -> bool {
         self.path
-            .is_some_and(|other| is_same(place, place_of(rt, other)))
+            .is_some_and(|other| is_same(place, location_of(rt, other)))
     }
 }
 
 /// Returns the path of a file, or of the standard stream for `-`.
-fn standing<'a>(path: &'a str, stream: &'a str) -> &'a str {
+fn path_or_stream<'a>(path: &'a str, stream: &'a str) -> &'a str {
     if is_dash(path) { stream } else { path }
 }
 

@@ -356,7 +356,7 @@ pub(crate) fn parse_words_for(
             Ok(OptionsWithLog {
                 files,
                 log,
-                log_each: above_zero(seconds),
+                log_each: non_zero(seconds),
             })
         }
         Err(error) => Err(fault_of(alloc, &error)?),
@@ -442,7 +442,7 @@ fn misuses_pieces(log: &Option<String>, seconds: Option<u32>) -> bool
 }
 
 /// Returns a number that is not 0, or `None`.
-fn above_zero(number: Option<u32>) -> Option<NonZeroU32>
+fn non_zero(number: Option<u32>) -> Option<NonZeroU32>
     ensures same { number ≢ Some 0 → option_map non_zero_u32_get result ≡ number }
     ensures none { number ≡ None → result ≡ None }
 {

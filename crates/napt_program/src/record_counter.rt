@@ -33,7 +33,7 @@ struct RecordCounter {
     word: u64,
     is_big: bool,
     /// The number of bytes of a packet after its source address.
-    behind_source: u64,
+    after_source: u64,
     /// The length of a fraction of a second in the capture, in ns.
     unit: u64,
     /// The time of the first record, in ns.
@@ -49,7 +49,7 @@ impl RecordCounter {
         left: 4,
         word: 0,
         is_big: false,
-        behind_source: 0,
+        after_source: 0,
         unit: 0,
         first_time: None,
         first_source: None,
@@ -124,7 +124,7 @@ impl RecordCounter {
             CounterState::Source => {
                 let [.., a, b, c, d] = self.word.to_le_bytes();
                 self.first_source = Some(u32::from_be_bytes([a, b, c, d]));
-                (CounterState::Record, self.behind_source)
+                (CounterState::Record, self.after_source)
             }
         };
         self.part = part;
@@ -148,7 +148,7 @@ impl RecordCounter {
         let [.., a, b, c, d] = self.word.to_le_bytes();
         let captured = u64::from(self.number([a, b, c, d]));
         if self.first_source.is_none() && captured > SOURCE_END {
-            self.behind_source = captured - SOURCE_END;
+            self.after_source = captured - SOURCE_END;
             (CounterState::Source, 4 + SOURCE_END)
         } else {
             (CounterState::Record, captured + 4)

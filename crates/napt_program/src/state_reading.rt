@@ -5,7 +5,7 @@ ghost use Rattle.napt_config.specs.Rules.{Rules};
 ghost use Rattle.napt_account.specs.LogStarts.{is_saved_log_state};
 ghost use Rattle.napt_rules.specs.Prelude.{TakesState};
 ghost use Rattle.napt_state.specs.{StateContents.{unless_for}, Saved.{IsSaved}, StateFiles.{StateFileModel as Told}, StateText.{saved_text}};
-ghost use Rattle.napt_program.specs.State.{IsAnew, IsStateOf, IsStateStop, ReportsMisfit, is_bad_line, line_refusal};
+ghost use Rattle.napt_program.specs.State.{IsNewRun, IsStateOf, IsStateStop, ReportsMisfit, is_bad_line, line_refusal};
 
 use crate::devices::reader;
 use crate::role::FileRole;
@@ -41,7 +41,7 @@ pub fn state_at<R: Files + AllocGlobal>(
 ) -> Result<ResumedState, Stop>
     ensures taken { IfOk result (λ saved. TakesState config.now saved.state) }
     ensures saved { IfOk result (λ it. is_saved_log_state it.state it.saved ≡ true) }
-    ensures anew { path.entry ≡ None → IfOk result IsAnew }
+    ensures anew { path.entry ≡ None → IfOk result IsNewRun }
     ensures stop { IfErr result (IsStateStop (is_some path.entry)) }
 {
     let Some(path) = path else {

@@ -43,18 +43,18 @@ pub enum Stop {
 #[derive(Clone, Copy, Debug, PartialEq, Eq)]
 pub enum LogRefusal {
     /// The run starts without a state, and there is text or a piece.
-    Anew,
+    NoState,
     /// The state was saved without a log, or with a log that was not in a file, or in pieces if this
     /// one is not.
-    Untold,
+    NoSavedLog,
     /// It is not the state's log, of this length in bytes: it is shorter, or that log's last row does
     /// not end there.
-    Another(u64),
+    OtherLog(u64),
     /// More than a partial row follows the first bytes, whose number the state records.
-    Longer(u64),
+    ExtraText(u64),
     /// The last piece is not the one in which the state's log ends, of this number, or does not end
     /// there.
-    Piece(u64),
+    OtherPiece(u64),
 }
 
 /// The reason why a state is refused.

@@ -19,7 +19,7 @@ use Rattle.napt_run.{specs.OutputSinks.{AreTimes, FailsBy, FailsToBegin, IsNew, 
 use Rattle.napt_run.specs.{OutputSinkLaws.{appends_none, breaks_more, grows_more, grows_none, records_text-append, times_first, times_second}, Outputs.{Breaks, OutputGrows}}
 use Rattle.napt_run.specs.CaptureRuns.{FailsAfter, PassesAll, PassesOr, RunPassesHalted}
 use Rattle.napt_run.specs.{LogLaws.held, Posts.{AtMostOneMore, ExtentPost, FailedPost, OutputEnds, RunsTo, capture_to, may_have_ended, output_text_by}, Runs.{IfHeld, run_left_of}, Files.files_until}
-use Rattle.napt_run.specs.{Streams.{AreTaken, IsStreamFaultOf, IsOfRun, IsReading, IsSettledBy, capture_text, side_of}, declared.{output.Output.Output, output_sinks.Leaving.Leaving, capture_run.Totals.Totals}}
+use Rattle.napt_run.specs.{Streams.{AreTaken, IsStreamFaultOf, IsOfRun, IsReading, IsSettledBy, capture_text, side_of}, declared.{output.Output.Output, output_sinks.OutcomeWriter.OutcomeWriter, capture_run.RunTotals.RunTotals}}
 use Rattle.napt_run.proofs.{OpenStreams.{ReadBy, read_somehow, read_to_fault, read_well, told}, Breaks.first_within, OutcomeCounts.all_counted, Ends.{IfHeld-by, IsCapture, broken, ends, grown, grown_if, headed, inside_is, none_held, outside_is, same_text}, Files.{begun_files, files_large}}
 
 -- WHAT IS KNOWN OF THE CAPTURES
@@ -195,8 +195,8 @@ module _ {R Q : Type 0} {G : source.Ghosts R} {H : source.Ghosts Q} (begin end :
 -- WHAT THE OUTPUTS HAVE
 
 module _ {W V : Type 0} {S : sink.Ghosts W} {T : sink.Ghosts V} (origin : OriginModel) (bytes others : Option (List ℕ))
-    (start new : Leaving W V S T) where
-  abbrev pub To : Result Totals Fault → Type 0
+    (start new : OutcomeWriter W V S T) where
+  abbrev pub To : Result RunTotals Fault → Type 0
   To result = RunsTo origin bytes others start new result
 
   abbrev GrownOutside : List Arrival → Type 0
@@ -277,9 +277,10 @@ module _ {W V : Type 0} {S : sink.Ghosts W} {T : sink.Ghosts V} (origin : Origin
   unheaded is_new (Capture side fault) p = absurd p
   unheaded is_new (Run fault) p = absurd p
 
-pub none_read : {W V : Type 0} {S : sink.Ghosts W} {T : sink.Ghosts V} (start new : Leaving W V S T) (fault : Fault) →
+pub none_read : {W V : Type 0} {S : sink.Ghosts W} {T : sink.Ghosts V} (start new : OutcomeWriter W V S T)
+    (fault : Fault) →
     FailsToBegin start fault new →
-    (let told : Result Totals Fault = Err fault in IsReading told (Ok tt))
+    (let told : Result RunTotals Fault = Err fault in IsReading told (Ok tt))
 none_read start new (Write Outside fault) p = tt
 none_read start new (Write Inside fault) p = tt
 none_read start new (Write Report fault) p = absurd p
@@ -289,7 +290,7 @@ none_read start new (Run fault) p = absurd p
 
 -- A header of a capture was refused.
 pub unread : {W V : Type 0} {S : sink.Ghosts W} {T : sink.Ghosts V} (origin : OriginModel)
-    (bytes others : Option (List ℕ)) (start mid : Leaving W V S T) → SinkBegins start mid → IsSettled mid →
+    (bytes others : Option (List ℕ)) (start mid : OutcomeWriter W V S T) → SinkBegins start mid → IsSettled mid →
     (side : Side) (fault : CaptureFault) → IfHeld bytes others (λ all. Refuses side fault all []) →
     RunsTo origin bytes others start mid (Err (Capture side fault))
 unread origin bytes others start mid begins settled side fault refuses =
@@ -302,8 +303,9 @@ unread origin bytes others start mid begins settled side fault refuses =
 -- WHAT THE RUN DID
 
 module _ {R Q W V : Type 0} {G : source.Ghosts R} {H : source.Ghosts Q} {S : sink.Ghosts W} {T : sink.Ghosts V}
-    (origin : OriginModel) (begin : StreamMerger R Q G H) (start mid : Leaving W V S T) (end : StreamMerger R Q G H)
-    (new : Leaving W V S T) (bytes others : Option (List ℕ)) (live : IsMergerLive begin)
+    (origin : OriginModel) (begin : StreamMerger R Q G H) (start mid : OutcomeWriter W V S T)
+    (end : StreamMerger R Q G H)
+    (new : OutcomeWriter W V S T) (bytes others : Option (List ℕ)) (live : IsMergerLive begin)
     (begun : (b o : List ℕ) → bytes ≡ Some b → others ≡ Some o → IsMergerNew begin b o)
     (is_new : IsNew start) (begins : SinkBegins start mid) where
   times : (inputs : List Arrival) (mid : StreamMerger R Q G H) → HandsOutInputs begin inputs mid → AreTimes
@@ -324,7 +326,7 @@ module _ {R Q W V : Type 0} {G : source.Ghosts R} {H : source.Ghosts Q} {S : sin
       new.to_inside begins.to_inside (subst (λ (l : List TimedOutcome). OutputGrows mid.to_inside
       (records_text sides.Inside l) new.to_inside) is p)
 
-  well : (totals : Totals) → PassesAll origin begin mid end new totals →
+  well : (totals : RunTotals) → PassesAll origin begin mid end new totals →
       RunsTo origin bytes others start new (Ok totals)
   well totals p =
       let whole = p.well.whole in
@@ -362,7 +364,7 @@ module _ {R Q W V : Type 0} {G : source.Ghosts R} {H : source.Ghosts Q} {S : sin
     first_is : List Arrival
     first : List TimedOutcome
     later : List TimedOutcome
-    middle : Leaving W V S T
+    middle : OutcomeWriter W V S T
     front_went : IfHeld bytes others (λ all. IsFrontOf went_is all.arrivals)
     front_first : IfHeld bytes others (λ all. IsFrontOf first_is all.arrivals)
     both_are : first ++ later ≡ run_left_of origin went_is
@@ -503,7 +505,7 @@ module _ {R Q W V : Type 0} {G : source.Ghosts R} {H : source.Ghosts Q} {S : sin
     told = tt;
   }
 
-  pub runs_to : (result : Result Totals Fault) → PassesOr origin begin mid end new result →
+  pub runs_to : (result : Result RunTotals Fault) → PassesOr origin begin mid end new result →
       RunsTo origin bytes others start new result
   runs_to (Ok totals) p = well totals p
   runs_to (Err (Capture side fault)) p =
@@ -529,9 +531,10 @@ module _ {R Q W V : Type 0} {G : source.Ghosts R} {H : source.Ghosts Q} {S : sin
 
 -- The number of reads that failed.
 module _ {R Q W V : Type 0} {G : source.Ghosts R} {H : source.Ghosts Q} {S : sink.Ghosts W} {T : sink.Ghosts V}
-    (origin : OriginModel) (begin end : StreamMerger R Q G H) (mid new : Leaving W V S T) (live : IsMergerLive begin)
+    (origin : OriginModel) (begin end : StreamMerger R Q G H) (mid new : OutcomeWriter W V S T)
+    (live : IsMergerLive begin)
   where
-    pub reads_of : (result : Result Totals Fault) → PassesOr origin begin mid end new result →
+    pub reads_of : (result : Result RunTotals Fault) → PassesOr origin begin mid end new result →
         (¬ IsOfRun result) → (read : Result (Unit {0}) Fault) × IsReading result read × ReadBy begin end live read
     reads_of (Ok totals) p not_run = (Ok tt, refl, read_well begin end live p.well.whole.inputs p.well.whole.came)
     reads_of (Err (Capture side fault)) p not_run =

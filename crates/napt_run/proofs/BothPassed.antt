@@ -19,7 +19,7 @@ use Rattle.napt_sequential.proofs.JoinedSteps.{steps_long, steps_outcomes, steps
 use Rattle.napt_run.specs.{OutputSinks.{FailsToBegin, SinkTakes, TimedOutcome}, LogRuns.{EntersFront, LogFailsOver, Legs, LogsTo, legs_told}}
 use Rattle.napt_run.specs.LoggedOutputSinks.{AreSettled, FailsEither, FailsLog, FailsOutput, IsSameSinkPlace, TakesBoth, legs_in, outcomes_in}
 use Rattle.napt_run.specs.CaptureRuns.{EntersBy, EntersFirst, EntersOr, EntersTo, FailsAfter, FailsFirst, PassesBy, PassesOr, RunPassesHalted, RunPassesTo}
-use Rattle.napt_run.specs.{Posts.IsBeforeReport, Runs.{IfHeld, run_left_of}, declared.{capture_run.Totals.Totals, output_sinks.Leaving.Leaving, logged_output_sinks.LeavingWithLog.LeavingWithLog}}
+use Rattle.napt_run.specs.{Posts.IsBeforeReport, Runs.{IfHeld, run_left_of}, declared.{capture_run.RunTotals.RunTotals, output_sinks.OutcomeWriter.OutcomeWriter, logged_output_sinks.LoggedOutcomeWriter.LoggedOutcomeWriter}}
 use Rattle.napt_run.proofs.{AfterHeaders.{Refuses, fault_of, front, refused_held, taken_of, whole_is}, Ends.none_held, Fronts.outcomes_of, TraceFronts.{TraceFront, trace_front}}
 
 -- WHAT LEAVES
@@ -76,8 +76,8 @@ module _ {P A F W V K : Type 0} {S : sink.Ghosts W} {T : sink.Ghosts V} (tells :
     (enters : K → List (Legs P) → K → Type 0) (fails : K → List (Legs P) → Fault → K → Type 0) (is_settled : K → Type 0)
     (more : (x y z : K) (xs ys : List (Legs P)) → enters x xs y → enters y ys z → enters x (xs ++ ys) z)
     (fails_more : (x y z : K) (xs ys : List (Legs P)) (fault : Fault) → enters x xs y → fails y ys fault z →
-    fails x (xs ++ ys) fault z) (from : A) (before : LeavingWithLog W V K S T) (left : A)
-    (after : LeavingWithLog W V K S T) where
+    fails x (xs ++ ys) fault z) (from : A) (before : LoggedOutcomeWriter W V K S T) (left : A)
+    (after : LoggedOutcomeWriter W V K S T) where
   abbrev Told : Option F → Type 0
   Told end = passing.RunThroughEnd tells origin.rules origin.state hands ends (TakesBoth enters)
       (FailsEither enters fails)
@@ -160,7 +160,8 @@ module _ {P A F W V K : Type 0} {S : sink.Ghosts W} {T : sink.Ghosts V} (tells :
                 sym (append_assoc f.first f.others front.0)
                     ∙ (ap (λ (l : List (ℕ × InputResult P)). l ++ front.0) (sym f.went_is) ∙ front.1),
               );
-              took = inl (subst (λ (x : Leaving W V S T). SinkTakes before.leaving (outcomes_in f.first) x) (sym l.kept)
+              took = inl (subst (λ (x : OutcomeWriter W V S T). SinkTakes before.leaving (outcomes_in f.first) x)
+                  (sym l.kept)
                   f.took.took);
             },
             record {
@@ -256,11 +257,11 @@ module _ {P A F W V K : Type 0} {S : sink.Ghosts W} {T : sink.Ghosts V} (tells :
 module _ {R Q W V P K : Type 0} {G : source.Ghosts R} {H : source.Ghosts Q} {S : sink.Ghosts W} {T : sink.Ghosts V}
     (tells : Passage → P) (enters : K → List (Legs P) → K → Type 0) (fails : K → List (Legs P) → Fault → K → Type 0)
     (is_settled : K → Type 0) (open_gate : Bool) (origin : OriginModel) (from : StreamMerger R Q G H)
-    (before : Leaving W V S T) (left : StreamMerger R Q G H) (after : Leaving W V S T) (old new : K) where
+    (before : OutcomeWriter W V S T) (left : StreamMerger R Q G H) (after : OutcomeWriter W V S T) (old new : K) where
   abbrev By : Result RunSummary (PassFault SideFault Fault) → Type 0
   By result = EntersBy tells origin HandsOutInputs MergeEndsWith enters fails is_settled from old left new result
 
-  abbrev Or : Result Totals Fault → Type 0
+  abbrev Or : Result RunTotals Fault → Type 0
   Or result = EntersOr open_gate tells origin HandsOutInputs MergeEndsWith enters fails is_settled from old left new
       result
 
@@ -311,7 +312,7 @@ module _ {R Q W V P K : Type 0} {G : source.Ghosts R} {H : source.Ghosts Q} {S :
       failed = e.failed;
     }
 
-    pub logs_to : (result : Result Totals Fault) → PassesOr origin from before left after result → Or result →
+    pub logs_to : (result : Result RunTotals Fault) → PassesOr origin from before left after result → Or result →
         LogsTo tells origin enters fails is_settled bytes others old new open_gate result
     logs_to (Ok totals) p e = record {
       inputs = e.inputs;
@@ -345,7 +346,7 @@ module _ {P K : Type 0} (tells : Passage → P) (open_gate : Bool) (origin : Ori
   Untouched fault = LogsTo tells origin enters fails is_settled inside outside it it open_gate (Err fault)
 
   -- The headers of the outputs could not be written.
-  pub unbegun_logs : {W V : Type 0} {S : sink.Ghosts W} {T : sink.Ghosts V} (old new : Leaving W V S T)
+  pub unbegun_logs : {W V : Type 0} {S : sink.Ghosts W} {T : sink.Ghosts V} (old new : OutcomeWriter W V S T)
       (fault : Fault) → FailsToBegin old fault new → Untouched fault
   unbegun_logs old new (Write Outside fault) p =
       record { inputs = []; front = none_held inside outside; entered = none }

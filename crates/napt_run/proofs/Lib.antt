@@ -17,5 +17,5 @@ pub mod Endings
 pub mod LogTaken
 pub mod Logged
 pub mod Outputs
-pub mod Leaves
+pub mod OutcomeWrites
 pub mod SameAsCaptures

@@ -6,9 +6,9 @@ use Rattle.napt_rules.specs.Prelude.{Binding, State, initial_state, opening, wit
 use Rattle.napt_account.specs.{Log.LogModel, LogBuilders.LogBuilderModel, LogStarts.{SavedLogStateModel, StartedLogsBeginAnew, empty_state, no_saved_log}, ResumedLogRuns.IsLogOf}
 use Rattle.napt_log_text.specs.{Logs.{LogOrigin, first_part, first_text, log_so_far, log_text, rows_from}, Times.TimeText}
 use Rattle.napt_capture.specs.declared.device.Sink.{Ghosts}
-use Rattle.napt_run.specs.LogOrigins.{IsTakenAs, LogTexts, LoggedOrigin, ending, log_origin, origin_saved, text_so_far, texts_anew, texts_from, texts_of, whole_text}
+use Rattle.napt_run.specs.LogOrigins.{IsResumedFrom, LogTexts, LoggedOrigin, ending, log_origin, origin_saved, text_so_far, texts_anew, texts_from, texts_of, whole_text}
 use Rattle.napt_run.specs.{Origins.{OriginModel, origin_of}, RunningLogs.{AreLaws, IsReady}, declared.{start.Start.Start, log_writer.LogWriter.LogWriter}}
-use Rattle.napt_run.specs.declared.log_start.{LogStart.LogStart, TakenLog.TakenLog}
+use Rattle.napt_run.specs.declared.log_start.{LogStart.LogStart, ResumedLog.ResumedLog}
 
 -- BEFORE ANY INPUT
 
@@ -66,7 +66,8 @@ same_origin : (origin : OriginModel) (a b : TimeText) (log other : LogModel) (ea
     } in f) ≡ record { origin = origin; opening = b; log = other; each = same; goes_on = also }
 same_origin origin a b log other each same goes_on also text kept pieces goes = cc
 
-module _ (start : Start) (log_start : LogStart) (taken : TakenLog) (is_taken : IsTakenAs start log_start taken) where
+module _ (start : Start) (log_start : LogStart) (taken : ResumedLog)
+    (is_taken : IsResumedFrom start log_start taken) where
   pub log_of : taken.log.log ≡ (log_origin start log_start).log
   log_of = ap (λ (l : LogBuilderModel). l.log) is_taken.known
 

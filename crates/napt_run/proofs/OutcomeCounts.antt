@@ -4,11 +4,11 @@ use Rattle.napt_capture.specs.declared.device.Sink.{Ghosts}
 use Rattle.napt_run.specs.Origins.{OriginModel, ran_by}
 use Rattle.napt_records.specs.Counts.{AreCountsOf}
 use Rattle.napt_rules.specs.{Prelude.{Arrival}, declared.Outcome.Outcome}
-use Rattle.napt_run.{specs.{OutputSinks.{SinkTakes, TimedOutcome}, Runs.run_left_of, declared.output_sinks.Leaving.Leaving}, proofs.Fronts.{as_many, outcomes_back}}
+use Rattle.napt_run.{specs.{OutputSinks.{SinkTakes, TimedOutcome}, Runs.run_left_of, declared.output_sinks.OutcomeWriter.OutcomeWriter}, proofs.Fronts.{as_many, outcomes_back}}
 
 -- All outcomes of a run left.
 pub all_counted : {W V : Type 0} {S : Ghosts W} {T : Ghosts V} (origin : OriginModel) (inputs : List Arrival)
-    (old new : Leaving W V S T) → AreCountsOf [] old.counts → length inputs < 2 ^ 64 →
+    (old new : OutcomeWriter W V S T) → AreCountsOf [] old.counts → length inputs < 2 ^ 64 →
     SinkTakes old (run_left_of origin inputs) new → AreCountsOf (ran_by origin inputs).outcomes new.counts
 all_counted origin inputs old new none few took =
     let back : map (λ (t : TimedOutcome). t.1) (run_left_of origin inputs) ≡ (ran_by origin inputs).outcomes =

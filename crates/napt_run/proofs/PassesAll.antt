@@ -11,12 +11,12 @@ use Rattle.napt_records.specs.{Counts.AreCountsOf, Output.IsTimely, Report.{repo
 use Rattle.napt_rules.specs.{Prelude.{Arrival}, declared.{Outcome.Outcome, Row.Row}}
 use Rattle.napt_sequential.{proofs.Inputs.came_whole, specs.declared.fault.RunFault.RunFault}
 use Rattle.napt_run.specs.{OutputSinks.SinkBegins, OutputSinkLaws.grows_more, Outputs.OutputGrows, CaptureRuns.RunPassesWell, Runs.text_after}
-use Rattle.napt_run.specs.{Streams.capture_text, WholeCaptures.{IsTallyOf, WritesAll}, declared.{output_sinks.Leaving.Leaving, output.Output.Output, whole_captures.RunTally.RunTally}}
+use Rattle.napt_run.specs.{Streams.capture_text, WholeCaptures.{IsTallyOf, WritesAll}, declared.{output_sinks.OutcomeWriter.OutcomeWriter, output.Output.Output, whole_captures.RunTally.RunTally}}
 use Rattle.napt_run.proofs.{OutcomeCounts.all_counted, Fronts.{capture_is, times_of}}
 
 -- The run over all inputs.
 pub passes_all : {F W V : Type 0} {S : Ghosts W} {T : Ghosts V} (origin : OriginModel) (from left : List Arrival)
-    (old new : Leaving W V S T) (passed : RunSummary) → AreCountsOf [] old.counts → All IsTimely from →
+    (old new : OutcomeWriter W V S T) (passed : RunSummary) → AreCountsOf [] old.counts → All IsTimely from →
     RunPassesWell {F = F} origin (λ x xs y. x ≡ xs ++ y) (λ x end y. x ≡ []) from old left new passed →
     WritesAll [] origin from old new (record { counts = new.counts; passed = passed })
 passes_all origin from left old new passed none timely p =
@@ -37,7 +37,7 @@ passes_all origin from left old new passed none timely p =
 
 -- The run after the headers.
 pub headed_all : {W V : Type 0} {S : Ghosts W} {T : Ghosts V} (origin : OriginModel) (inputs : List Arrival)
-    (old mid new : Leaving W V S T) → SinkBegins old mid → (r : Result RunTally RunFault) →
+    (old mid new : OutcomeWriter W V S T) → SinkBegins old mid → (r : Result RunTally RunFault) →
     IfOk r (WritesAll [] origin inputs mid new) → IfOk r (WritesAll file_header origin inputs old new)
 headed_all origin inputs old mid new begins (Err fault) p = tt
 headed_all origin inputs old mid new begins (Ok tally) p = record {
@@ -55,7 +55,7 @@ capture_appended origin side inputs old new grown start last from at =
     grind (arith, common_steps, nat_tests, ℕ, capture_is)
 
 module _ {W V : Type 0} {S : Ghosts W} {T : Ghosts V} (origin : OriginModel) (inputs : List Arrival)
-    (old new : Leaving W V S T) where
+    (old new : OutcomeWriter W V S T) where
   pub told_outside : (r : Result RunTally RunFault) → IfOk r (WritesAll file_header origin inputs old new) →
       (start last : W) → old.to_outside.device.now ≡ start →
       (new.to_outside.device.ghost_name ≡ old.to_outside.device.ghost_name → last ≡ new.to_outside.device.now) →

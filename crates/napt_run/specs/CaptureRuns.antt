@@ -10,24 +10,25 @@ use Rattle.napt_records.specs.{StreamMergers.{MergeEndsWith, HandsOutInputs, cut
 use Rattle.napt_records.specs.declared.stream_merger.{StreamMerger.StreamMerger, SideFault.SideFault}
 use Rattle.napt_rules.specs.Prelude.{Arrival}
 use Rattle.napt_sequential.specs.{Inputs.InputsCame, declared.passage.Passage.Passage}
-use Rattle.napt_run.specs.{OutputSinks.{IsOfOutput, SinkFails, IsSettled, SinkTakes, TimedOutcome}, LogRuns.{IsLogFault, Legs, legs_told}, Runs.run_left_of, declared.output_sinks.Leaving.Leaving}
-use Rattle.napt_run.specs.declared.capture_run.Totals.{Totals}
+use Rattle.napt_run.specs.{OutputSinks.{IsOfOutput, SinkFails, IsSettled, SinkTakes, TimedOutcome}, LogRuns.{IsLogFault, Legs, legs_told}, Runs.run_left_of, declared.output_sinks.OutcomeWriter.OutcomeWriter}
+use Rattle.napt_run.specs.declared.capture_run.RunTotals.{RunTotals}
 
 -- THE OUTPUTS
 
 -- The first of these outcomes were taken, and the fault came while the others were.
-pub record FailsAfter {W V : Type 0} {S : sink.Ghosts W} {T : sink.Ghosts V} (before : Leaving W V S T)
-    (went : List TimedOutcome) (fault : Fault) (after : Leaving W V S T) : Type 0 where
+pub record FailsAfter {W V : Type 0} {S : sink.Ghosts W} {T : sink.Ghosts V} (before : OutcomeWriter W V S T)
+    (went : List TimedOutcome) (fault : Fault) (after : OutcomeWriter W V S T) : Type 0 where
   pub first : List TimedOutcome
   pub others : List TimedOutcome
-  pub middle : Leaving W V S T
+  pub middle : OutcomeWriter W V S T
   pub went_is : went ≡ first ++ others
   pub took : SinkTakes before first middle
   pub failed : SinkFails middle others fault after
 
 module _ {A F W V : Type 0} {S : sink.Ghosts W} {T : sink.Ghosts V} (origin : OriginModel)
-    (hands : A → List Arrival → A → Type 0) (ends : A → Option F → A → Type 0) (from : A) (before : Leaving W V S T)
-    (left : A) (after : Leaving W V S T) where
+    (hands : A → List Arrival → A → Type 0) (ends : A → Option F → A → Type 0) (from : A)
+    (before : OutcomeWriter W V S T)
+    (left : A) (after : OutcomeWriter W V S T) where
   -- The arrivals ended or failed, and the outcomes of the inputs before that were taken.
   pub record RunPassesTo (end : Option F) : Type 0 where
     pub inputs : List Arrival
@@ -65,16 +66,16 @@ module _ {A F W V : Type 0} {S : sink.Ghosts W} {T : sink.Ghosts V} (origin : Or
   PassesBy (Err (pass_faults.Run fault)) = RunPassesHalted
 
 module _ {R Q W V : Type 0} {G : source.Ghosts R} {H : source.Ghosts Q} {S : sink.Ghosts W} {T : sink.Ghosts V}
-    (origin : OriginModel) (from : StreamMerger R Q G H) (before : Leaving W V S T)
-    (left : StreamMerger R Q G H) (after : Leaving W V S T) where
+    (origin : OriginModel) (from : StreamMerger R Q G H) (before : OutcomeWriter W V S T)
+    (left : StreamMerger R Q G H) (after : OutcomeWriter W V S T) where
   -- The run succeeded, with these totals for the report.
-  pub record PassesAll (totals : Totals) : Type 0 where
+  pub record PassesAll (totals : RunTotals) : Type 0 where
     pub well : RunPassesWell origin HandsOutInputs MergeEndsWith from before left after totals.passed
     pub counts : totals.counts ≡ after.counts
     pub cut_inside : totals.cuts.inside ≡ cut_of left.inside
     pub cut_outside : totals.cuts.outside ≡ cut_of left.outside
 
-  abbrev pub PassesOr : Result Totals Fault → Type 0
+  abbrev pub PassesOr : Result RunTotals Fault → Type 0
   PassesOr (Ok totals) = PassesAll totals
   PassesOr (Err (Capture side fault)) =
       RunPassesTo origin HandsOutInputs MergeEndsWith from before left after
@@ -126,7 +127,7 @@ module _ {P A K : Type 0} (open_gate : Bool) (tells : Passage → P) (origin : O
     (enters : K → List (Legs P) → K → Type 0) (fails : K → List (Legs P) → Fault → K → Type 0)
     (is_settled : K → Type 0) (from : A) (old : K) (left : A) (new : K) where
   -- The same holds of a run over captures, whose fault may be one of its log.
-  abbrev pub EntersOr : Result Totals Fault → Type 0
+  abbrev pub EntersOr : Result RunTotals Fault → Type 0
   EntersOr (Ok totals) = EntersTo tells origin hands ends enters fails is_settled from old left new None
   EntersOr (Err (Capture side fault)) =
       EntersTo tells origin hands ends enters fails is_settled from old left new

@@ -4,7 +4,7 @@ use Rattle.napt_config.specs.Rules.{Rules}
 use Rattle.napt_account.specs.{Log.LogModel, LogParts.in_order_of_end, LogStarts.{SavedLogStateModel, log_before, log_started, no_saved_log, started_part}, ResumedLogRuns.{IsLogOf, left_of}, declared.log_start.LogFromState.LogFromState}
 use Rattle.napt_log_text.specs.{Logs.{LogOrigin, first_part, first_text, living_rows, log_anew, log_so_far, log_text, rows_from}, Times.TimeText}
 use Rattle.napt_rules.specs.Prelude.{Arrival, State, initial_state, with_redirects}
-use Rattle.napt_run.specs.{Origins.{OriginModel, origin_of}, declared.{start.Start.Start, log_start.{LogStart.LogStart, TakenLog.TakenLog}}}
+use Rattle.napt_run.specs.{Origins.{OriginModel, origin_of}, declared.{start.Start.Start, log_start.{LogStart.LogStart, ResumedLog.ResumedLog}}}
 
 -- The text of a log after these inputs, and at the end of the run over them.
 pub record LogTexts : Type 0 where
@@ -63,7 +63,7 @@ origin_from started is_new = record {
 }
 
 -- A log as it was taken up, and the beginning of its text.
-pub record IsTakenAs (start : Start) (log_start : LogStart) (taken : TakenLog) : Type 0 where
+pub record IsResumedFrom (start : Start) (log_start : LogStart) (taken : ResumedLog) : Type 0 where
   pub of : IsLogOf start.config.now (origin_of start).state (log_origin start log_start).log
   pub known : taken.log ≡ record {
     rules = start.config.now;

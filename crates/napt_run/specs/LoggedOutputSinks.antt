@@ -4,7 +4,7 @@ use Rattle.napt_capture.specs.declared.device.Sink.{Ghosts}
 use Rattle.napt_dispatch.specs.declared.outcome_sink.InputResult.{InputResult}
 use Rattle.napt_run.specs.{OutputSinks.{IsOfOutput, SinkFails, IsSettled, SinkTakes, TimedOutcome}, OutputSinkLaws.{takes_none, takes_more}, LogRuns.{IsLogFault, Legs}}
 use Rattle.napt_records.specs.declared.Fault.{Fault}
-use Rattle.napt_run.specs.declared.logged_output_sinks.LeavingWithLog.{LeavingWithLog}
+use Rattle.napt_run.specs.declared.logged_output_sinks.LoggedOutcomeWriter.{LoggedOutcomeWriter}
 
 -- The outcomes of what left, with the arrival times of their inputs.
 abbrev pub outcomes_in : {P : Type 0} → List (ℕ × InputResult P) → List TimedOutcome
@@ -16,48 +16,48 @@ legs_in all = map (λ left. (left.1.now, left.1.first, left.1.second)) all
 
 module _ {W V K : Type 0} {S : Ghosts W} {T : Ghosts V} where
   -- Its log is at the same place.
-  abbrev pub IsSameSinkPlace : LeavingWithLog W V K S T → LeavingWithLog W V K S T → Type 0
+  abbrev pub IsSameSinkPlace : LoggedOutcomeWriter W V K S T → LoggedOutcomeWriter W V K S T → Type 0
   IsSameSinkPlace old new = new.log.ghost_name ≡ old.log.ghost_name
 
   -- All that left is flushed, the log too.
-  abbrev pub AreSettled : (K → Type 0) → LeavingWithLog W V K S T → Type 0
+  abbrev pub AreSettled : (K → Type 0) → LoggedOutcomeWriter W V K S T → Type 0
   AreSettled is_settled it = IsSettled it.leaving × is_settled it.log.now
 
 module _ {P W V K : Type 0} {S : Ghosts W} {T : Ghosts V} where
   -- All that left was recorded in the log, and the outputs have its records.
-  pub record TakesBoth (enters : K → List (Legs P) → K → Type 0) (old : LeavingWithLog W V K S T)
-      (all : List (ℕ × InputResult P)) (new : LeavingWithLog W V K S T) : Type 0 where
+  pub record TakesBoth (enters : K → List (Legs P) → K → Type 0) (old : LoggedOutcomeWriter W V K S T)
+      (all : List (ℕ × InputResult P)) (new : LoggedOutcomeWriter W V K S T) : Type 0 where
     pub took : SinkTakes old.leaving (outcomes_in all) new.leaving
     pub entered : enters old.log.now (legs_in all) new.log.now
     pub same : IsSameSinkPlace old new
 
   -- An output failed, and everything was recorded in the log.
-  pub record FailsOutput (enters : K → List (Legs P) → K → Type 0) (old : LeavingWithLog W V K S T)
-      (all : List (ℕ × InputResult P)) (fault : Fault) (new : LeavingWithLog W V K S T) : Type 0 where
+  pub record FailsOutput (enters : K → List (Legs P) → K → Type 0) (old : LoggedOutcomeWriter W V K S T)
+      (all : List (ℕ × InputResult P)) (fault : Fault) (new : LoggedOutcomeWriter W V K S T) : Type 0 where
     pub of_output : IsOfOutput fault
     pub failed : SinkFails old.leaving (outcomes_in all) fault new.leaving
     pub entered : enters old.log.now (legs_in all) new.log.now
     pub same : IsSameSinkPlace old new
 
   -- The log failed, and no output has more than before.
-  pub record FailsLog (fails : K → List (Legs P) → Fault → K → Type 0) (old : LeavingWithLog W V K S T)
-      (all : List (ℕ × InputResult P)) (fault : Fault) (new : LeavingWithLog W V K S T) : Type 0 where
+  pub record FailsLog (fails : K → List (Legs P) → Fault → K → Type 0) (old : LoggedOutcomeWriter W V K S T)
+      (all : List (ℕ × InputResult P)) (fault : Fault) (new : LoggedOutcomeWriter W V K S T) : Type 0 where
     pub of_log : IsLogFault fault
     pub kept : new.leaving ≡ old.leaving
     pub failed : fails old.log.now (legs_in all) fault new.log.now
     pub same : IsSameSinkPlace old new
 
   abbrev pub FailsEither : (K → List (Legs P) → K → Type 0) → (K → List (Legs P) → Fault → K → Type 0) →
-      LeavingWithLog W V K S T → List (ℕ × InputResult P) → Fault → LeavingWithLog W V K S T → Type 0
+      LoggedOutcomeWriter W V K S T → List (ℕ × InputResult P) → Fault → LoggedOutcomeWriter W V K S T → Type 0
   FailsEither enters fails old all fault new =
       FailsOutput enters old all fault new ⊎ FailsLog fails old all fault new
 
   pub both_none : (enters : K → List (Legs P) → K → Type 0) → ((x : K) → enters x [] x) →
-      (x : LeavingWithLog W V K S T) → TakesBoth enters x [] x
+      (x : LoggedOutcomeWriter W V K S T) → TakesBoth enters x [] x
   both_none enters none x = record { took = takes_none x.leaving; entered = none x.log.now; same = refl }
 
   pub both_more : (enters : K → List (Legs P) → K → Type 0) → ((x y z : K) (xs ys : List (Legs P)) →
-      enters x xs y → enters y ys z → enters x (xs ++ ys) z) → (x y z : LeavingWithLog W V K S T)
+      enters x xs y → enters y ys z → enters x (xs ++ ys) z) → (x y z : LoggedOutcomeWriter W V K S T)
       (first second : List (ℕ × InputResult P)) →
       TakesBoth enters x first y → TakesBoth enters y second z → TakesBoth enters x (first ++ second) z
   both_more enters more x y z first second one two = record {

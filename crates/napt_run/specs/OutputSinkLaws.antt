@@ -8,7 +8,7 @@ use Rattle.napt_wire.specs.declared.Side.TheVariants as sides
 use Rattle.napt_capture.specs.{declared.{device.Sink.Ghosts, fault.WriteFault.WriteFault}, Contents.RecordModel, Text.record_text}
 use Rattle.napt_rules.specs.declared.Outcome.{Outcome}
 use Rattle.napt_records.specs.{Output.{packet_to, record_at, IsTime}, Counts.AreCountsOf}
-use Rattle.napt_run.specs.{Outputs.{Breaks, OutputGrows}, OutputSinks.{TimedOutcome, records_text, AreTimes, SinkTakes}, declared.{output.Output.Output, output_sinks.Leaving.Leaving}}
+use Rattle.napt_run.specs.{Outputs.{Breaks, OutputGrows}, OutputSinks.{TimedOutcome, records_text, AreTimes, SinkTakes}, declared.{output.Output.Output, output_sinks.OutcomeWriter.OutcomeWriter}}
 
 -- TEXTS AND TIMES
 
@@ -79,14 +79,14 @@ module _ {W : Type 0} {S : Ghosts W} where
 -- BOTH
 
 module _ {W V : Type 0} {S : Ghosts W} {T : Ghosts V} where
-  pub takes_none : (x : Leaving W V S T) → SinkTakes x [] x
+  pub takes_none : (x : OutcomeWriter W V S T) → SinkTakes x [] x
   takes_none x = record {
     to_outside = λ times. grows_none x.to_outside;
     to_inside = λ times. grows_none x.to_inside;
     counts = λ outcomes few are. subst (λ (l : List Outcome). AreCountsOf l x.counts) (sym (append-nil outcomes)) are;
   }
 
-  pub takes_more : (x y z : Leaving W V S T) (first second : List TimedOutcome) → SinkTakes x first y →
+  pub takes_more : (x y z : OutcomeWriter W V S T) (first second : List TimedOutcome) → SinkTakes x first y →
       SinkTakes y second z → SinkTakes x (first ++ second) z
   takes_more x y z first second one two = record {
     to_outside = λ times. subst (λ (l : List ℕ). OutputGrows x.to_outside l z.to_outside)

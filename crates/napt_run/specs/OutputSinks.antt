@@ -6,7 +6,7 @@ use Rattle.napt_capture.specs.{Text.{file_header, record_text}, declared.{device
 use Rattle.napt_rules.specs.declared.Outcome.{Outcome}
 use Rattle.napt_records.specs.{Output.{packet_to, record_at, IsTime}, Counts.AreCountsOf, declared.{Fault.{Fault, TheVariants.Write}, Which.Which}}
 use Rattle.napt_records.specs.declared.Which.TheVariants.{Outside, Inside}
-use Rattle.napt_run.specs.{Outputs.{OutputGrows, Breaks}, declared.output_sinks.Leaving.Leaving}
+use Rattle.napt_run.specs.{Outputs.{OutputGrows, Breaks}, declared.output_sinks.OutcomeWriter.OutcomeWriter}
 
 -- An outcome, with the arrival time of its input.
 abbrev pub TimedOutcome : Type 0
@@ -20,19 +20,20 @@ abbrev pub AreTimes : List TimedOutcome → Type 0
 AreTimes all = All (λ timed. IsTime timed.0) all
 
 -- No call of either output failed.
-abbrev pub AreOutputsSound : {W V : Type 0} {S : Ghosts W} {T : Ghosts V} → Leaving W V S T → Type 0
+abbrev pub AreOutputsSound : {W V : Type 0} {S : Ghosts W} {T : Ghosts V} → OutcomeWriter W V S T → Type 0
 AreOutputsSound leaving = (leaving.to_outside.is_broken ≡ false) × (leaving.to_inside.is_broken ≡ false)
 
 module _ {W V : Type 0} {S : Ghosts W} {T : Ghosts V} where
   -- These outcomes left: each output has its records of them, and they are counted.
-  pub record SinkTakes (old : Leaving W V S T) (all : List TimedOutcome) (new : Leaving W V S T) : Type 0 where
+  pub record SinkTakes (old : OutcomeWriter W V S T) (all : List TimedOutcome) (new : OutcomeWriter W V S T)
+      : Type 0 where
     pub to_outside : AreTimes all → OutputGrows old.to_outside (records_text sides.Outside all) new.to_outside
     pub to_inside : AreTimes all → OutputGrows old.to_inside (records_text sides.Inside all) new.to_inside
     pub counts : (outcomes : List Outcome) → length (outcomes ++ map (λ timed. timed.1) all) < 2 ^ 64 →
         AreCountsOf outcomes old.counts → AreCountsOf (outcomes ++ map (λ timed. timed.1) all) new.counts
 
   -- An output failed while these left, and the other one has nothing more, or all of them.
-  abbrev pub FailsBy : Leaving W V S T → List TimedOutcome → Fault → Leaving W V S T → Type 0
+  abbrev pub FailsBy : OutcomeWriter W V S T → List TimedOutcome → Fault → OutcomeWriter W V S T → Type 0
   FailsBy old all (Write Outside fault) new =
       Breaks old.to_outside (records_text sides.Outside all) fault new.to_outside
       × OutputGrows old.to_inside [] new.to_inside
@@ -41,17 +42,17 @@ module _ {W V : Type 0} {S : Ghosts W} {T : Ghosts V} where
       × Breaks old.to_inside (records_text sides.Inside all) fault new.to_inside
   FailsBy old all other new = ⊥
 
-  abbrev pub SinkFails : Leaving W V S T → List TimedOutcome → Fault → Leaving W V S T → Type 0
+  abbrev pub SinkFails : OutcomeWriter W V S T → List TimedOutcome → Fault → OutcomeWriter W V S T → Type 0
   SinkFails old all fault new = AreOutputsSound old → AreTimes all → FailsBy old all fault new
 
   -- The headers were written.
-  pub record SinkBegins (old new : Leaving W V S T) : Type 0 where
+  pub record SinkBegins (old new : OutcomeWriter W V S T) : Type 0 where
     pub to_outside : OutputGrows old.to_outside file_header new.to_outside
     pub to_inside : OutputGrows old.to_inside file_header new.to_inside
     pub counts : new.counts ≡ old.counts
 
   -- Writing a header failed; the one to the outside is written first.
-  abbrev pub FailsToBegin : Leaving W V S T → Fault → Leaving W V S T → Type 0
+  abbrev pub FailsToBegin : OutcomeWriter W V S T → Fault → OutcomeWriter W V S T → Type 0
   FailsToBegin old (Write Outside fault) new =
       Breaks old.to_outside file_header fault new.to_outside × (new.to_inside ≡ old.to_inside)
   FailsToBegin old (Write Inside fault) new =
@@ -59,7 +60,7 @@ module _ {W V : Type 0} {S : Ghosts W} {T : Ghosts V} where
   FailsToBegin old other new = ⊥
 
 -- All that left is flushed.
-abbrev pub IsSettled : {W V : Type 0} {S : Ghosts W} {T : Ghosts V} → Leaving W V S T → Type 0
+abbrev pub IsSettled : {W V : Type 0} {S : Ghosts W} {T : Ghosts V} → OutcomeWriter W V S T → Type 0
 IsSettled {W} {V} {S} {T} leaving =
     S.is_flushed leaving.to_outside.device.now × T.is_flushed leaving.to_inside.device.now
 
@@ -75,7 +76,7 @@ named which (Ok done) = Ok done
 named which (Err fault) = Err (Write which fault)
 
 -- The captures before anything is written.
-pub record IsNew {W V : Type 0} {S : Ghosts W} {T : Ghosts V} (leaving : Leaving W V S T) : Type 0 where
+pub record IsNew {W V : Type 0} {S : Ghosts W} {T : Ghosts V} (leaving : OutcomeWriter W V S T) : Type 0 where
   pub sound : AreOutputsSound leaving
   pub none_outside : leaving.to_outside.written ≡ 0
   pub none_inside : leaving.to_inside.written ≡ 0

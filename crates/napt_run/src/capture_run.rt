@@ -4,7 +4,7 @@ ghost use Rattle.napt_dispatch.specs.RunsThrough.{IsStoppedUnder};
 ghost use Rattle.napt_records.specs.StreamMergers.{MergeEndsWith, HandsOutInputs};
 ghost use Rattle.napt_run.specs.{LoggedOutputSinks.IsSameSinkPlace, Origins.origin_of, CaptureRuns.{EntersBy, EntersOr, PassesBy, PassesOr}};
 
-use crate::logged_output_sinks::LeavingWithLog;
+use crate::logged_output_sinks::LoggedOutcomeWriter;
 use crate::start::{OriginSetting, Start};
 use crate::stream_log::StreamLog;
 use napt_capture::{Sink, Source};
@@ -17,7 +17,7 @@ use std::thread::Threads;
 
 /// What the report of a run is made from.
 #[derive(Drop)]
-pub struct Totals {
+pub struct RunTotals {
     pub(crate) counts: OutcomeCounts,
     pub(crate) passed: RunSummary,
     pub(crate) cuts: CutFlags,
@@ -31,7 +31,7 @@ impl<
     pub(crate) fn run_all<A: InputSource, W: Sink, V: Sink, K: StreamLog>(
         self,
         inputs: &mut A,
-        both: &mut LeavingWithLog<'_, '_, '_, W, V, K>,
+        both: &mut LoggedOutcomeWriter<'_, '_, '_, W, V, K>,
     ) -> Result<RunSummary, PassFault<A::Fault, Fault>>
         ensures outputs { PassesBy (origin_of self.entry.start) A.hands A.ends inputs.old
             both.old.leaving inputs.new both.new.leaving result }
@@ -54,8 +54,8 @@ impl<
     pub(crate) fn pass<R: Source, Q: Source, W: Sink, V: Sink, K: StreamLog>(
         self,
         inputs: &mut StreamMerger<'_, '_, R, Q>,
-        both: &mut LeavingWithLog<'_, '_, '_, W, V, K>,
-    ) -> Result<Totals, Fault>
+        both: &mut LoggedOutcomeWriter<'_, '_, '_, W, V, K>,
+    ) -> Result<RunTotals, Fault>
         ensures outputs { PassesOr (origin_of self.entry.start) inputs.old both.old.leaving inputs.new
             both.new.leaving result }
         ensures log { EntersOr G.is_open K.Told.tells (origin_of self.entry.start) HandsOutInputs
@@ -64,7 +64,7 @@ impl<
         ensures same { IsSameSinkPlace both.old both.new }
     {
         match self.run_all(inputs, both) {
-            Ok(passed) => Ok(Totals {
+            Ok(passed) => Ok(RunTotals {
                 counts: both.leaving.counts,
                 passed,
                 cuts: inputs.cuts(),

@@ -7,8 +7,8 @@ ghost use Rattle.napt_run.specs.{Origins.origin_of, Streams.stream_ended, WholeP
 ghost use Rattle.napt_sequential.specs.Faults.{is_run_gate_fault};
 ghost use Rattle.napt_records.specs.Faults.{is_shut_gate_fault};
 
+use crate::buffered_text::BufferedText;
 use crate::devices::Devices;
-use crate::kept_texts::KeptTexts;
 use crate::run_end::RunEnd;
 use crate::start::{OriginSetting, Start};
 use crate::stream_log::NoLog;
@@ -34,8 +34,8 @@ struct CaptureFiles {
 /// What a run writes, and what gives the state that it leaves.
 #[derive(Drop)]
 struct CaptureOutputs {
-    to_outside: KeptTexts,
-    to_inside: KeptTexts,
+    to_outside: BufferedText,
+    to_inside: BufferedText,
     report: String,
     passed: RunSummary,
 }
@@ -87,8 +87,8 @@ fn make_outputs<T: Threads + Wait + Copy + Send + 'static, G: Gate + Send + Sync
     let alloc = setting.alloc;
     let CaptureFiles { inside, outside } = captures;
     let inputs = RecordMerger::new(inside.records, outside.records);
-    let mut to_outside = Watched::new(KeptTexts::new(alloc)?);
-    let mut to_inside = Watched::new(KeptTexts::new(alloc)?);
+    let mut to_outside = Watched::new(BufferedText::new(alloc)?);
+    let mut to_inside = Watched::new(BufferedText::new(alloc)?);
     let RunTally { counts, passed } = setting.run_into(inputs, &mut to_outside, &mut to_inside)?;
     let report = report_of(alloc, &counts, &passed.bindings, inside.cut, outside.cut)?;
     Ok(CaptureOutputs {
@@ -110,7 +110,7 @@ fn output_to(side: Side) -> Which
 }
 
 /// Writes the capture that goes to a side, and flushes it.
-fn write_side<W: Sink>(side: Side, kept: &KeptTexts, output: &mut W) -> Result<(), Fault>
+fn write_side<W: Sink>(side: Side, kept: &BufferedText, output: &mut W) -> Result<(), Fault>
     ensures bytes { OutputReceives (share_of (output_to side) result) kept.now
         (W.contents output.old) (W.contents output.new) }
     ensures flushed { OnOk result (W.is_flushed output.new) }

@@ -9,12 +9,12 @@
 //! for each address, and both return the same run.
 #![tactic(auto)]
 
+mod buffered_text;
 mod capture_run;
 mod captures;
 mod devices;
 mod initial;
 mod joined_texts;
-mod kept_texts;
 mod laws;
 mod log_start;
 mod log_writer;

@@ -4,7 +4,7 @@ ghost use Rattle.std.specs.Prelude.{◌≡◌, IfOk, string_bytes, true};
 ghost use Rattle.napt_rules.specs.Prelude.{TakesState};
 ghost use Rattle.napt_account.specs.{Log.LogModel, LogStarts.is_saved_log_state, ResumedLogRuns.IsLogOf};
 ghost use Rattle.napt_log_text.specs.Logs.{first_text};
-ghost use Rattle.napt_run.specs.{LogOrigins.{IsTakenAs, origin_from}, Origins.origin_of, RunningLogs.AreLaws};
+ghost use Rattle.napt_run.specs.{LogOrigins.{IsResumedFrom, origin_from}, Origins.origin_of, RunningLogs.AreLaws};
 
 use crate::start::Start;
 use napt_account::{
@@ -33,7 +33,7 @@ pub struct LogStart<'a> {
 
 /// A log before the first input of a run, and how the run's part of its text begins.
 #[derive(Drop)]
-pub(crate) struct TakenLog<'a> {
+pub(crate) struct ResumedLog<'a> {
     pub(crate) log: LogBuilder<'a>,
     pub(crate) opening: String,
 }
@@ -58,21 +58,21 @@ fn first_text(
 }
 
 /// Takes up the log of a run, which begins at a state. Fails only if memory is refused.
-pub(crate) fn take_up<'a>(
+pub(crate) fn resume_log<'a>(
     alloc: Global,
     start: Start<'a>,
     log_start: LogStart<'_>,
-) -> Result<TakenLog<'a>, AllocError>
+) -> Result<ResumedLog<'a>, AllocError>
     requires saved { is_saved_log_state start.state.now log_start.saved.now ≡ true }
     requires taken { TakesState start.config.now start.state.now }
-    ensures { IfOk result (IsTakenAs start.entry log_start.entry) }
+    ensures { IfOk result (IsResumedFrom start.entry log_start.entry) }
 {
     started_logs_go_on();
     // called only for its clause: the rules of a configuration are valid
     let _pool = start.config.pool();
     let started = LogBuilder::resume(alloc, start.config, start.state, log_start.saved)?;
     let opening = first_text(alloc, start.config, &started, log_start.is_new)?;
-    Ok(TakenLog {
+    Ok(ResumedLog {
         log: started.log,
         opening,
     })

@@ -7,7 +7,7 @@ ghost use Rattle.napt_sequential.specs.declared.passage.Trace.{Trace as Did};
 ghost use Rattle.napt_run.specs.{LogOrigins.{LoggedOrigin, log_origin, texts_from, texts_of}, LogRuns.IsLogFault, Origins.origin_of, OutputSinks.named, Posts.IsTextFault, RunningLogs.{IsReady, ending_with, running_log_of}};
 ghost use Rattle.napt_records.specs.declared.Which.TheVariants.{Log};
 
-use crate::log_start::{LogStart, TakenLog, log_laws, take_up};
+use crate::log_start::{LogStart, ResumedLog, log_laws, resume_log};
 use crate::output::Output;
 use crate::start::Start;
 use crate::stream_log::StreamLog;
@@ -64,9 +64,9 @@ impl<'a, 'b, L: Sink> LogWriter<'a, 'b, L> {
         ensures device { IfOk result (λ it. it.output.device.now ≡ device.old) }
     {
         log_laws(start);
-        let taken = take_up(alloc, start, log_start)?;
+        let taken = resume_log(alloc, start, log_start)?;
         let output = Output::over(device);
-        let TakenLog { log, opening } = taken;
+        let ResumedLog { log, opening } = taken;
         Ok(LogWriter {
             alloc,
             log,
@@ -171,7 +171,7 @@ impl<'a, 'b, L: Sink> LogWriter<'a, 'b, L> {
     }
 }
 
-/// Whether the log has no row with an input.
+/// Returns whether the log has no row with an input.
 #[inline(always)]
 fn is_quiet(part: &InputPart) -> bool
     ensures { result ≡ true → part_in part.now ≡ record { ended = []; made = []; refused = [] } }

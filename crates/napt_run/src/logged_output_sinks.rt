@@ -2,7 +2,7 @@
 
 ghost use Rattle.std.specs.Prelude.{◌≡◌, [], ◌∷◌, MatchResult};
 
-use crate::output_sinks::{Leaving, vector_of};
+use crate::output_sinks::{OutcomeWriter, vector_of};
 use crate::stream_log::StreamLog;
 use napt_capture::Sink;
 use napt_dispatch::{InputResult, OutcomeSink};
@@ -11,26 +11,26 @@ use napt_records::Fault;
 /// The captures that a run writes as it goes, and its log. The legs of an input are recorded in the log before its
 /// packet is written, and the log is flushed before the captures are.
 #[derive(Drop)]
-pub(crate) struct LeavingWithLog<'k, 'a, 'b, W: Sink, V: Sink, K> {
-    pub(crate) leaving: Leaving<'a, 'b, W, V>,
+pub(crate) struct LoggedOutcomeWriter<'k, 'a, 'b, W: Sink, V: Sink, K> {
+    pub(crate) leaving: OutcomeWriter<'a, 'b, W, V>,
     pub(crate) log: &'k mut K,
 }
 
-impl<'k, 'a, 'b, W: Sink, V: Sink, K> LeavingWithLog<'k, 'a, 'b, W, V, K> {
+impl<'k, 'a, 'b, W: Sink, V: Sink, K> LoggedOutcomeWriter<'k, 'a, 'b, W, V, K> {
     /// Returns the captures and the log of a run, before anything is written.
     pub(crate) fn over(
-        leaving: Leaving<'a, 'b, W, V>,
+        leaving: OutcomeWriter<'a, 'b, W, V>,
         log: &'k mut K,
-    ) -> LeavingWithLog<'k, 'a, 'b, W, V, K>
+    ) -> LoggedOutcomeWriter<'k, 'a, 'b, W, V, K>
         ensures leaving { result.leaving ≡ leaving.entry }
         ensures log_name { result.log.ghost_name ≡ log.entry.ghost_name }
         ensures log { result.log.now ≡ log.old }
     {
-        LeavingWithLog { leaving, log }
+        LoggedOutcomeWriter { leaving, log }
     }
 }
 
-impl<W: Sink, V: Sink, K: StreamLog> OutcomeSink for LeavingWithLog<'_, '_, '_, W, V, K> {
+impl<W: Sink, V: Sink, K: StreamLog> OutcomeSink for LoggedOutcomeWriter<'_, '_, '_, W, V, K> {
     ghost use Rattle.napt_run.specs.LoggedOutputSinks.{AreSettled, FailsEither, TakesBoth, both_none, both_more};
 
     type Fault = Fault;

@@ -54,7 +54,7 @@ impl<'a, W: Sink> Output<'a, W> {
             }
             Err(fault) => {
                 self.is_broken = true;
-                Err(shifted(before, fault))
+                Err(shift_fault(before, fault))
             }
         }
     }
@@ -91,7 +91,7 @@ impl<'a, W: Sink> Output<'a, W> {
             }
             Err(fault) => {
                 self.is_broken = true;
-                Err(shifted(before, fault))
+                Err(shift_fault(before, fault))
             }
         }
     }
@@ -113,7 +113,7 @@ impl<'a, W: Sink> Output<'a, W> {
             }
             Err(fault) => {
                 self.is_broken = true;
-                Err(shifted(before, fault))
+                Err(shift_fault(before, fault))
             }
         }
     }
@@ -161,7 +161,7 @@ fn write_all<W: Sink>(device: &mut W, bytes: &[u8]) -> Result<(), WriteFault>
 }
 
 /// Returns a fault in a part of the text, counted from the start of the text, of which `before` bytes precede the part.
-fn shifted(before: u64, fault: WriteFault) -> WriteFault
+fn shift_fault(before: u64, fault: WriteFault) -> WriteFault
     ensures { result.written ≡ min (before + fault.written) (2 ^ 64 - 1) }
 {
     WriteFault {

@@ -10,7 +10,7 @@ use napt_wire::Packet;
 
 /// The captures that a run writes as it goes, and the counts for its report.
 #[derive(Drop)]
-pub(crate) struct Leaving<'a, 'b, W: Sink, V: Sink> {
+pub(crate) struct OutcomeWriter<'a, 'b, W: Sink, V: Sink> {
     pub(crate) to_outside: Output<'a, W>,
     pub(crate) to_inside: Output<'b, V>,
     pub(crate) counts: OutcomeCounts,
@@ -43,18 +43,21 @@ pub(crate) fn vector_of(outcome: Outcome) -> Option<Vec<u8>> {
     }
 }
 
-impl<'a, 'b, W: Sink, V: Sink> Leaving<'a, 'b, W, V> {
+impl<'a, 'b, W: Sink, V: Sink> OutcomeWriter<'a, 'b, W, V> {
     ghost use Rattle.std.specs.Prelude.{◌∷◌, [], IfErr, MatchResult, OnOk};
     ghost use Rattle.napt_records.specs.Counts.{AreCountsOf};
     ghost use Rattle.napt_run.specs.OutputSinks.{AreOutputsSound, IsOfOutput, SinkBegins, SinkFails, FailsToBegin, IsSettled, SinkTakes};
 
     /// Returns both captures over these outputs, before anything is written.
-    pub(crate) fn into(to_outside: Output<'a, W>, to_inside: Output<'b, V>) -> Leaving<'a, 'b, W, V>
+    pub(crate) fn into(
+        to_outside: Output<'a, W>,
+        to_inside: Output<'b, V>,
+    ) -> OutcomeWriter<'a, 'b, W, V>
         ensures to_outside { result.to_outside ≡ to_outside.entry }
         ensures to_inside { result.to_inside ≡ to_inside.entry }
         ensures counts { AreCountsOf [] result.counts }
     {
-        Leaving {
+        OutcomeWriter {
             to_outside,
             to_inside,
             counts: OutcomeCounts::new(),

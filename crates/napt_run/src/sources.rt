@@ -1,10 +1,10 @@
 //! The captures that a run reads.
 ghost use Rattle.std.specs.Prelude.{◌≡◌, ◌+◌, List, Option, ℕ, IfErr, IfOk};
-ghost use Rattle.napt_run.specs.{Captures.failed_readings, OutputSinks.{IsNew, IsSettled, SinkBegins}, Origins.origin_of, Posts.RunsTo, LoggedOutputSinks.IsSameSinkPlace, LogRuns.LogsTo, declared.output_sinks.Leaving.Leaving as KnownLeaving};
+ghost use Rattle.napt_run.specs.{Captures.failed_readings, OutputSinks.{IsNew, IsSettled, SinkBegins}, Origins.origin_of, Posts.RunsTo, LoggedOutputSinks.IsSameSinkPlace, LogRuns.LogsTo, declared.output_sinks.OutcomeWriter.OutcomeWriter as KnownLeaving};
 ghost use Rattle.napt_run.specs.Streams.{HasRead, IsAfterHeader, IsHeaderFault, IsOfRun};
 
-use crate::capture_run::Totals;
-use crate::logged_output_sinks::LeavingWithLog;
+use crate::capture_run::RunTotals;
+use crate::logged_output_sinks::LoggedOutcomeWriter;
 use crate::start::OriginSetting;
 use crate::stream_log::StreamLog;
 use napt_capture::{RecordReader, Sink, Source};
@@ -17,7 +17,7 @@ use std::thread::Threads;
 
 /// Both captures, after their headers.
 #[derive(Drop)]
-struct BothRecords {
+struct BothReaders {
     inside: RecordReader,
     outside: RecordReader,
 }
@@ -31,8 +31,8 @@ impl<
         self,
         inside: &mut R,
         outside: &mut Q,
-        both: &mut LeavingWithLog<'_, '_, '_, W, V, K>,
-    ) -> Result<Totals, Fault>
+        both: &mut LoggedOutcomeWriter<'_, '_, '_, W, V, K>,
+    ) -> Result<RunTotals, Fault>
         requires log { K.is_settled both.old.log.now }
         ensures runs { (begun : KnownLeaving W V W.Sink V.Sink) → IsNew begun → SinkBegins begun both.old.leaving →
             IsSettled both.old.leaving → RunsTo (origin_of self.entry.start) (R.remaining inside.old)
@@ -46,7 +46,7 @@ impl<
     {
         let ours = read_header(self.alloc, Side::Inside, inside)?;
         let theirs = read_header(self.alloc, Side::Outside, outside)?;
-        let records = BothRecords {
+        let records = BothReaders {
             inside: ours,
             outside: theirs,
         };
@@ -58,9 +58,9 @@ impl<
         self,
         inside: &mut R,
         outside: &mut Q,
-        records: BothRecords,
-        both: &mut LeavingWithLog<'_, '_, '_, W, V, K>,
-    ) -> Result<Totals, Fault>
+        records: BothReaders,
+        both: &mut LoggedOutcomeWriter<'_, '_, '_, W, V, K>,
+    ) -> Result<RunTotals, Fault>
         ensures runs { (bytes others : Option (List ℕ)) (begun : KnownLeaving W V W.Sink V.Sink) →
             IsAfterHeader R.Source records.inside bytes inside.old →
             IsAfterHeader Q.Source records.outside others outside.old → IsNew begun →

@@ -3,10 +3,10 @@ ghost use Rattle.std.specs.Prelude.{◌≡◌, IfErr, IfOk};
 ghost use Rattle.napt_run.specs.{OutputSinks.IsNew, Origins.origin_of, Posts.{CapturePost, FaultPost, IsBeforeReport, RunsTo, SinkPost, capture_to, log_by}, LoggedOutputSinks.IsSameSinkPlace, LogRuns.LogsTo, Runs.IsToldOf};
 ghost use Rattle.napt_run.specs.Streams.{HasRead, IsOfRun, stream_ended};
 
-use crate::capture_run::Totals;
-use crate::logged_output_sinks::LeavingWithLog;
+use crate::capture_run::RunTotals;
+use crate::logged_output_sinks::LoggedOutcomeWriter;
 use crate::output::Output;
-use crate::output_sinks::Leaving;
+use crate::output_sinks::OutcomeWriter;
 use crate::start::OriginSetting;
 use crate::stream_log::StreamLog;
 use napt_account::OpenLog;
@@ -29,7 +29,7 @@ impl<
         to_outside: &mut W,
         to_inside: &mut V,
         log: &mut K,
-    ) -> Result<(Totals, OpenLog), Fault>
+    ) -> Result<(RunTotals, OpenLog), Fault>
         requires ready { K.is_ready (origin_of self.start) log.old }
         ensures to_outside { CapturePost W.Sink K.is_kept Which.Outside (origin_of self.entry.start)
             (R.remaining inside.old) (Q.remaining outside.old) (stream_ended result)
@@ -69,7 +69,7 @@ impl<
         to_outside: &mut W,
         to_inside: &mut V,
         log: &mut K,
-    ) -> Result<Totals, Fault>
+    ) -> Result<RunTotals, Fault>
         requires log { K.is_settled log.old }
         ensures to_outside { SinkPost W.Sink (capture_to Which.Outside (origin_of self.entry.start))
             Which.Outside (R.remaining inside.old) (Q.remaining outside.old) (stream_ended result)
@@ -87,12 +87,12 @@ impl<
     {
         let ours = Output::over(to_outside);
         let theirs = Output::over(to_inside);
-        let leaving = Leaving::into(ours, theirs);
-        let mut both = LeavingWithLog::over(leaving, log);
+        let leaving = OutcomeWriter::into(ours, theirs);
+        let mut both = LoggedOutcomeWriter::over(leaving, log);
         let told = self.begin_and_run(inside, outside, &mut both);
-        let LeavingWithLog { leaving, log } = both;
+        let LoggedOutcomeWriter { leaving, log } = both;
         let _log = log;
-        let Leaving {
+        let OutcomeWriter {
             to_outside: ours,
             to_inside: theirs,
             counts: _,
@@ -107,8 +107,8 @@ impl<
         self,
         inside: &mut R,
         outside: &mut Q,
-        both: &mut LeavingWithLog<'_, '_, '_, W, V, K>,
-    ) -> Result<Totals, Fault>
+        both: &mut LoggedOutcomeWriter<'_, '_, '_, W, V, K>,
+    ) -> Result<RunTotals, Fault>
         requires new { IsNew both.old.leaving }
         requires log { K.is_settled both.old.log.now }
         ensures runs { RunsTo (origin_of self.entry.start) (R.remaining inside.old)

@@ -5,9 +5,9 @@ ghost use Rattle.napt_dispatch.specs.Dispatch.{IsFaultUnder};
 ghost use Rattle.napt_records.specs.{Counts.AreCountsOf, Output.IsTimely};
 ghost use Rattle.napt_run.specs.{Origins.origin_of, Streams.capture_text, WholeCaptures.{IsTallyOf, WritesAll}};
 
-use crate::logged_output_sinks::LeavingWithLog;
+use crate::logged_output_sinks::LoggedOutcomeWriter;
 use crate::output::Output;
-use crate::output_sinks::Leaving;
+use crate::output_sinks::OutcomeWriter;
 use crate::start::OriginSetting;
 use crate::stream_log::NoLog;
 use napt_capture::Sink;
@@ -49,13 +49,13 @@ impl<
     {
         let ours = Output::over(to_outside);
         let theirs = Output::over(to_inside);
-        let leaving = Leaving::into(ours, theirs);
+        let leaving = OutcomeWriter::into(ours, theirs);
         let mut none = NoLog;
-        let mut both = LeavingWithLog::over(leaving, &mut none);
+        let mut both = LoggedOutcomeWriter::over(leaving, &mut none);
         let told = self.write_all(inputs, &mut both);
-        let LeavingWithLog { leaving, log } = both;
+        let LoggedOutcomeWriter { leaving, log } = both;
         let _log = log;
-        let Leaving {
+        let OutcomeWriter {
             to_outside: ours,
             to_inside: theirs,
             counts: _,
@@ -69,7 +69,7 @@ impl<
     fn write_all<W: Sink, V: Sink>(
         self,
         inputs: RecordMerger,
-        both: &mut LeavingWithLog<'_, '_, '_, W, V, NoLog>,
+        both: &mut LoggedOutcomeWriter<'_, '_, '_, W, V, NoLog>,
     ) -> Result<RunTally, RunFault>
         requires timely { All IsTimely inputs }
         requires counts { AreCountsOf [] both.old.leaving.counts }
@@ -88,7 +88,7 @@ impl<
     fn pass_all<W: Sink, V: Sink>(
         self,
         mut inputs: RecordMerger,
-        both: &mut LeavingWithLog<'_, '_, '_, W, V, NoLog>,
+        both: &mut LoggedOutcomeWriter<'_, '_, '_, W, V, NoLog>,
     ) -> Result<RunTally, RunFault>
         requires timely { All IsTimely inputs }
         requires counts { AreCountsOf [] both.old.leaving.counts }

@@ -89,15 +89,15 @@ fn takes_a_line_without_a_name(rt: HostRuntime) -> Result<(), Fail> {
 fn tells_one_file(rt: HostRuntime) {
     let node = |device, number| FileId { device, number };
     let (file, other) = (
-        FileLocation::There(node(7, 3)),
-        FileLocation::There(node(8, 3)),
+        FileLocation::Existing(node(7, 3)),
+        FileLocation::Existing(node(8, 3)),
     );
     let folder = node(7, 2);
     let (new, second_new) = (
         FileLocation::New(folder, "a"),
         FileLocation::New(folder, "b"),
     );
-    let words = FileLocation::Words("a");
+    let words = FileLocation::PathOnly("a");
     let rows = [
         (file, file, true),
         (file, other, false),
@@ -105,7 +105,7 @@ fn tells_one_file(rt: HostRuntime) {
         (new, second_new, false),
         (words, words, true),
         (new, words, false),
-        (FileLocation::Aside, FileLocation::Aside, false),
+        (FileLocation::Special, FileLocation::Special, false),
     ];
     for (i, (a, b, is_one)) in rows.iter().enumerate() {
         assert!(rt; is_same(*a, *b) == *is_one, "row {i}");

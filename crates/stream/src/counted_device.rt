@@ -21,7 +21,7 @@ impl<'p, S, R> CountedDevice<'p, S, R> {
         ensures { result.device.device ≡ device }
     {
         CountedDevice {
-            device: CountedSource::over(device, progress.is_heard()),
+            device: CountedSource::over(device, progress.has_stderr()),
             progress,
             has_begun: false,
         }
@@ -48,7 +48,7 @@ impl<'p, S: Source, R: Eprint + Clock + AllocGlobal> Source for CountedDevice<'p
             && let Some(time) = self.device.first_time()
         {
             self.has_begun = true;
-            self.progress.begin_at(time);
+            self.progress.print_if_earlier(time);
         }
         Ok(count)
     }

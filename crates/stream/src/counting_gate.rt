@@ -6,7 +6,7 @@ use std::sync::atomic::{AtomicU64, Ordering};
 
 /// A count on cache lines of its own, so that workers do not slow one another down.
 #[derive(Drop)]
-struct Count {
+struct GateCount {
     many: AtomicU64,
     _rest: [u64; 15],
 }
@@ -15,7 +15,7 @@ struct Count {
 #[derive(Drop)]
 pub struct CountingGate {
     /// The number of bindings of each worker.
-    counts: Vec<Count>,
+    counts: Vec<GateCount>,
 }
 
 impl CountingGate {
@@ -23,7 +23,7 @@ impl CountingGate {
     pub fn new(alloc: Global, workers: usize) -> Result<CountingGate, AllocError> {
         let mut counts = Vec::with_capacity(alloc, workers)?;
         for _ in 0..workers {
-            counts.push(Count {
+            counts.push(GateCount {
                 many: AtomicU64::new(0),
                 _rest: [0; 15],
             })?;

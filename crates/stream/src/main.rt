@@ -13,13 +13,13 @@ use std::process::ExitCode;
 
 fn main(rt: HostRuntime) -> ExitCode {
     let streams = StandardStreams::open_now(&rt);
-    let call = ProgramCall::of(&rt, streams, manual::OWN.name);
+    let call = ProgramCall::new(&rt, streams, manual::OWN.name);
     let mut reason = StopReason::new(call.at_terminal);
     match call.as_called(&rt, manual::INSTALLED.name) {
         Ok(call) => {
             let answer = program::serve(&rt, streams, call, &mut reason);
-            call.ended(&rt, &answer, &reason)
+            call.finish(&rt, &answer, &reason)
         }
-        Err(stop) => call.ended(&rt, &Err(stop), &reason),
+        Err(stop) => call.finish(&rt, &Err(stop), &reason),
     }
 }

@@ -2,7 +2,7 @@
 //! runs over them.
 
 ghost use Rattle.std.specs.Prelude.{◌≡◌, IfErr, OnOk, map, string_bytes};
-ghost use Rattle.napt_program.specs.{CommandLine.{files_with_log, line_with_log}, Command.{IsLineStop, IsRunStop, LineIsTaken, IsStopUnderOpenGate}};
+ghost use Rattle.napt_program.specs.{CommandLine.{files_with_log, line_with_log}, Command.{IsLineStop, IsRunStop, LineIsAccepted, IsStopUnderOpenGate}};
 
 use crate::counted_device::CountedDevice;
 use crate::counting_gate::CountingGate;
@@ -49,7 +49,7 @@ pub fn serve_words<R: ProgramHost + Clock>(
     words: Vec<String>,
     reason: &mut StopReason,
 ) -> Result<(), Stop>
-    ensures taken { OnOk result (LineIsTaken (line_with_log (map string_bytes words.items))) }
+    ensures taken { OnOk result (LineIsAccepted (line_with_log (map string_bytes words.items))) }
     ensures stop { IfErr result
         (IsLineStop streams (line_with_log (map string_bytes words.items))) }
 {
@@ -82,14 +82,14 @@ fn run<R: ProgramHost + Clock>(
         log,
         save,
     } = open(rt, streams, options, &mut reason.place, call.ends_misfits)?;
-    call.print_ended(rt, ended);
+    call.print_ended_bindings(rt, ended);
     let RunDevices {
         inside,
         outside,
         outputs,
     } = devices;
     let gate = gate(rt.alloc(), config.pool().len())?;
-    let progress = ProgressReport::of(rt, share_gate(&gate)?, call, state.clock);
+    let progress = ProgressReport::new(rt, share_gate(&gate)?, call, state.clock);
     let captures = CaptureDevices {
         inside: CountedDevice::over(inside, &progress),
         outside: CountedDevice::over(outside, &progress),

@@ -51,15 +51,15 @@ pub struct ProgressReport<'r, R> {
 
 impl<'r, R> ProgressReport<'r, R> {
     /// Returns whether standard error is open.
-    pub fn is_heard(&self) -> bool {
-        self.call.is_heard
+    pub fn has_stderr(&self) -> bool {
+        self.call.has_stderr
     }
 }
 
 impl<'r, R: Eprint + Clock + AllocGlobal> ProgressReport<'r, R> {
     /// Returns the progress of a run that starts now, with a state of this clock, in ns. Without a
     /// terminal, no progress is printed.
-    pub fn of(
+    pub fn new(
         rt: &'r R,
         gate: Arc<CountingGate>,
         call: ProgramCall,
@@ -83,7 +83,7 @@ impl<'r, R: Eprint + Clock + AllocGlobal> ProgressReport<'r, R> {
 
     /// Prints, once, that the first packet of a capture, of this time in ns, is earlier than the
     /// state. Without memory for that the run goes on, and nothing is printed.
-    pub fn begin_at(&self, time: u64) {
+    pub fn print_if_earlier(&self, time: u64) {
         let clock = self.clock.get();
         if time < clock {
             let (rt, call) = (self.rt, self.call);

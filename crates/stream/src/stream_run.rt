@@ -118,7 +118,7 @@ impl<'a> StreamRun<'a> {
         StreamResult {
             captures,
             outputs,
-            answer: ended(rt.alloc(), options, config, answer),
+            answer: result_without_log(rt.alloc(), options, config, answer),
         }
     }
 
@@ -154,7 +154,7 @@ impl<'a> StreamRun<'a> {
         StreamResult {
             captures,
             outputs,
-            answer: ended_with_log(
+            answer: result_with_log(
                 rt.alloc(),
                 options,
                 config,
@@ -248,7 +248,7 @@ fn run_devices<A: Source, B: Source, T: Write + Drop, F: Write + Drop, L: Drop>(
 }
 
 /// Returns the result of the program for that of a run without a log.
-fn ended(
+fn result_without_log(
     alloc: Global,
     options: &OptionsWithLog,
     config: &Config,
@@ -270,13 +270,13 @@ fn ended(
         .passed
         .into_state_if(options.files.save.is_some(), alloc)?;
     Ok(StreamRemainder {
-        state: contents(alloc, config, state, None)?,
+        state: saved_contents(alloc, config, state, None)?,
     })
 }
 
 /// Returns the result of the program for that of a run with a log, whose accounts and end it keeps if
 /// the state is to be saved. Fails as the run does, and with `Stop::Log` on a failed sync.
-fn ended_with_log<T: Write + Drop, F: SeekableFile + Drop, R: Files + AllocGlobal>(
+fn result_with_log<T: Write + Drop, F: SeekableFile + Drop, R: Files + AllocGlobal>(
     alloc: Global,
     options: &OptionsWithLog,
     config: &Config,
@@ -302,12 +302,12 @@ fn ended_with_log<T: Write + Drop, F: SeekableFile + Drop, R: Files + AllocGloba
     let state = end.passed.into_state_if(true, alloc);
     let log_end = log.synced_end()?;
     Ok(StreamRemainder {
-        state: contents(alloc, config, state?, Some((&end.log, log_end)))?,
+        state: saved_contents(alloc, config, state?, Some((&end.log, log_end)))?,
     })
 }
 
 /// Returns what a run saves, if its state is to be saved. Fails with `MEMORY` if memory is refused.
-fn contents(
+fn saved_contents(
     alloc: Global,
     config: &Config,
     state: Option<State>,

@@ -21,7 +21,7 @@ pub(crate) fn print_answer<R: Print, T: Debug>(rt: &R, answer: &T) -> Result<(),
 }
 
 impl<'a, R> Line<'a, R> {
-    pub(crate) fn of(rt: &'a R, alloc: Global, text: &'a str) -> Line<'a, R> {
+    pub(crate) fn new(rt: &'a R, alloc: Global, text: &'a str) -> Line<'a, R> {
         Line {
             rt,
             alloc,

@@ -43,7 +43,10 @@ fn records(alloc: Global, text: &[u8]) -> Result<Vec<Record>, CallFault> {
 }
 
 /// Reads the header of a capture.
-fn opened<'a, R: Source>(alloc: Global, source: &'a mut R) -> Result<RecordStream<'a, R>, CallFault>
+fn open_stream<'a, R: Source>(
+    alloc: Global,
+    source: &'a mut R,
+) -> Result<RecordStream<'a, R>, CallFault>
     ensures { IfOk result (λ stream. R.failed stream.live.source.now ≡ R.failed source.old) }
 {
     let records = RecordReader::open(alloc, source).map_err(|_| CallFault::Capture)?;
@@ -95,8 +98,8 @@ pub(crate) fn print_read<R: Print>(line: &mut Line<'_, R>) -> Result<(), CallFau
     let (inside, outside) = captures(line)?;
     let mut first = Watched::new(inside.as_slice());
     let mut second = Faulty::new(Watched::new(outside.as_slice()), plan);
-    let first = opened(line.alloc, &mut first)?;
-    let second = opened(line.alloc, &mut second)?;
+    let first = open_stream(line.alloc, &mut first)?;
+    let second = open_stream(line.alloc, &mut second)?;
     print_streams(line, StreamMerger::new(line.alloc, first, second))
 }
 
@@ -105,7 +108,7 @@ pub(crate) fn print_alone<R: Print>(line: &mut Line<'_, R>) -> Result<(), CallFa
     let inside = line.bytes()?;
     let mut first = Watched::new(inside.as_slice());
     let mut second = EmptySource::new();
-    let first = opened(line.alloc, &mut first)?;
-    let second = opened(line.alloc, &mut second)?;
+    let first = open_stream(line.alloc, &mut first)?;
+    let second = open_stream(line.alloc, &mut second)?;
     print_streams(line, StreamMerger::new(line.alloc, first, second))
 }

@@ -12,7 +12,7 @@ use napt_wire::Protocol;
 
 /// `table ADDRESS CONFIGURATION`: makes a table of that address, in a box: a function that owns a table itself takes
 /// minutes to prove.
-pub(crate) fn begun<R: Print>(line: &mut Line<'_, R>) -> Result<Box<Table>, CallFault> {
+pub(crate) fn new_table<R: Print>(line: &mut Line<'_, R>) -> Result<Box<Table>, CallFault> {
     let address = line.long()?;
     let config = Config::read(line.alloc, &line.bytes()?).map_err(|_| CallFault::Config)?;
     let table = Table::new(line.alloc, address, &config).map_err(|_| CallFault::Call)?;
@@ -52,7 +52,8 @@ pub(crate) fn answer<R: Print>(
     }
 }
 
-/// Whether there is no block, or one of an even size whose first number is even and at least 1024.
+/// Returns whether there is no block, or one of an even size whose first number is even and at
+/// least 1024.
 fn keeps_block(block: Option<PortBlock>) -> bool
     ensures { result ≡ true → IfSome block IsPortBlock }
 {
@@ -63,7 +64,7 @@ fn keeps_block(block: Option<PortBlock>) -> bool
     first % 2 == 0 && first >= 1024 && size % 2 == 0 && size >= 64 && end <= 65_536
 }
 
-/// Whether a number can be that of an endpoint: port 0 cannot (RFC 768).
+/// Returns whether a number can be that of an endpoint: port 0 cannot (RFC 768).
 pub(crate) fn is_number(protocol: Protocol, number: u16) -> bool
     ensures { result ≡ true → IsNumber protocol number }
 {

@@ -14,7 +14,7 @@ pub(crate) struct Translators {
 }
 
 /// `translators CONFIGURATION`.
-pub(crate) fn begun<R: Print>(line: &mut Line<'_, R>) -> Result<Translators, CallFault> {
+pub(crate) fn new_translators<R: Print>(line: &mut Line<'_, R>) -> Result<Translators, CallFault> {
     let alloc = line.alloc;
     let config = Config::read(alloc, &line.bytes()?).map_err(|_| CallFault::Config)?;
     let mut all = Vec::new(alloc);

@@ -24,17 +24,17 @@ enum FileForm {
     Empty,
     Pcapng,
     Gzip,
-    /// A libpcap capture of this spelling and link type.
-    Pcap(CaptureSpelling, u32),
+    /// A libpcap capture of this format and link type.
+    Pcap(CaptureFormat, u32),
     /// The capture could not be read.
     Unread,
     /// None of these, or a libpcap capture that ends within its header.
     Unknown,
 }
 
-/// The four spellings of a libpcap capture: the order of its bytes, and its unit of time.
+/// The four formats of a libpcap capture: the order of its bytes, and its unit of time.
 #[derive(Clone, Copy)]
-struct CaptureSpelling {
+struct CaptureFormat {
     order: &'static str,
     unit: &'static str,
 }
@@ -75,7 +75,7 @@ fn pcap(bytes: &[u8], is_big: bool, unit: &'static str) -> FileForm {
         true => ("big-endian", u32::from_be_bytes(link)),
         false => ("little-endian", u32::from_le_bytes(link)),
     };
-    FileForm::Pcap(CaptureSpelling { order, unit }, link)
+    FileForm::Pcap(CaptureFormat { order, unit }, link)
 }
 
 /// Returns the name of a link type, if captures often have it.
@@ -181,8 +181,8 @@ fn form_text(alloc: Global, form: FileForm) -> Result<String, AllocError> {
     }
 }
 
-fn pcap_text(alloc: Global, spelling: CaptureSpelling, link: u32) -> Result<String, AllocError> {
-    let CaptureSpelling { order, unit } = spelling;
+fn pcap_text(alloc: Global, spelling: CaptureFormat, link: u32) -> Result<String, AllocError> {
+    let CaptureFormat { order, unit } = spelling;
     match link_name(link) {
         Some(name) => {
             format!(in alloc; "a libpcap capture of {name} (link type {link}), {order}, {unit}")

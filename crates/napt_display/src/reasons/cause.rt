@@ -22,7 +22,7 @@ impl CauseText {
         }
     }
 
-    const fn with(meaning: &'static str, advice: &'static str) -> CauseText {
+    const fn with_advice(meaning: &'static str, advice: &'static str) -> CauseText {
         CauseText {
             meaning,
             advice: Some(advice),
@@ -31,25 +31,25 @@ impl CauseText {
     }
 
     /// Returns the texts about a cause.
-    pub fn of(cause: Cause) -> CauseText {
+    pub fn from_cause(cause: Cause) -> CauseText {
         match cause {
-            Cause::Truncated => CauseText::with(
+            Cause::Truncated => CauseText::with_advice(
                 "fewer bytes than the packet's own length says",
                 "the capture was made with a snapshot length: capture whole packets (tcpdump -s 0)",
             ),
-            Cause::NotIpv4 => CauseText::with(
+            Cause::NotIpv4 => CauseText::with_advice(
                 "not version 4",
                 "IPv6 and ARP are not translated; else link headers or a VLAN tag were left in the capture, or cut twice",
             ),
-            Cause::BadHeader => CauseText::with(
+            Cause::BadHeader => CauseText::with_advice(
                 "an impossible length in a header",
                 "link headers were cut at the wrong place, or the card leaves total lengths 0: switch its offload off",
             ),
-            Cause::BadChecksum => CauseText::with(
+            Cause::BadChecksum => CauseText::with_advice(
                 "the checksum of the IP header, or of an ICMP error, is wrong",
                 "the checksum was left to the network card: switch its offload off, or capture at the other end",
             ),
-            Cause::Fragment => CauseText::with(
+            Cause::Fragment => CauseText::with_advice(
                 "a fragment, and napt does not put them together",
                 "the path has a small MTU: capture where datagrams are whole",
             ),
@@ -60,13 +60,13 @@ impl CauseText {
                 "an ICMP error that quotes too little, or a packet that nobody here sent",
             ),
             Cause::BadPort => CauseText::new("a port 0"),
-            Cause::Spoofed => CauseText::with(
+            Cause::Spoofed => CauseText::with_advice(
                 "the source belongs to the other side",
                 "the captures are swapped, one is of both interfaces, or a prefix is missing in `inside`",
             ),
             Cause::NotOurs => CauseText {
                 advice_of_replies: Some("is this an outside capture? (`--outside`)"),
-                ..CauseText::with(
+                ..CauseText::with_advice(
                     "the destination is not beyond the gateway",
                     "the capture is of both interfaces or has traffic that does not cross the gateway, or `pool` lacks an address",
                 )
@@ -75,20 +75,20 @@ impl CauseText {
                 advice_of_replies: Some(
                     "`quota`, the timers or the pool leave their hosts without a binding, or the inside capture lacks what was sent before",
                 ),
-                ..CauseText::with(
+                ..CauseText::with_advice(
                     "nobody inside sent from there, or longer ago than the timer",
                     "the inside capture lacks what was sent before, or `pool` is not that of the gateway that was captured",
                 )
             },
-            Cause::Filtered => CauseText::with(
+            Cause::Filtered => CauseText::with_advice(
                 "the filter does not let this remote in: nothing was sent to it",
                 "the remotes were not sent to: `filter = \"independent\"` would let them in",
             ),
-            Cause::OverQuota => CauseText::with(
+            Cause::OverQuota => CauseText::with_advice(
                 "the host has all the bindings that `quota` allows it",
                 "raise `quota`, or leave it out: then there is no limit",
             ),
-            Cause::NoPort => CauseText::with(
+            Cause::NoPort => CauseText::with_advice(
                 "every number that may stand for it is taken at this external address",
                 "the pool is too small: add an address",
             ),

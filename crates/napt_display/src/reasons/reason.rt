@@ -7,7 +7,7 @@ use std::alloc::AllocError;
 /// One reason for a refusal.
 #[derive(Drop)]
 pub struct Reason {
-    /// The word before it: `why`, `at`, `line`, `meant`, `value`, `with`, `expected`, `it is` or `do`; empty if it
+    /// The word before it: `why`, `at`, `line`, `meant`, `value`, `with_advice`, `expected`, `it is` or `do`; empty if it
     /// continues the reason before.
     pub title: &'static str,
     pub text: String,

@@ -129,7 +129,7 @@ fn logs_are_read_back(rt: HostRuntime) -> Result<(), Fail> {
         return Err(Fail::from(text.len()));
     };
     assert!(rt; matches!(log.next(), Ok(Some(row)) if row == saved(LogField::Number(9))));
-    assert!(rt; matches!(log.next(), Err(LogFileFault::Torn)));
+    assert!(rt; matches!(log.next(), Err(LogFileFault::IncompleteRow)));
     assert!(rt; matches!(log.next(), Ok(None)));
     assert!(rt; LogReader::open(rt.alloc(), ended.as_bytes()).is_err());
     assert_eq!(rt; saved(LogField::Empty).binding(), Ok(ENTRY.binding));

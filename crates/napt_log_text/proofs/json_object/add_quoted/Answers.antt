@@ -11,4 +11,4 @@ returns c =
     quoted_behind _ _ _ _ (codes "{\"protocol\":") _ c.in_ok-push_str.ensures.bytes c.in_ok-push_str-2.ensures.bytes
     c.in_ok-push_str-3.ensures.bytes in
     rw (c.in_ok-push_str-4.ensures.bytes, c.in_ok-add_to.ensures, protocol)
-    (simp (c.protocol_name.ensures, c.quoted.ensures, append_assoc))
+    (simp (c.protocol_name.ensures, c.from_quoted.ensures, append_assoc))

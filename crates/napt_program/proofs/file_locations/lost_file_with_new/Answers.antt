@@ -1,6 +1,6 @@
--- lost_beside: an output that is lost is one that is named.
+-- lost_file_with_new: an output that would be lost is one that the options name.
 use Rattle.napt_program.proofs.PlaceLemmas.{lost_is_named}
 use Rattle.napt_program.proofs.file_locations.lost_file_with_new.Goals as goal
 
 pub returns : goal.returns
-returns g c = lost_is_named c.args.options.now _ _ c.places_of.ensures c.output_named_again.ensures.named
+returns g c = lost_is_named c.args.options.now _ _ c.locations_of.ensures c.output_named_again.ensures.named

@@ -15,7 +15,7 @@ returns-in-Ok-clause-ok c =
     (taken_line c.args.takes_log (app_of c.in_ok-command.command) _ c.in-Ok.matches c.in_ok-command.ensures
     c.in-Ok.ensures.matches c.in-Ok.ensures.kinds ∙ ap (line_by []) read ∙ used_line line used
     ∙ ap (λ s. files (with_log c.in_ok-files-in-Ok.files (option_map string_bytes c.in_ok-log-in-Ok.log) s))
-    (sym (c.above_zero.ensures.same (some_second line used))))
+    (sym (c.non_zero.ensures.same (some_second line used))))
 
 pub returns-then-is_misused-clause-usage : goal.returns-then-is_misused-clause-usage
 returns-then-is_misused-clause-usage c _ =

@@ -7,10 +7,10 @@ pub returns-in_ok-insert : goal.returns-in_ok-insert
 returns-in_ok-insert c = λ asked entries keeps some.
     let found = found_open _ _ (sym (keeps.unended c.args.number) ∙ sym c.in-Some.ensures.value) in
     closed_told asked _ _ _ entries c.args.number c.args.end _ found.0 c.remove.ensures.updates.0 _ _ keeps
-    (sym (c.has.ensures ∙ keeps.wanted _) ∙ c.if-has.true) c.in_ok-insert.ensures.updates.0
+    (sym (c.contains.ensures ∙ keeps.wanted _) ∙ c.if-contains.true) c.in_ok-insert.ensures.updates.0
 
-pub returns-else-has : goal.returns-else-has
-returns-else-has c = λ asked entries keeps some.
+pub returns-else-contains : goal.returns-else-contains
+returns-else-contains c = λ asked entries keeps some.
     let found = found_open _ _ (sym (keeps.unended c.args.number) ∙ sym c.in-Some.ensures.value) in
     closed_untold asked _ _ _ entries c.args.number c.args.end _ found.0 c.remove.ensures.updates.0 _ keeps found.1
-    (sym (c.has.ensures ∙ keeps.wanted _) ∙ c.if-has.false)
+    (sym (c.contains.ensures ∙ keeps.wanted _) ∙ c.if-contains.false)

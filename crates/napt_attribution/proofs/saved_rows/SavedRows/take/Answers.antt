@@ -1,27 +1,29 @@
 -- take: after a row the entries are those of the log up to it, and a row of no log is refused.
 use Rattle.std.proofs.Common.{◌≡◌, ◌≤◌, ◌∷◌, ◌++◌, [], refl, sym, ap, subst, arith, rules}
 use Rattle.napt_log_text.specs.declared.{event.LogEvent.{LogEvent, TheVariants.{Ended, Living, Made, Refused}}, log_row.LogField.TheVariants.{Empty, Number}}
-use Rattle.napt_attribution.specs.{SavedLogs.{Follows, Tells, entries_in}, declared.saved_rows.SavedRows.SavedRows}
+use Rattle.napt_attribution.specs.{SavedLogs.{Follows, RowsTrackEvents, entries_in}, declared.saved_rows.SavedRows.SavedRows}
 use Rattle.napt_attribution.proofs.SavedRows.{only_ended, only_living, only_made, only_refused, told_same}
 use Rattle.napt_attribution.proofs.saved_rows.SavedRows.take.Goals as goal
-use Rattle.napt_attribution.proofs.saved_rows.SavedRows.take.Goals.{in-Number-eq9+in_ok-end-in-Number-eq9, in-Number+in-Number+in_ok-other-in-Number, in-Empty+in_ok-live_on-in-Empty}
+use Rattle.napt_attribution.proofs.saved_rows.SavedRows.take.Goals.{in-Number-eq9+in_ok-end-in-Number-eq9, in-Number+in-Number+in_ok-time_of_other-in-Number, in-Empty+in_ok-add_living-in-Empty}
 
 pub returns-in-Number-eq8 : goal.returns-in-Number-eq8
 returns-in-Number-eq8 c = λ asked events event tells is.
     let at : c.args.row.now.event ≡ Number 8 = search rules in
-    only_made c.args.row.now (λ e. Follows (entries_in events) e × Tells asked c.make.new.self (events ++ e ∷ [])) at
+    only_made c.args.row.now
+    (λ e. Follows (entries_in events) e × RowsTrackEvents asked c.add_made.new.self (events ++ e ∷ [])) at
     (λ l same. c.in_ok-binding-in-Number-eq8.ensures asked events l tells same) event is
 
 pub returns : goal.returns
 returns c = λ asked events event tells is.
-    let P = λ (s : SavedRows) (e : LogEvent). Follows (entries_in events) e × Tells asked s (events ++ e ∷ []) in
+    let P = λ (s : SavedRows) (e : LogEvent). Follows (entries_in events) e
+    × RowsTrackEvents asked s (events ++ e ∷ []) in
     elim c.match-row.branch as (λ _. P c.match-row.self event) [
       | in-Number-eq9+in_ok-end-in-Number-eq9 w ↦
           let at : c.args.row.now.event ≡ Number 9 = search rules in
           subst (λ (s : SavedRows). P s event) (sym w.self-is)
           (only_ended c.args.row.now (P w.end.new.self) at
           (λ l same. w.in_ok-end-in-Number-eq9.ensures asked events l tells same) event is)
-      | in-Number+in-Number+in_ok-other-in-Number w ↦
+      | in-Number+in-Number+in_ok-time_of_other-in-Number w ↦
           let refusal = w.is_refusal.ensures w.if-is_refusal.true in
           let least : 10 ≤ w.in-Number.event = omega (arith, refusal) in
           only_refused c.args.row.now (P c.match-row.self) w.in-Number.event w.in-Number.is least
@@ -31,8 +33,8 @@ returns c = λ asked events event tells is.
                 (ap (λ (r : SavedRows). r.kept) w.self-is) (ap (λ (r : SavedRows). r.made) w.self-is)
                 (ap (λ (r : SavedRows). r.unrepeated) w.self-is),
           )) event is
-      | in-Empty+in_ok-live_on-in-Empty w ↦
+      | in-Empty+in_ok-add_living-in-Empty w ↦
           subst (λ (s : SavedRows). P s event) (sym w.self-is)
-          (only_living c.args.row.now (P w.live_on.new.self) w.in-Empty.is
-          (λ l same. w.in_ok-live_on-in-Empty.ensures asked events l tells same) event is)
+          (only_living c.args.row.now (P w.add_living.new.self) w.in-Empty.is
+          (λ l same. w.in_ok-add_living-in-Empty.ensures asked events l tells same) event is)
     ]

@@ -18,4 +18,4 @@ returns c =
       c.in_ok-add_number.ensures,
       c.in_ok-push_str.ensures.bytes,
     )
-    (simp (c.left.ensures, append_assoc) (rw (← c.input.view_is)))
+    (simp (c.packet_sent.ensures, append_assoc) (rw (← c.input.view_is)))

@@ -7,4 +7,4 @@ pub returns : goal.returns
 unfolding seconds_text
 returns c =
     rw (c.in_ok-add_padded.ensures, c.in_ok-push_str-2.ensures.bytes, c.in_ok-push_str.ensures.bytes)
-    (simp (c.format.ensures.text, c.seconds.ensures, c.rest.ensures, append_assoc))
+    (simp (c.format.ensures.text, c.seconds.ensures, c.subsec_nanos.ensures, append_assoc))

@@ -1,7 +1,7 @@
--- of: the sets have the addresses and the endpoints that the requests name, and no others.
+-- from_requests: the sets have the addresses and the endpoints that the requests name, and no others.
 use Rattle.std.proofs.Common.{Some, None, arith}
 use Rattle.napt_attribution.proofs.RequestParties.{all_named, one_more}
-use Rattle.napt_attribution.proofs.wanted_endpoints.WantedEndpoints.of.Goals as goal
+use Rattle.napt_attribution.proofs.wanted_endpoints.WantedEndpoints.from_requests.Goals as goal
 
 pub loop-one-preserved : goal.loop-one-preserved
 loop-one-preserved c = λ address number. one_more c.args.asked.now c.loop-one.one-index _ (omega arith) _ _ address

@@ -1,7 +1,7 @@
--- after: the first day of the month is after the start by the days that are no longer left.
+-- from_year: the first day of the month is after the start by the days that are no longer left.
 use Rattle.std.proofs.Common.{ℕ, ◌≡◌, ◌+◌, ◌-◌, ◌≤◌}
 use Rattle.napt_log_text.specs.Calendar as calendar
-use Rattle.napt_log_text.proofs.date.Date.after.Given as goal
+use Rattle.napt_log_text.proofs.date.Date.from_year.Given as goal
 
 abbrev pub invariant-loop-left : goal.invariant-loop-left
 invariant-loop-left l = record {

@@ -1,8 +1,8 @@
--- on: the year does not begin after the day, and the days since its beginning lead to the day.
+-- from_days: the year does not begin after the day, and the days since its beginning lead to the day.
 use Rattle.std.proofs.Common.{ℕ, ◌≡◌, ◌+◌, ◌-◌, ◌*◌, ◌≤◌, ◌/◌, ◌∙◌, ap, sym, subst, arith}
 use Rattle.napt_log_text.specs.Calendar as calendar
 use Rattle.napt_log_text.proofs.Days.{new_years_day, no_longer}
-use Rattle.napt_log_text.proofs.date.Date.on.Goals as goal
+use Rattle.napt_log_text.proofs.date.Date.from_days.Goals as goal
 
 pub returns : goal.returns
 returns c =
@@ -14,4 +14,4 @@ returns c =
     let begins : calendar.date_on c.days_before.result ≡ calendar.first_of_month (1970 + years) 1 =
     subst (λ (n : ℕ). calendar.date_on n ≡ calendar.first_of_month (1970 + years) 1) (sym is)
     (new_years_day years) in
-    c.after.ensures c.days_before.result begins ∙ ap calendar.date_on same
+    c.from_year.ensures c.days_before.result begins ∙ ap calendar.date_on same

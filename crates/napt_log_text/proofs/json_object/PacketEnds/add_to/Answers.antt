@@ -2,7 +2,7 @@
 use Rattle.std.proofs.Common.{◌≡◌, ◌++◌, codes, string_bytes, append_assoc}
 use Rattle.napt_config.specs.Text.{address_text}
 use Rattle.napt_log_text.{specs.Objects.{end_members, quoted}, proofs.Quoted.quoted_between}
-use Rattle.napt_log_text.proofs.json_object.Ends.add_to.Goals as goal
+use Rattle.napt_log_text.proofs.json_object.PacketEnds.add_to.Goals as goal
 
 pub returns : goal.returns
 unfolding end_members

@@ -4,7 +4,7 @@ use Rattle.std.proofs.Common.{◌≡◌, ℕ, ◌-◌, ◌^◌, ◌<◌, List, [
 use Rattle.napt_capture.specs.{Text.{entry_of_packet, record_text}, declared.{device.Sink.Ghosts, fault.WriteFault.WriteFault}}
 use Rattle.napt_rules.specs.declared.Outcome.{Outcome, TheVariants.{ToOutside, ToInside}}
 use Rattle.napt_records.specs.{Counts.AreCountsOf, Output.IsTime, declared.{report.OutcomeCounts.OutcomeCounts, Which.TheVariants.{Outside, Inside}}}
-use Rattle.napt_run.specs.{Outputs.{OutputGrows, Breaks}, OutputSinks.{AreTimes, SinkTakes, SinkFails, named}, declared.{output.Output.Output, output_sinks.Leaving.Leaving}}
+use Rattle.napt_run.specs.{Outputs.{OutputGrows, Breaks}, OutputSinks.{AreTimes, SinkTakes, SinkFails, named}, declared.{output.Output.Output, output_sinks.OutcomeWriter.OutcomeWriter}}
 
 time_of_one : (time : ℕ) (outcome : Outcome) → AreTimes ((time, outcome) ∷ []) → IsTime time
 time_of_one time outcome all = All-head (λ timed. IsTime timed.0) (time, outcome) [] all
@@ -26,7 +26,7 @@ module _ {W : Type 0} {S : Ghosts W} (old new : Output W S) where
   breaks_one : (text : List ℕ) (fault : WriteFault) → Breaks old text fault new → Breaks old (text ++ []) fault new
   breaks_one text fault p = subst (λ (l : List ℕ). Breaks old l fault new) (sym (append-nil text)) p
 
-module _ {W V : Type 0} {S : Ghosts W} {T : Ghosts V} (time : ℕ) (packet : List ℕ) (old : Leaving W V S T) where
+module _ {W V : Type 0} {S : Ghosts W} {T : Ghosts V} (time : ℕ) (packet : List ℕ) (old : OutcomeWriter W V S T) where
   -- A packet to the outside.
   pub leaves_outside : (output : Output W S) (counts : OutcomeCounts) (r : Result (Unit {0}) WriteFault) →
       (IsTime time → OnOk r (OutputGrows old.to_outside (record_text (entry_of_packet time packet)) output)) →

@@ -3,7 +3,7 @@ use Rattle.std.{proofs.{Common.{◌≡◌, ◌<◌, ◌≤◌, ◌^◌, ◌++◌
 use Rattle.std.specs.Io.KnownBytes.{Appends}
 use Rattle.napt_capture.specs.Writing.{PutErr}
 use Rattle.napt_run.proofs.Pieces.{last_fails, more_fails, room_for_last, room_for_more}
-use Rattle.napt_run.proofs.kept_texts.KeptTexts.write_to.Goals as goal
+use Rattle.napt_run.proofs.buffered_text.BufferedText.write_to.Goals as goal
 
 pub write_piece-requires : goal.write_piece-requires
 write_piece-requires g c =

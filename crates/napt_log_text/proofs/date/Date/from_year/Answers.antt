@@ -1,7 +1,7 @@
--- after: going on month by month leads to the day of the definition.
+-- from_year: going on month by month leads to the day of the definition.
 use Rattle.std.proofs.{lemmas.{Grind.common_steps, Bool.Decides.nat_tests}, Common.{sym, arith}}
 use Rattle.napt_log_text.proofs.Days.{lasts, to_month, to_year, left_over}
-use Rattle.napt_log_text.proofs.date.Date.after.Goals as goal
+use Rattle.napt_log_text.proofs.date.Date.from_year.Goals as goal
 
 pub loop-left-preserved-then-month-lt12 : goal.loop-left-preserved-then-month-lt12
 loop-left-preserved-then-month-lt12 c = grind (arith, common_steps, nat_tests, to_month)

@@ -1,7 +1,7 @@
 -- write_to: the pieces so far have been written, and no write failed.
 use Rattle.std.proofs.Common.{◌≡◌, flat_map, take}
 use Rattle.napt_capture.specs.Writing.{PutOk}
-use Rattle.napt_run.proofs.kept_texts.KeptTexts.write_to.Given as goal
+use Rattle.napt_run.proofs.buffered_text.BufferedText.write_to.Given as goal
 
 abbrev pub invariant-loop-piece : goal.invariant-loop-piece
 invariant-loop-piece g l =

@@ -1,6 +1,6 @@
 -- write: the packet becomes a record of the output on its side, and the outcome is counted.
-use Rattle.napt_run.proofs.Leaves.{leaves_inside, leaves_outside}
-use Rattle.napt_run.proofs.output_sinks.Leaving.write.Goals as goal
+use Rattle.napt_run.proofs.OutcomeWrites.{leaves_inside, leaves_outside}
+use Rattle.napt_run.proofs.output_sinks.OutcomeWriter.write.Goals as goal
 
 pub returns-in-ToOutside-clause-takes : goal.returns-in-ToOutside-clause-takes
 returns-in-ToOutside-clause-takes g c =

@@ -13,7 +13,7 @@ const PIECE: usize = 65_536;
 
 /// Bytes in memory, in the order in which they were written. They are in pieces, so that none is moved when more come.
 #[derive(Drop)]
-pub(crate) struct KeptTexts {
+pub(crate) struct BufferedText {
     alloc: Global,
     full: Vec<Vec<u8>>,
     /// The piece that is not full yet.
@@ -22,7 +22,7 @@ pub(crate) struct KeptTexts {
     total: u64,
 }
 
-impl Model for KeptTexts {
+impl Model for BufferedText {
     ghost use Rattle.std.specs.Prelude.{◌≡◌, ◌^◌, ◌<◌, ◌++◌, List, ℕ, flat_map, length};
 
     ghost Value = { List ℕ };
@@ -63,12 +63,12 @@ fn write_piece<W: Sink>(device: &mut W, before: u64, piece: &[u8]) -> Result<u64
     }
 }
 
-impl KeptTexts {
+impl BufferedText {
     /// Returns no bytes. Fails only if memory is refused.
-    pub(crate) fn new(alloc: Global) -> Result<KeptTexts, AllocError>
+    pub(crate) fn new(alloc: Global) -> Result<BufferedText, AllocError>
         ensures { IfOk result (λ kept. kept ≡ []) }
     {
-        Ok(KeptTexts {
+        Ok(BufferedText {
             alloc,
             full: Vec::new(alloc),
             last: Vec::with_capacity(alloc, PIECE)?,
@@ -96,7 +96,7 @@ impl KeptTexts {
     }
 }
 
-impl Write for KeptTexts {
+impl Write for BufferedText {
     ghost use Rattle.std.specs.Prelude.{Some};
 
     ghost contents = { λ kept. Some kept };

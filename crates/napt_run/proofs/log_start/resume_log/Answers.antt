@@ -1,7 +1,7 @@
--- take_up: the log is that of the state, and its text begins as the definition says.
+-- resume_log: the log is that of the state, and its text begins as the definition says.
 use Rattle.std.proofs.Common.{◌∙◌}
 use Rattle.napt_log_text.specs.Logs.{LogOrigin, first_text}
-use Rattle.napt_run.proofs.log_start.take_up.Goals as goal
+use Rattle.napt_run.proofs.log_start.resume_log.Goals as goal
 
 pub returns : goal.returns
 returns c =

@@ -1,7 +1,7 @@
--- contents: the file of the state gets the state that the run left, with what is kept of its log.
+-- saved_contents: the file of the state gets the state that the run left, with what is kept of its log.
 use Rattle.std.proofs.Common.{◌≡◌, Some, IfSome, subst}
 use Rattle.napt_rules.specs.Prelude.{IsStateInOrder}
-use Rattle.stream.proofs.stream_run.contents.Goals as goal
+use Rattle.stream.proofs.stream_run.saved_contents.Goals as goal
 
 pub returns-clause-left : goal.returns-clause-left
 returns-clause-left c left order = record {
