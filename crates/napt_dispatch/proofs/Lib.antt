@@ -7,5 +7,5 @@ pub mod WorkerOffers
 pub mod Passing
 pub mod QueueStates
 pub mod RunsThrough
-pub mod Standing
+pub mod InvariantSteps
 pub mod Windows

@@ -11,7 +11,7 @@ use Rattle.napt_laws.{specs.SecondLegs.second_legs, proofs.OneMoreInput.clock_mo
 use Rattle.napt_dispatch.specs.{declared.{dispatcher.Dispatcher.Dispatcher, outcome_sink.InputResult.InputResult}, Dispatch.of_worker}
 use Rattle.napt_dispatch.specs.RunProgresses.{RunProgressModel, OutcomesAreHandedOver, times_in, progress_in, progress_expecting, NoneBehind, whole_of}
 use Rattle.napt_dispatch.specs.DispatcherInvariants.{journal_of, dispatcher_state, IsSizedFor, DispatcherInvariant, DispatcherContinues, ContinuesOr, DispatcherHalts, Admits, DispatcherHasRoom, DispatcherIsDone}
-use Rattle.napt_dispatch.proofs.{QueueStates.held_none, Lanes.{grows_none, grows_both, halts_after}, Standing.known_stands}
+use Rattle.napt_dispatch.proofs.{QueueStates.held_none, Lanes.{grows_none, grows_both, halts_after}, InvariantSteps.known_stands}
 use Rattle.napt_dispatch.{proofs.Windows.{known_push, times_long, expecting_times, expecting_progress}, specs.declared.faults.DispatchFault.DispatchFault}
 use Rattle.napt_dispatch.specs.declared.dispatcher.{reading.EndOfInputs.EndOfInputs, progress.InputProgress.TheVariants.Awaited}
 use Rattle.napt_dispatch.specs.RunsThrough.{DeparturesFail, DispatcherGoesOn, OutcomesLeave, RunThroughHalts, HaltsAt, ReadInputPost, ReadInputsPost, HasCome, ReadsToEnd, ReadsHalted}

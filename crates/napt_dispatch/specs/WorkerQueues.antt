@@ -32,8 +32,8 @@ abbrev pub held_legs_count : WorkerQueueModel → ℕ
 held_legs_count q = length q.ready + length q.held
 
 -- The number of legs that are not answered yet, and the number of entries held, over all workers.
-abbrev pub many_owed : List WorkerQueueModel → ℕ
-many_owed queues = sum_by (λ q. length q.owed) queues
+abbrev pub owed_count : List WorkerQueueModel → ℕ
+owed_count queues = sum_by (λ q. length q.owed) queues
 
 abbrev pub many_held : List WorkerQueueModel → ℕ
 many_held queues = sum_by held_legs_count queues

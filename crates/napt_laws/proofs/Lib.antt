@@ -23,7 +23,7 @@ pub mod StepsLive
 pub mod StepsSound
 pub mod StepsQuota
 pub mod StepsAlike
-pub mod Accounts
+pub mod HoldTimes
 pub mod RowNumbers
 pub mod OpeningList
 pub mod Orders

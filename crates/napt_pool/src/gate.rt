@@ -32,7 +32,7 @@ impl Gate for OpenGate {
 }
 
 /// Asks until the gate is open, or has refused as often as it may.
-pub(crate) fn is_let_in<G: Gate>(gate: &G, worker: u32, turn: u64) -> bool
+pub(crate) fn enter_gate<G: Gate>(gate: &G, worker: u32, turn: u64) -> bool
     ensures { G.is_open ≡ true → IsTrue result }
 {
     for _ in 0..MOST_ASKS {

@@ -7,7 +7,7 @@ use Rattle.napt_rules.specs.{Prelude.{Binding, State, Timers, Protocol, Icmp, Tc
 use Rattle.napt_binding.specs.Ends.{end_by_protocol, is_before}
 use Rattle.napt_account.specs.declared.account.Account.{Account}
 use Rattle.napt_account.specs.{LogStarts.{SavedLogStateModel, accounted, are_accounts, are_apart, has_redirect, is_account, is_saved_log_state, resumed_entry, with_account}, LogParts.is_open, OpenEntries.{entry_key, external_eq}}
-use Rattle.napt_state.proofs.{Standing.{going_on, dynamic_going}, Taken.drop_before}
+use Rattle.napt_state.proofs.{StandingBindings.{going_on, dynamic_going}, TakenBindings.drop_before}
 use Rattle.napt_state.specs.EndedMisfits.{EndsMisfits, IsLate, before_fitting, misfits_in, ended_misfits, fitting, fitting_in, given_up, given_up_if, goes_on, one_if, why_ended, without_misfits}
 
 -- ONE MORE BINDING

@@ -1,10 +1,10 @@
 pub mod Accounting
-pub mod Arms
+pub mod FirstWords
 pub mod Ended
 pub mod Lines
 pub mod Reading
 pub mod Replay
-pub mod Standing
-pub mod Taken
+pub mod StandingBindings
+pub mod TakenBindings
 pub mod TakenUp
 pub mod Written

@@ -154,7 +154,7 @@ impl<R: BufRead + Drop> SavedState<R> {
         ensures read { counts ≡ texts.counts_of saved.now → HasAccounts saved.now →
             R.remaining self.old.reader ≡ Some [] → said.StateUnlessUnread result (IsOk result) }
     {
-        if counts != LineCounts::of(saved)? {
+        if counts != LineCounts::from_contents(saved)? {
             return Err(StateReason::Counts);
         }
         if !has_accounts(self.alloc, saved)? {

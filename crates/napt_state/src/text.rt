@@ -81,7 +81,7 @@ pub fn write_state<W: Write>(
     for binding in &saved.bindings {
         push_binding(writer, &mut line, binding)?;
     }
-    let counts = LineCounts::of(saved)?;
+    let counts = LineCounts::from_contents(saved)?;
     put_line(writer, &mut line, &StateLine::End(counts))?;
     writer.flush()
 }

@@ -4,7 +4,7 @@ ghost use Rattle.std.specs.Prelude.{◌≡◌, ◌≤◌, ◌==◌, [], ◌∷�
 ghost use Rattle.napt_wire.specs.{Checksum.{canon, canon_udp, is_right}, Bytes.words, Rewriting.{address_words, end_words}};
 
 use crate::Endpoint;
-use crate::bytes::{read_long, read_word};
+use crate::bytes::{read_u16, read_u32};
 
 /// Returns the checksum after a 16-bit word that it covers changes from `old` to `new`, all in host
 /// order. The result is never 0xFFFF: where RFC 1624 equation 3 gives 0xFFFF, this returns 0, which
@@ -78,11 +78,11 @@ pub(crate) fn is_right(bytes: &[u8]) -> bool
     let mut sum = 0u64;
     let mut rest = bytes;
     while let [_, _, _, _, tail @ ..] = rest {
-        sum += u64::from(read_long(rest, 0));
+        sum += u64::from(read_u32(rest, 0));
         rest = tail;
     }
     if let [_, _, tail @ ..] = rest {
-        sum += u64::from(read_word(rest, 0));
+        sum += u64::from(read_u16(rest, 0));
         rest = tail;
     }
     if let [last] = rest {

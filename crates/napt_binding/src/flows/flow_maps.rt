@@ -137,7 +137,7 @@ impl FlowMaps {
         ensures none { result ≡ false → standing_flows self.new.slots.slots
             ≡ filter (life.is_live_flow timers now) (standing_flows self.old.slots.slots) }
     {
-        let Some(place) = self.slots.dead_place(timers, now) else {
+        let Some(place) = self.slots.expired_place(timers, now) else {
             return false;
         };
         self.remove(place);

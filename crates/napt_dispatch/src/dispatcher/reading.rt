@@ -82,7 +82,7 @@ impl<P: LegTrace> Dispatcher<P> {
 
     /// Makes room for one more input. Before a device is read, writes and flushes every outcome.
     #[inline(always)]
-    fn make_ready<R: Wait, G: Gate, D: OutcomeSink<Told = P>>(
+    fn make_ready<R: Wait, G: Gate, D: OutcomeSink<Trace = P>>(
         &mut self,
         rt: &R,
         pool: &mut Pool<Worker<P>, G>,
@@ -108,7 +108,7 @@ impl<P: LegTrace> Dispatcher<P> {
     /// Returns the next input, which may use a pooled buffer. A device is read only if every
     /// outcome has been written and flushed; `_departures` is passed for that clause alone.
     #[inline(always)]
-    fn next_input<A: InputSource, D: OutcomeSink<Told = P>>(
+    fn next_input<A: InputSource, D: OutcomeSink<Trace = P>>(
         &mut self,
         arrivals: &mut A,
         _departures: &D,
@@ -123,7 +123,7 @@ impl<P: LegTrace> Dispatcher<P> {
     }
 
     /// Reads the inputs until their end or a fault and takes answers in between. Moves their bytes.
-    fn read_all<R: Wait, G: Gate, A: InputSource, D: OutcomeSink<Told = P>>(
+    fn read_all<R: Wait, G: Gate, A: InputSource, D: OutcomeSink<Trace = P>>(
         &mut self,
         rt: &R,
         pool: &mut Pool<Worker<P>, G>,
@@ -156,7 +156,7 @@ impl<P: LegTrace> Dispatcher<P> {
     }
 
     /// Reads the inputs until their end or a fault, and writes and flushes every outcome.
-    pub(super) fn pass_all<R: Wait, G: Gate, A: InputSource, D: OutcomeSink<Told = P>>(
+    pub(super) fn pass_all<R: Wait, G: Gate, A: InputSource, D: OutcomeSink<Trace = P>>(
         &mut self,
         rt: &R,
         pool: &mut Pool<Worker<P>, G>,

@@ -254,7 +254,7 @@ impl<P: LegTrace> RunProgress<P> {
     }
 
     /// Writes the results of the first open inputs, up to the first that may not leave yet.
-    pub(crate) fn hand_over<D: OutcomeSink<Told = P>>(
+    pub(crate) fn hand_over<D: OutcomeSink<Trace = P>>(
         &mut self,
         departures: &mut D,
     ) -> Result<(), D::Fault>

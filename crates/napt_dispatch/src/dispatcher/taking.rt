@@ -2,7 +2,7 @@
 
 ghost use Rattle.std.specs.Prelude.{◌≡◌, ◌↔◌, ◌+◌, ◌⊎◌, ◌^◌, ◌<◌, [], length, true, IfOk, IfSome, OnOk};
 ghost use Rattle.napt_pool.specs.Pools.{initial_machines};
-ghost use Rattle.napt_dispatch.specs.{RunsThrough.LetsGoUnlessFault, WorkerQueues.many_owed};
+ghost use Rattle.napt_dispatch.specs.{RunsThrough.LetsGoUnlessFault, WorkerQueues.owed_count};
 ghost use Rattle.napt_dispatch.specs.DispatcherInvariants.{IsSizedFor, ContinuesOr, NoteAnswersPost, HasTaken, HasOffered, HasOfferedAll, DispatcherHasRoom, HasReached, DispatcherIsDone};
 
 use crate::Worker;
@@ -33,8 +33,8 @@ impl<P: LegTrace> Dispatcher<P> {
         requires { w < length self.old.queues }
         ensures many { OnOk result (length self.new.queues ≡ length self.old.queues) }
         ensures noted { OnOk result (NoteAnswersPost P.tells w answers.old.items self.old self.new) }
-        ensures fewer { OnOk result (many_owed self.new.queues + length answers.old.items
-            ≡ many_owed self.old.queues) }
+        ensures fewer { OnOk result (owed_count self.new.queues + length answers.old.items
+            ≡ owed_count self.old.queues) }
     {
         for answer in answers.drain(..) {
             self.note(w, answer)?;
@@ -97,7 +97,7 @@ impl<P: LegTrace> Dispatcher<P> {
         ensures state { ContinuesOr P.tells G.is_open pool.old self.old pool.new self.new result }
         ensures told { IfOk result (HasTaken self.old self.new) }
     {
-        let many = self.queues.many_owed(w);
+        let many = self.queues.owed_count(w);
         let mut any = false;
         for _ in 0..many {
             if !self.take_reply(rt, pool, w)? {
@@ -170,7 +170,7 @@ impl<P: LegTrace> Dispatcher<P> {
     }
 
     /// Writes the outcomes of the first inputs, up to one not ready. Only the contract uses `pool`.
-    fn hand_over<G: Gate, D: OutcomeSink<Told = P>>(
+    fn hand_over<G: Gate, D: OutcomeSink<Trace = P>>(
         &mut self,
         pool: &Pool<Worker<P>, G>,
         departures: &mut D,
@@ -203,7 +203,7 @@ impl<P: LegTrace> Dispatcher<P> {
     }
 
     /// Takes answers, offers legs and writes outcomes until a stop condition holds.
-    pub(super) fn advance_until<R: Wait, G: Gate, D: OutcomeSink<Told = P>>(
+    pub(super) fn advance_until<R: Wait, G: Gate, D: OutcomeSink<Trace = P>>(
         &mut self,
         rt: &R,
         pool: &mut Pool<Worker<P>, G>,
@@ -226,7 +226,7 @@ impl<P: LegTrace> Dispatcher<P> {
     }
 
     /// Continues until every outcome has been written, and flushes the sink.
-    pub(super) fn settle<R: Wait, G: Gate, D: OutcomeSink<Told = P>>(
+    pub(super) fn settle<R: Wait, G: Gate, D: OutcomeSink<Trace = P>>(
         &mut self,
         rt: &R,
         pool: &mut Pool<Worker<P>, G>,

@@ -111,11 +111,11 @@ impl WorkerQueues {
     }
 
     /// Returns the number of legs of the next message of worker `w`.
-    pub(crate) fn many_ready(&self, w: u32) -> usize
+    pub(crate) fn ready_count(&self, w: u32) -> usize
         requires { w < length self.now }
         ensures { result ≡ length (queue_of self.now w).ready }
     {
-        self.queues[w as usize].many_ready()
+        self.queues[w as usize].ready_count()
     }
 
     /// Removes and returns the first `count` legs of worker `w`'s next message, and records them as
@@ -170,11 +170,11 @@ impl WorkerQueues {
     }
 
     /// Returns the number of legs that worker `w` has not answered yet.
-    pub(crate) fn many_owed(&self, w: u32) -> usize
+    pub(crate) fn owed_count(&self, w: u32) -> usize
         requires { w < length self.now }
         ensures { result ≡ length (queue_of self.now w).owed }
     {
-        self.queues[w as usize].many_owed()
+        self.queues[w as usize].owed_count()
     }
 
     /// Returns whether every worker has answered every leg offered to it.
@@ -197,7 +197,7 @@ fn none_owed(queues: &[WorkerQueue]) -> bool
     ensures { (result ≡ true) ↔ ((w : ℕ) → (queue_of queues.now w).owed ≡ []) }
 {
     for queue in queues {
-        if queue.many_owed() > 0 {
+        if queue.owed_count() > 0 {
             return false;
         }
     }

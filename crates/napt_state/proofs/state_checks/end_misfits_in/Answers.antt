@@ -3,7 +3,7 @@ use Rattle.std.proofs.Common.{◌≡◌, ◌∙◌, ◌+◌, ℕ, List, [], Opti
 use Rattle.std.proofs.Math.ListN.{drop_of_length-le}
 use Rattle.napt_rules.specs.{Bindings.Binding, Life.hold_ago, declared.Misfit.Misfit}
 use Rattle.napt_state.specs.{EndedMisfits.{misfits_in, ended_misfits, fitting_in, given_up_if, goes_on, one_if}, StateReaders.AreOf}
-use Rattle.napt_state.proofs.{Ended.{back_after, counted, fits_if_away, fits_if_on, fits_if_some, front_after, live, long_after, many_after, none_found, taken_out, value_of, why}, Taken.are_more}
+use Rattle.napt_state.proofs.{Ended.{back_after, counted, fits_if_away, fits_if_on, fits_if_some, front_after, live, long_after, many_after, none_found, taken_out, value_of, why}, TakenBindings.are_more}
 use Rattle.napt_state.proofs.state_checks.end_misfits_in.Goals as goal
 
 pub loop-left-init : goal.loop-left-init

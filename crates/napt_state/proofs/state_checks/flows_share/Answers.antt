@@ -3,7 +3,7 @@ use Rattle.std.proofs.Common.{◌≡◌, ◌∙◌, ℕ, drop, sym, ap, subst, a
 use Rattle.napt_rules.specs.Misfits.{flows_share}
 use Rattle.napt_rules.specs.declared.Flow.{Flow}
 use Rattle.napt_state.specs.StateReaders.{AreRemotes}
-use Rattle.napt_state.proofs.{Taken.{told_true, told_false}, Standing.{standing, few_share, standing_live, first_falls, stands_share, stands_alone, stands_more}}
+use Rattle.napt_state.proofs.{TakenBindings.{told_true, told_false}, StandingBindings.{standing, few_share, standing_live, first_falls, stands_share, stands_alone, stands_more}}
 use Rattle.napt_state.proofs.state_checks.flows_share.Goals as goal
 
 pub returns-then-flows-lt2 : goal.returns-then-flows-lt2

@@ -1,7 +1,7 @@
--- write_word: two bytes written by std are the 16-bit number in the bytes.
+-- write_u16: two bytes written by std are the 16-bit number in the bytes.
 use Rattle.std.proofs.Common.{◌≡◌, ℕ, ◌+◌, ◌-◌, ◌≤◌, ◌/◌, ◌%◌, List, [], ◌∷◌, ◌++◌, length, take, drop, slice_set, arith, refl, sym, ◌∙◌, ap, append_assoc, length-drop}
 use Rattle.std.proofs.lemmas.List.{append-nil, drop-drop, drop-set-lt, drop_all, length-set, take-append-drop, take_all, take_more_set}
-use Rattle.napt_wire.proofs.bytes.write_word.Goals as goal
+use Rattle.napt_wire.proofs.bytes.write_u16.Goals as goal
 
 -- Writing two bytes at an offset is the same as setting each of them.
 put_two : (place rest high low : ℕ) (old new : List ℕ) → place + 2 ≤ length old → rest ≡ length old - place →

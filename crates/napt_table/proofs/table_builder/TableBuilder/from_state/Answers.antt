@@ -1,9 +1,9 @@
--- `resumed`: each binding of the state may be added, as the configuration takes the state.
+-- `from_state`: each binding of the state may be added, as the configuration takes the state.
 use Rattle.std.proofs.Common.{◌≡◌, ◌≤◌, ◌<◌, List, [], ◌∷◌, ◌++◌, map, length, get_or, sym, ◌∙◌, ap, subst}
 use Rattle.napt_config.specs.Rules.{Rules}
 use Rattle.napt_rules.specs.Prelude.{Binding, Each, AreFlowsOwn, State, row, AreBindingsApart}
 use Rattle.napt_table.{specs.{Beginnings.state_bindings_at, Tables.{TableModel}}, proofs.ResumedTables.{begun_to, next_apart, next_last, next_flows}}
-use Rattle.napt_table.proofs.table_builder.TableBuilder.resumed.Goals as goal
+use Rattle.napt_table.proofs.table_builder.TableBuilder.from_state.Goals as goal
 
 pub restore-requires-clause-apart : goal.restore-requires-clause-apart
 restore-requires-clause-apart c =

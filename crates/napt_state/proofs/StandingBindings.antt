@@ -8,7 +8,7 @@ use Rattle.napt_rules.specs.Prelude.{Binding, Protocol, Icmp, Tcp, Udp, Timers, 
 use Rattle.napt_rules.specs.{Life.{live_flows, is_live_by, is_recent}, FlowUpdates.is_flow_of, Misfits.is_used_after}
 use Rattle.napt_rules.proofs.{Life.idle_ticks, Lists.filter_all}
 use Rattle.napt_binding.specs.StandingFlows.{is_standing}
-use Rattle.napt_state.proofs.Taken.{drop_before, loose_is, cond_or}
+use Rattle.napt_state.proofs.TakenBindings.{drop_before, loose_is, cond_or}
 use Rattle.napt_state.specs.{StateReaders.AreRemotes, Saved.{timer_of, one_flow, binding_until, taken_binding, taken_if}}
 use Rattle.napt_state.specs.declared.saved_bindings.SavedBinding.TheVariants as bindings
 use Rattle.napt_binding.specs.Ends.{end_after, last_end}
