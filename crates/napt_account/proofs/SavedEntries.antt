@@ -3,7 +3,7 @@ use Rattle.std.proofs.lemmas.{Grind.common_steps, Bool.Decides.nat_tests}
 use Rattle.std.proofs.Common.{◌≡◌, ℕ, ◌+◌, ◌<◌, ◌≤◌, inl, inr, true, false, cond, List, [], ◌∷◌, ◌++◌, length, map, take, get_or, Option, Some, None, refl, sym, ◌∙◌, ap, subst, arith}
 use Rattle.std.{specs.Prelude.filter, proofs.lemmas.{Bool.true≢false, List.{take_all, take_more}, Option.same_Some}}
 use Rattle.napt_rules.specs.Prelude.{Each}
-use Rattle.napt_account.specs.declared.{log.LogEntry.LogEntry, open_entries.{DueEntry.DueEntry, EntryKey.EntryKey, Open.Open, OpenEntries.OpenEntries}}
+use Rattle.napt_account.specs.declared.{log.LogEntry.LogEntry, open_entries.{DueEntry.DueEntry, EntryKey.EntryKey, OpenEntry.OpenEntry, OpenEntries.OpenEntries}}
 use Rattle.napt_account.specs.{Log.LogModel, LogParts.{IsNumbered, Rises, is_open, kept_at}}
 use Rattle.napt_account.specs.OpenEntries.{AreKeyed, Has, entry_key, external_eq, open_at, entry_at, is_queued, IsIndexed, IsIndexedBut, OpenEntriesShow}
 use Rattle.napt_account.proofs.{InOrder.{each_has, filter_has, has_left, has_parts}, Keyed.keyed_before}
@@ -49,7 +49,7 @@ module _ (ls : List LogEntry) (keyed : AreKeyed (map (λ l. l.entry.binding) ls)
         (sym is)
         (keyed_before (λ l. l.entry.binding) ls keyed k d below m h)
 
-    free : (o : Option Open) → open_at old key ≡ o → o ≡ None
+    free : (o : Option OpenEntry) → open_at old key ≡ o → o ≡ None
     free None at = refl
     free (Some o) at =
         let here = open_entry old key o at in

@@ -25,10 +25,13 @@ module _ (rules : Rules) (t : AreTimers rules.timers) (address : ℕ) (leg : Leg
 
     -- what is found of a packet that went through a binding
     through_found : (way : Way) (after : Option Binding) → IsThrough before after through → (end : End) →
-        passage_through way (is_made through) (option_map (timed_row rules.timers) after) ≡ said way (Some protocol) end through
+        passage_through way (is_made through) (option_map (timed_row rules.timers) after)
+        ≡ said way (Some protocol) end through
     through_found way after says end =
-        ap (λ (o : Option Binding). passage_through way (is_made through) (option_map (timed_row rules.timers) o)) says.binding
-        ∙ (ap (λ (t : Option BindingUse). passage_through way (is_made t) (Some (timed_row rules.timers says.went.binding))) says.is
+        ap (λ (o : Option Binding). passage_through way (is_made through) (option_map (timed_row rules.timers) o))
+        says.binding
+        ∙ (ap (λ (t : Option BindingUse). passage_through way (is_made t) (Some (timed_row rules.timers says.went.binding)))
+        says.is
         ∙ sym (ap (said way (Some protocol) end) says.is))
 
     gone : (place : Option ℕ) (packet : List ℕ) → (number : ℕ) →

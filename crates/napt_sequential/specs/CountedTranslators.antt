@@ -110,7 +110,8 @@ found_by timers now list address seen made (Some protocol) (ends.ToInside packet
 found_by timers now list address seen made (Some protocol) (ends.Dropped cause) =
     Dropped (record { protocol = protocol; host = seen.source.address; cause = cause })
 found_by timers now list address seen made (Some protocol) _ =
-    passage_through Outgoing made (option_map (timed_row timers) (by_inside timers address now protocol seen.source list))
+    passage_through Outgoing made
+    (option_map (timed_row timers) (by_inside timers address now protocol seen.source list))
 
 abbrev pub passage_seen : ℕ → PacketTuple → Bool → End → TranslatorModel → Passage
 passage_seen now seen made end state = found_by state.rules.timers (max now state.table.at) state.table.list

@@ -53,7 +53,7 @@ impl SavedBinding {
 impl StateFileContents {
     /// Returns what a run under a configuration saves: its state and, if it has a log, what the state keeps of the log
     /// and where the log's text ends. Takes linear time. Fails only if memory is refused.
-    pub fn of(
+    pub fn from_state(
         alloc: Global,
         config: &Config,
         state: State,

@@ -7,7 +7,7 @@ ghost use Rattle.napt_state.specs.EndedMisfits as ending;
 ghost use Rattle.napt_state.specs.StateReaders.{AreOf};
 
 use crate::endpoints::Endpoints;
-use crate::liveness::{is_live, stands};
+use crate::liveness::{is_live, is_standing};
 use napt_account::redirected;
 use napt_binding::IdleTimers;
 use napt_config::Config;
@@ -87,7 +87,7 @@ fn flows_share(
     while left > 0 {
         left -= 1;
         let flow = flows[left];
-        if stands(&flow, protocol, config, now) {
+        if is_standing(&flow, protocol, config, now) {
             let remote = flow.remote;
             if !remotes.insert((remote.address, remote.number))? {
                 return Ok(true);

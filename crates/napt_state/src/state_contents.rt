@@ -82,7 +82,7 @@ impl StateFileContents {
     /// entries end there. Otherwise returns the first one, and why, as it does of a clock that is no later than a timer and the
     /// hold. What does not go on need not fit: redirects, and what has gone at the clock. In linear time. Fails only if memory runs
     /// out.
-    pub fn take_up(
+    pub fn restore(
         self,
         alloc: Global,
         config: &Config,

@@ -10,13 +10,13 @@ ghost use Rattle.napt_wire.specs.Header.{IsHeader};
 use crate::bytes::{read_u16, read_u32};
 use crate::checksum::is_right;
 use crate::header::Header;
-use crate::packet::{Body, Quoted};
+use crate::packet::{Body, QuotedHeader};
 use crate::transport_form::TransportForm;
 use crate::{Cause, Flags, Side};
 
 /// The parts of a datagram that passed the checks.
 #[derive(Clone, Copy)]
-pub(crate) struct Found {
+pub(crate) struct DatagramParts {
     /// The total length of the datagram, in bytes.
     pub(crate) length: usize,
     /// The offset of its transport header.
@@ -25,7 +25,7 @@ pub(crate) struct Found {
 }
 
 /// Returns the parts of the datagram at the front, or the cause of the first check that fails.
-pub(crate) fn read_datagram(side: Side, bytes: &[u8]) -> Result<Found, Cause>
+pub(crate) fn read_datagram(side: Side, bytes: &[u8]) -> Result<DatagramParts, Cause>
     ensures ok { IfOk result (λ found. reading side bytes.now ≡ Ok (take found.length bytes.now)) }
     ensures length { IfOk result (λ found. found.length ≡ total_length 0 bytes.now) }
     ensures found { IfOk result (λ found.
@@ -36,7 +36,7 @@ pub(crate) fn read_datagram(side: Side, bytes: &[u8]) -> Result<Found, Cause>
     let datagram = &bytes[..length];
     let start = read_header(datagram)?;
     let body = read_body(side, datagram, start.into())?;
-    Ok(Found {
+    Ok(DatagramParts {
         length,
         start,
         body,
@@ -207,7 +207,7 @@ fn read_flags(bits: u8) -> Flags
 }
 
 /// Checks an ICMP error whose message begins at `start`, and returns what it quotes.
-fn read_quoted(side: Side, bytes: &[u8], start: usize) -> Result<Quoted, Cause>
+fn read_quoted(side: Side, bytes: &[u8], start: usize) -> Result<QuotedHeader, Cause>
     requires long { 20 ≤ start }
     requires there { start + 8 ≤ length bytes.now }
     requires small { length bytes.now ≤ 65535 }
@@ -225,7 +225,7 @@ fn read_quoted(side: Side, bytes: &[u8], start: usize) -> Result<Quoted, Cause>
     if has_zero_port(bytes, inner.start, inner.form) {
         return Err(Cause::BadPort);
     }
-    Ok(Quoted {
+    Ok(QuotedHeader {
         form: inner.form,
         start: inner.start as u16,
     })

@@ -125,7 +125,7 @@ impl FlowMaps {
     }
 
     /// Removes an expired TCP flow, and returns whether there was one.
-    fn drop_dead(&mut self, timers: IdleTimers, now: u64) -> bool
+    fn remove_expired(&mut self, timers: IdleTimers, now: u64) -> bool
         requires many { FlowMapsInvariant self.old }
         ensures many { FlowMapsInvariant self.new }
         ensures kept { filter (life.is_live_flow timers now) (standing_flows self.new.slots.slots)
@@ -153,7 +153,7 @@ impl FlowMaps {
         ensures room { FlowMapsHaveRoom self.old → FlowMapsHaveRoom self.new }
         ensures as_long { length self.new.slots.slots ≡ length self.old.slots.slots }
     {
-        while self.drop_dead(timers, now) {}
+        while self.remove_expired(timers, now) {}
     }
 
     /// Removes the flows that have expired at `now` (ns) if they are of TCP.

@@ -37,7 +37,7 @@ impl<P: LegTrace> Dispatcher<P> {
 
     /// Takes answers from a worker and offers it legs, if there is one.
     #[inline(always)]
-    fn look_if<R: Wait, G: Gate>(
+    fn take_and_offer_if_some<R: Wait, G: Gate>(
         &mut self,
         rt: &R,
         pool: &mut Pool<Worker<P>, G>,
@@ -49,7 +49,7 @@ impl<P: LegTrace> Dispatcher<P> {
     {
         match worker {
             None => Ok(()),
-            Some(w) => self.look_at(rt, pool, w),
+            Some(w) => self.take_and_offer(rt, pool, w),
         }
     }
 
@@ -74,9 +74,9 @@ impl<P: LegTrace> Dispatcher<P> {
         let number = self.progress.expect(input.time, way_from(input.side))?;
         let place = self.admit(config, number, now, input)?;
         let due = self.due(place);
-        self.look_if(rt, pool, due)?;
+        self.take_and_offer_if_some(rt, pool, due)?;
         let turn = turn_after(number, self.queues.count());
-        self.look_if(rt, pool, turn)?;
+        self.take_and_offer_if_some(rt, pool, turn)?;
         Ok(())
     }
 
@@ -99,7 +99,7 @@ impl<P: LegTrace> Dispatcher<P> {
         if asks_device {
             return self.settle(rt, pool, departures);
         }
-        if !self.progress.take_told() && self.has_room() {
+        if !self.progress.take_outcome_flag() && self.has_room() {
             return Ok(());
         }
         self.advance_until(rt, pool, departures, StopCondition::Room)

@@ -36,7 +36,7 @@ pub(crate) struct RunProgress<P> {
     /// Whether there is new progress of an input for whose second leg a placeholder is held.
     is_freed: bool,
     /// Whether an outcome may have become ready to be written.
-    is_told: bool,
+    may_have_outcome: bool,
 }
 
 impl<P> Model for RunProgress<P> {
@@ -67,7 +67,7 @@ impl<P: LegTrace> RunProgress<P> {
             past: Log::new(),
             spares: BufferPool::new(alloc),
             is_freed: false,
-            is_told: false,
+            may_have_outcome: false,
         }
     }
 
@@ -79,10 +79,10 @@ impl<P: LegTrace> RunProgress<P> {
     }
 
     /// Adds the buffer of a packet that has been written to the pool, if there is one.
-    fn keep_spare(&mut self, vector: Option<Vec<u8>>)
+    fn store_spare(&mut self, vector: Option<Vec<u8>>)
         ensures { self.new ≡ self.old }
     {
-        self.spares.give_back(vector);
+        self.spares.recycle(vector);
     }
 
     /// Returns a buffer for a later input.
@@ -165,7 +165,7 @@ impl<P: LegTrace> RunProgress<P> {
         let input = &mut self.under_way[place];
         self.is_freed = self.is_freed || input.has_place;
         input.progress = progress;
-        self.is_told = true;
+        self.may_have_outcome = true;
         Ok(())
     }
 
@@ -190,10 +190,10 @@ impl<P: LegTrace> RunProgress<P> {
     }
 
     /// Returns whether an outcome may have become ready to be written since the last call.
-    pub(crate) fn take_told(&mut self) -> bool
+    pub(crate) fn take_outcome_flag(&mut self) -> bool
         ensures { self.new ≡ self.old }
     {
-        mem::replace(&mut self.is_told, false)
+        mem::replace(&mut self.may_have_outcome, false)
     }
 
     /// Records that a placeholder is held for the second leg of input `number`.
@@ -224,12 +224,12 @@ impl<P: LegTrace> RunProgress<P> {
         let Some(place) = self.place_of(number) else {
             unreachable!();
         };
-        self.is_told = true;
+        self.may_have_outcome = true;
         self.under_way[place].second_leg(number)
     }
 
     /// Returns whether the first open input has ended and has no placeholder for a second leg.
-    fn may_leave(&self) -> bool
+    fn is_first_complete(&self) -> bool
         ensures { (result ≡ true) ↔ FirstMayLeave self.now.under_way }
     {
         match self.under_way.front() {
@@ -263,10 +263,10 @@ impl<P: LegTrace> RunProgress<P> {
             (λ _. HandOverOk D.takes departures.old self.old departures.new self.new)
             (HandOverErr D.takes D.fails departures.old self.old departures.new self.new) }
     {
-        while self.may_leave() {
+        while self.is_first_complete() {
             let (time, departed) = self.pop();
             match departures.write(time, departed) {
-                Ok(vector) => self.keep_spare(vector),
+                Ok(vector) => self.store_spare(vector),
                 Err(fault) => return Err(fault),
             }
         }

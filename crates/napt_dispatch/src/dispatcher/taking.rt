@@ -59,7 +59,7 @@ impl<P: LegTrace> Dispatcher<P> {
             return Ok(false);
         }
         self.note_each(w, &mut answered.answers)?;
-        self.vectors.give_back(answered);
+        self.vectors.recycle(answered);
         Ok(true)
     }
 
@@ -86,7 +86,7 @@ impl<P: LegTrace> Dispatcher<P> {
     }
 
     /// Takes and records all available answers of worker `w`. Returns whether there were any.
-    fn take_there<R: Wait, G: Gate>(
+    fn take_available<R: Wait, G: Gate>(
         &mut self,
         rt: &R,
         pool: &mut Pool<Worker<P>, G>,
@@ -109,7 +109,7 @@ impl<P: LegTrace> Dispatcher<P> {
     }
 
     /// Takes and records all available answers of all workers. Returns whether there were any.
-    fn take_all_there<R: Wait, G: Gate>(
+    fn take_all_available<R: Wait, G: Gate>(
         &mut self,
         rt: &R,
         pool: &mut Pool<Worker<P>, G>,
@@ -121,7 +121,7 @@ impl<P: LegTrace> Dispatcher<P> {
         let mut any = false;
         let workers = self.queues.count();
         for w in 0..workers {
-            if self.take_there(rt, pool, w)? {
+            if self.take_available(rt, pool, w)? {
                 any = true;
             }
         }
@@ -130,7 +130,7 @@ impl<P: LegTrace> Dispatcher<P> {
 
     /// Waits for an answer and takes all that are available. Every leg that could be offered must
     /// have been offered. Fails if no worker owes an answer.
-    fn take_some<R: Wait, G: Gate>(
+    fn wait_and_take<R: Wait, G: Gate>(
         &mut self,
         rt: &R,
         pool: &mut Pool<Worker<P>, G>,
@@ -145,7 +145,7 @@ impl<P: LegTrace> Dispatcher<P> {
         }
         let mut backoff = Backoff::new();
         for _ in rt.forever() {
-            if self.take_all_there(rt, pool)? {
+            if self.take_all_available(rt, pool)? {
                 return Ok(());
             }
             backoff.pause(rt);
@@ -165,7 +165,7 @@ impl<P: LegTrace> Dispatcher<P> {
         ensures offered { OnOk result (HasOfferedAll pool.new self.new) }
     {
         self.offer_all(pool)?;
-        self.take_some(rt, pool)?;
+        self.wait_and_take(rt, pool)?;
         self.offer_all(pool)
     }
 
@@ -252,7 +252,7 @@ impl<P: LegTrace> Dispatcher<P> {
     /// Takes the available answers of worker `w`, and offers it the legs that can then be offered.
     /// If a placeholder waited for one of the answers, offers legs to all workers.
     #[inline(never)]
-    pub(super) fn look_at<R: Wait, G: Gate>(
+    pub(super) fn take_and_offer<R: Wait, G: Gate>(
         &mut self,
         rt: &R,
         pool: &mut Pool<Worker<P>, G>,
@@ -263,7 +263,7 @@ impl<P: LegTrace> Dispatcher<P> {
         ensures state { ContinuesOr P.tells G.is_open pool.old self.old pool.new self.new result }
         ensures offered { OnOk result (HasOffered pool.new self.new w) }
     {
-        self.take_there(rt, pool, w)?;
+        self.take_available(rt, pool, w)?;
         if self.progress.take_freed() {
             return self.offer_all(pool);
         }

@@ -10,7 +10,7 @@ loop-self-preserved g c =
     let went = c.loop-self.invariant.went in
     record {
       went = went ++ pair ∷ [];
-      handed = rw c.keep_spare.ensures
+      handed = rw c.store_spare.ensures
           (over_more went (pair ∷ []) c.args.self.now c.loop-self.self taken.new.self
           c.loop-self.invariant.handed (leaves_over pair c.loop-self.self taken.new.self taken.ensures));
       took = g.met.D.OutcomeSink.takes_more c.args.departures.now c.loop-self.departures c.write.new.self went

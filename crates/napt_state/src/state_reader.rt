@@ -18,7 +18,7 @@ use std::str;
 
 /// A text of a state that is read line by line, in the memory of its longest line.
 #[derive(Drop)]
-pub(crate) struct SavedState<R> {
+pub(crate) struct StateReader<R> {
     alloc: Global,
     reader: R,
     line: Vec<u8>,
@@ -28,13 +28,13 @@ pub(crate) struct SavedState<R> {
     lines: u64,
 }
 
-impl<R: BufRead + Drop> SavedState<R> {
+impl<R: BufRead + Drop> StateReader<R> {
     /// Returns a reader of a text of which nothing has been read yet.
-    pub(crate) fn new(alloc: Global, reader: R) -> SavedState<R>
+    pub(crate) fn new(alloc: Global, reader: R) -> StateReader<R>
         ensures reader { R.remaining result.reader ≡ R.remaining reader }
         ensures lines { result.lines ≡ 0 }
     {
-        SavedState {
+        StateReader {
             alloc,
             reader,
             line: Vec::new(alloc),

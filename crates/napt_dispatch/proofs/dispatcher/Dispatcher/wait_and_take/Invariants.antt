@@ -1,7 +1,7 @@
--- take_some: while it waits, no answer was taken, and the dispatcher continues.
+-- wait_and_take: while it waits, no answer was taken, and the dispatcher continues.
 use Rattle.std.proofs.Common.{false}
 use Rattle.napt_dispatch.specs.DispatcherInvariants.{DispatcherContinues, HasTaken}
-use Rattle.napt_dispatch.proofs.dispatcher.Dispatcher.take_some.Given as goal
+use Rattle.napt_dispatch.proofs.dispatcher.Dispatcher.wait_and_take.Given as goal
 
 abbrev pub invariant-loop : goal.invariant-loop
 invariant-loop g l = record {

@@ -3,7 +3,7 @@ use Rattle.std.proofs.Common.{◌≡◌, ℕ, List, Some}
 use Rattle.napt_state.specs.StateFiles.{StateFileModel}
 use Rattle.napt_state.specs.{Saved.IsSaved, StateText.saved_text}
 use Rattle.napt_state.proofs.Reading.{IsAhead, Taken}
-use Rattle.napt_state.proofs.state_writer.SavedState.saved.Given as goal
+use Rattle.napt_state.proofs.state_reader.StateReader.saved.Given as goal
 
 abbrev pub invariant-loop : goal.invariant-loop
 invariant-loop g l = record {

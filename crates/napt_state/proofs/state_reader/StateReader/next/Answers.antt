@@ -4,7 +4,7 @@ use Rattle.std.specs.{Prelude.bytes_eq, Str.IsUtf8}
 use Rattle.std.proofs.lemmas.{Str.Pattern.strip_suffix_char, Option.none-some, Bool.true≢false, Slice.Eq.bytes_eq-Decides}
 use Rattle.napt_state.specs.StateText.{line_text}
 use Rattle.napt_state.proofs.Lines.{line_text-ended, line_text-utf8, line_left, line_read, torn_line, torn_read, first_read}
-use Rattle.napt_state.proofs.state_writer.SavedState.next.Goals as goal
+use Rattle.napt_state.proofs.state_reader.StateReader.next.Goals as goal
 
 -- The line without its end, if it has one.
 abbrev IsCut : List ℕ → Option (Bor (List ℕ)) → Type 0

@@ -1,9 +1,9 @@
--- take_up: the state is taken if no binding misfits, and otherwise the first misfit is returned.
+-- restore: the state is taken if no binding misfits, and otherwise the first misfit is returned.
 use Rattle.std.proofs.Common.{◌∙◌, ap, sym, subst}
 use Rattle.napt_state.specs.Saved.{IsTaken, starting}
 use Rattle.napt_state.proofs.TakenUp.{taken_up, not_taken}
-use Rattle.napt_state.proofs.state_contents.StateFileContents.take_up.Goals as goal
-use Rattle.napt_state.proofs.state_contents.StateFileContents.take_up.Goals.{in-None, in-Some}
+use Rattle.napt_state.proofs.state_contents.StateFileContents.restore.Goals as goal
+use Rattle.napt_state.proofs.state_contents.StateFileContents.restore.Goals.{in-None, in-Some}
 
 pub returns : goal.returns
 returns c =

@@ -1,7 +1,7 @@
 -- of: the bindings so far and those to come are all, and those so far are saved.
 use Rattle.std.{proofs.Common.{◌≡◌, ◌++◌}, specs.Vec.Iter.into_iter_items}
 use Rattle.napt_state.specs.Saved.{saved_bindings}
-use Rattle.napt_state.proofs.state_contents.StateFileContents.of.Given as goal
+use Rattle.napt_state.proofs.state_contents.StateFileContents.from_state.Given as goal
 
 abbrev pub invariant-loop-binding : goal.invariant-loop-binding
 invariant-loop-binding l = record {

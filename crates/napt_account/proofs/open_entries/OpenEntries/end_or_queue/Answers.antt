@@ -1,12 +1,12 @@
--- look_at: the entry is removed if it has ended, and queued at its end otherwise.
+-- end_or_queue: the entry is removed if it has ended, and queued at its end otherwise.
 use Rattle.std.proofs.Common.{◌≡◌, cond, true, false, Some, None, refl, sym, ◌∙◌, subst}
-use Rattle.napt_account.specs.declared.open_entries.{EntryKey.EntryKey, Open.Open, OpenEntries.OpenEntries}
+use Rattle.napt_account.specs.declared.open_entries.{EntryKey.EntryKey, OpenEntry.OpenEntry, OpenEntries.OpenEntries}
 use Rattle.napt_account.{specs.OpenEntries.{external_eq, open_at, is_queued, IsIndexedBut}, proofs.OpenEntries.{moved, queued_at}}
-use Rattle.napt_account.proofs.open_entries.OpenEntries.look_at.Goals as goal
+use Rattle.napt_account.proofs.open_entries.OpenEntries.end_or_queue.Goals as goal
 
 pub returns-then-is_before-clause-indexed : goal.returns-then-is_before-clause-indexed
 returns-then-is_before-clause-indexed c = λ but.
-    let o : Open = c.in-Some.open in
+    let o : OpenEntry = c.in-Some.open in
     let at : open_at c.args.self.now c.args.key ≡ Some o =
     sym c.get.ensures.value ∙ (sym c.copied.ensures ∙ c.in-Some.is) in
     c.in_ok-set.ensures.indexed (subst (λ (x : EntryKey). IsIndexedBut x None c.args.self.now)

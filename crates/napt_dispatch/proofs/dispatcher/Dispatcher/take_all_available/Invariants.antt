@@ -1,6 +1,6 @@
--- take_all_there: the dispatcher continues, and `any` says whether answers were taken so far.
+-- take_all_available: the dispatcher continues, and `any` says whether answers were taken so far.
 use Rattle.napt_dispatch.specs.DispatcherInvariants.{DispatcherContinues, HasTaken}
-use Rattle.napt_dispatch.proofs.dispatcher.Dispatcher.take_all_there.Given as goal
+use Rattle.napt_dispatch.proofs.dispatcher.Dispatcher.take_all_available.Given as goal
 
 abbrev pub invariant-loop-w : goal.invariant-loop-w
 invariant-loop-w g l = record {

@@ -1,4 +1,4 @@
--- pass: a binding that is made gets a new entry, and any other binding counts the packet.
+-- record_leg: a binding that is made gets a new entry, and any other binding counts the packet.
 use Rattle.std.proofs.Common.{◌≡◌, ◌+◌, ◌≤◌, ℕ, true, None, sym, ◌∙◌, ap, subst, arith}
 use Rattle.std.specs.Prelude.{IfOk}
 use Rattle.napt_binding.specs.Ends.{is_before}
@@ -6,7 +6,7 @@ use Rattle.napt_table.specs.declared.TimedRow.{TimedRow}
 use Rattle.napt_sequential.specs.declared.passage.Passage.{Passage, TheVariants.{Made, Out, In}}
 use Rattle.napt_account.specs.{declared.log.Entry.Entry, BindingTallies.leg_use, Effects.CanCome, Log.{after_leg, made_by, with_entry}, OpenEntries.{OpenEntriesShow, entry_key, open_at}}
 use Rattle.napt_account.proofs.OpenEntries.{row_free, shows_more}
-use Rattle.napt_account.proofs.open_entries.OpenEntries.pass.Goals as goal
+use Rattle.napt_account.proofs.open_entries.OpenEntries.record_leg.Goals as goal
 
 pub returns-in_ok-number-in-Made-clause-shows : goal.returns-in_ok-number-in-Made-clause-shows
 returns-in_ok-number-in-Made-clause-shows c = λ most log shows comes.
@@ -14,7 +14,7 @@ returns-in_ok-number-in-Made-clause-shows c = λ most log shows comes.
     let timed : TimedRow = c.timed.result in
     let is : c.args.effect ≡ Made timed = c.in-Made.is ∙ sym (ap Made c.timed.ensures) in
     let here : CanCome now log (Made timed) = subst (CanCome now log) is comes in
-    let made : c.by_packet.result ≡ made_by now timed = c.by_packet.ensures in
+    let made : c.from_packet.result ≡ made_by now timed = c.from_packet.ensures in
     let put = c.in_ok-number-in-Made.ensures.shows now (most + 1) log
     (shows_more now most (most + 1) (omega arith) log c.args.self.now shows)
     (subst (λ (e : Entry). open_at c.args.self.now (entry_key e.binding) ≡ None) (sym made)

@@ -1,8 +1,8 @@
--- drop_dead: an expired flow is removed and the live ones stay; without one, all flows are live.
+-- remove_expired: an expired flow is removed and the live ones stay; without one, all flows are live.
 use Rattle.std.proofs.Common.{sym, arith}
 use Rattle.napt_rules.specs.Life as life
 use Rattle.napt_binding.proofs.Slots.{all_kept, kept_emptied, one_fewer}
-use Rattle.napt_binding.proofs.flows.flow_maps.FlowMaps.drop_dead.Goals as goal
+use Rattle.napt_binding.proofs.flows.flow_maps.FlowMaps.remove_expired.Goals as goal
 
 pub returns-in_default-clause-none : goal.returns-in_default-clause-none
 returns-in_default-clause-none c given =

@@ -4,7 +4,7 @@ use Rattle.std.proofs.Common.{ℕ, ◌≡◌, List, Some, Ok, Err, IfOk, sym, ap
 use Rattle.napt_state.specs.declared.line.StateLine.{StateLine}
 use Rattle.napt_state.specs.{Saved.HasAccounts, StateContents.{IsFirstLine, IsReadAs}}
 use Rattle.napt_state.proofs.Reading.{AheadOf, ahead_next, none_next, can_follow, no_end, ahead_added, all_read, unless_weaker, taken_added, taken_all, earlier_read, no_earlier}
-use Rattle.napt_state.proofs.state_writer.SavedState.saved.Goals as goal
+use Rattle.napt_state.proofs.state_reader.StateReader.saved.Goals as goal
 
 pub returns-in_err-line-clause-read : goal.returns-in_err-line-clause-read
 returns-in_err-line-clause-read g c whole fits left =
