@@ -9,7 +9,7 @@ use Rattle.napt_laws.proofs.{Turns.{IsTurn, InTurn}}
 use Rattle.napt_binding.specs.Ends.{end_of}
 use Rattle.napt_table.specs.{declared.TimedRow.TimedRow, TimedRows.timed_row}
 use Rattle.napt_translate.specs.CarriedPackets.{packet_carried}
-use Rattle.napt_sequential.specs.Traces.{gone_through, loss_of, passage_by}
+use Rattle.napt_sequential.specs.Traces.{passage_of_row, loss_of, passage_by}
 use Rattle.napt_account.specs.{declared.log.{Entry.Entry, LogEntry.LogEntry}, Log.{LogModel, first_entry, counted, entry_through, unnumbered, use_entry, with_use, after_leg, after_record}}
 use Rattle.napt_account.proofs.{Lists.{map_joined, map_twice}, Moves.of_moves}
 
@@ -34,7 +34,7 @@ plain_use way now told log =
 
 pub plain_through : (timers : Timers) (now : ℕ) (way : Way) (made : Bool) → (made ≡ true → way ≡ Outgoing) →
     (b : Binding) (log : LogModel) → (let change : Entry → Entry = counted way now (end_of timers b) in
-    unnumbered (after_leg now (gone_through way made (timed_row timers b)) log)
+    unnumbered (after_leg now (passage_of_row way made (timed_row timers b)) log)
     ≡ cond made (unnumbered log ++ change (first_entry timers now b) ∷ [])
     (map (entry_through now (row b) change) (unnumbered log)))
 plain_through timers now Outgoing true out b log =

@@ -15,7 +15,7 @@ mod flow_maps;
 mod slots;
 
 use crate::idle_timers::IdleTimers;
-use crate::life::{flow_end, flow_moment, is_live_flow, is_standing};
+use crate::lifetime::{flow_end, flow_moment, is_live_flow, is_standing};
 use crate::outbound::{flow_after, new_flow};
 use crate::traffic::{is_flow_of, used};
 use flow_maps::FlowMaps;

@@ -11,7 +11,7 @@ use Rattle.napt_sequential.{specs.{declared.{outcome.StepResult.StepResult, pass
 use Rattle.napt_dispatch.specs.{Dispatch.{input_results, input_result}, declared.dispatcher.progress.InputProgress.{InputProgress, TheVariants.{Awaited, Returning}}}
 use Rattle.napt_dispatch.specs.{declared.dispatcher.progress.OpenInput.OpenInput, OutcomeLists.collected_outcome, DispatcherInvariants.{AnswersTo, IsSecond, IsSecondOf}}
 use Rattle.napt_dispatch.specs.{RunsThrough.timed_results, declared.outcome_sink.InputResult.InputResult}
-use Rattle.napt_dispatch.specs.RunProgresses.{RunProgressModel, RunLegs, time_in, end_of_answer, progress_ended, ended_in, second_leg_asked, AsksForSecondLeg, first_by, first_in, unmarked, known_in, progress_arrived, mark_of, progress_in, times_in, marks_in, departed_with, departed_in, is_unknown, passages_after, progress_expecting, IsUnmarked, ProgressIsWritten, HasMark, InputIsMarked, FirstMayLeave, FirstInputLeaves, NoneBehind, KnowsSecond, ProgressIsKnown, AllKnown, OutcomesAreHandedOver}
+use Rattle.napt_dispatch.specs.RunProgresses.{RunProgressModel, RunLegs, time_in, end_of_answer, progress_ended, ended_in, second_leg_asked, AsksForSecondLeg, first_by, first_in, unmarked, known_in, progress_arrived, mark_of, progress_in, times_in, marks_in, departed_with, departed_in, is_unknown, passages_after, progress_expecting, IsUnmarked, ProgressIsWritten, HasMark, InputIsMarked, FirstIsComplete, FirstInputLeaves, NoneBehind, KnowsSecond, ProgressIsKnown, AllKnown, OutcomesAreHandedOver}
 use Rattle.napt_laws.specs.{Dispatching.{IsFrontOf, outcome_of_end}, SecondLegs.second_legs}
 
 -- LISTS
@@ -242,7 +242,7 @@ expecting_unmarked {P} time way number window later n is =
 -- The first open input may leave.
 pub first_leaves : {P : Type 0} (window : RunProgressModel P) (first : OpenInput P) (rest : List (OpenInput P))
     (d : InputResult P)
-    (left : List (ℕ × InputResult P)) → window.under_way ≡ first ∷ rest → FirstMayLeave window.under_way →
+    (left : List (ℕ × InputResult P)) → window.under_way ≡ first ∷ rest → FirstIsComplete window.under_way →
     departed_in first.progress ≡ Some d → left ≡ window.left ++ (first.time, d) ∷ [] →
     FirstInputLeaves (first.time, d) window (window_of left rest)
 first_leaves window first rest d left is may ends more = grind (arith, common_steps, nat_tests)

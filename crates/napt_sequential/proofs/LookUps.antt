@@ -30,8 +30,8 @@ module _ (rules : Rules) (t : AreTimers rules.timers) (address : ℕ) (leg : Leg
     through_found way after says end =
         ap (λ (o : Option Binding). passage_through way (is_made through) (option_map (timed_row rules.timers) o))
         says.binding
-        ∙ (ap (λ (t : Option BindingUse). passage_through way (is_made t) (Some (timed_row rules.timers says.went.binding)))
-        says.is
+        ∙ (ap (λ (t : Option BindingUse). passage_through way (is_made t)
+        (Some (timed_row rules.timers says.went.binding))) says.is
         ∙ sym (ap (said way (Some protocol) end) says.is))
 
     gone : (place : Option ℕ) (packet : List ℕ) → (number : ℕ) →

@@ -10,7 +10,7 @@ use Rattle.napt_table.specs.{declared.TimedRow.TimedRow, TimedRows.timed_row}
 use Rattle.napt_translate.specs.{CarriedPackets.packet_carried, Translators.{TranslatorModel, initial_translator, local_state, with_local_state, translator_after}}
 use Rattle.napt_sequential.specs.declared.{counted_translator.CountedTranslator.CountedTranslator, passage.Passage.Passage}
 use Rattle.napt_sequential.specs.declared.{passage.{Passage.TheVariants.{Nothing, Dropped}, PacketTuple.PacketTuple}, leg_trace.{TracedAnswer.TracedAnswer, NoTrace.NoTrace}}
-use Rattle.napt_sequential.specs.{declared.outcome.StepResult.StepResult, Traces.{gone_through, passage_of, trace_of}}
+use Rattle.napt_sequential.specs.{declared.outcome.StepResult.StepResult, Traces.{passage_of_row, passage_of, trace_of}}
 use Rattle.napt_laws.specs.LocalAgreement.{IsTranslatorCurrent}
 
 -- A run at some time: the time of its last leg in ns, the acts of its legs, and its bindings.
@@ -100,7 +100,7 @@ seen_of packet =
 
 abbrev pub passage_through : Way → Bool → Option TimedRow → Passage
 passage_through way made None = Nothing
-passage_through way made (Some row) = gone_through way made row
+passage_through way made (Some row) = passage_of_row way made row
 
 -- `made` says whether the leg made the binding that its packet used.
 abbrev pub found_by : Timers → ℕ → List Binding → ℕ → PacketTuple → Bool → Option Protocol → End → Passage

@@ -299,7 +299,8 @@ unfolding kind inner
 carries_inner bytes number e h = rw e at h
 
 -- The body of an error has the form and the offset of the transport header that it quotes.
-body_error : (form : TransportForm) (bytes : List ℕ) (quoted : QuotedHeader) → body_of form bytes ≡ bodies.Error quoted →
+body_error : (form : TransportForm) (bytes : List ℕ) (quoted : QuotedHeader) →
+    body_of form bytes ≡ bodies.Error quoted →
     (form ≡ Error) × (quoted ≡ quoted_of bytes)
 body_error form bytes quoted h = grind (arith, common_steps, nat_tests)
 

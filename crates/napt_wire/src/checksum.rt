@@ -31,11 +31,11 @@ pub fn fix_check_udp(check: u16, old: u16, new: u16) -> u16
     if check == 0 {
         return 0;
     }
-    sent(fix_check(check, old, new))
+    udp_check_as_sent(fix_check(check, old, new))
 }
 
 /// Returns a UDP checksum as it is sent: 0xFFFF for 0, which would mean that there is none.
-fn sent(check: u16) -> u16
+fn udp_check_as_sent(check: u16) -> u16
     ensures { result ≡ (if check == 0 then 65535 else check) }
 {
     if check == 0 { 0xffff } else { check }
@@ -66,7 +66,7 @@ pub(crate) fn fix_end_udp(check: u16, old: Endpoint, new: Endpoint) -> u16
         return 0;
     }
     let fixed = fix_address(check, old.address, new.address);
-    sent(fix_check(fixed, old.number, new.number))
+    udp_check_as_sent(fix_check(fixed, old.number, new.number))
 }
 
 /// Returns whether the sum of the 16-bit words is a multiple of 65535 (RFC 1071), a zero byte

@@ -11,7 +11,7 @@ ghost use Rattle.napt_rules.specs.FlowUpdates as traffic;
 use super::slots::FlowSlots;
 use crate::address_counts::AddressCounts;
 use crate::idle_timers::IdleTimers;
-use crate::life::is_standing;
+use crate::lifetime::is_standing;
 use crate::outbound::{flow_after, new_flow};
 use crate::traffic::used;
 use napt_rules::{Flow, OutboundPacket};

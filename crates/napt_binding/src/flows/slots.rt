@@ -8,7 +8,7 @@ ghost use Rattle.napt_binding.specs.{Ends.last_end, Slots.{standing_flows, IsInS
 ghost use Rattle.napt_binding.specs.Slots as slots;
 
 use crate::idle_timers::IdleTimers;
-use crate::life::{end_after, is_recent, last_moment};
+use crate::lifetime::{end_after, is_recent, last_moment};
 use crate::session::is_established;
 use napt_collections::{Links, link_before, unlink};
 use napt_rules::Flow;

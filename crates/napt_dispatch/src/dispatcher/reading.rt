@@ -4,7 +4,7 @@ ghost use Rattle.std.specs.Prelude.{◌≡◌, ◌<◌, ◌≤◌, ◌/◌, ◌%
 ghost use Rattle.napt_config.specs.Rules.{RulesInvariant};
 ghost use Rattle.napt_pool.specs.Pools.{initial_machines};
 ghost use Rattle.napt_sequential.specs.Inputs.{NextInputPost};
-ghost use Rattle.napt_dispatch.specs.RunsThrough.{LetsGoUnlessFault, ReadInputPost, RunThroughStart, ReadsToEnd, ReadsAll, ReadsHalted};
+ghost use Rattle.napt_dispatch.specs.RunsThrough.{OutcomesLeaveUnlessFault, ReadInputPost, RunThroughStart, ReadsToEnd, ReadsAll, ReadsHalted};
 ghost use Rattle.napt_dispatch.specs.DispatcherInvariants.{IsSizedFor, ContinuesOr, DispatcherHasRoom, DispatcherHalts};
 
 use crate::Worker;
@@ -90,7 +90,7 @@ impl<P: LegTrace> Dispatcher<P> {
         asks_device: bool,
     ) -> Result<(), DispatchFault<D::Fault>>
         requires sized { IsSizedFor pool.old self.old }
-        ensures state { LetsGoUnlessFault P.tells G.is_open D.takes D.fails
+        ensures state { OutcomesLeaveUnlessFault P.tells G.is_open D.takes D.fails
             pool.old self.old departures.old pool.new self.new departures.new result }
         ensures room { OnOk result (DispatcherHasRoom self.new) }
         ensures left { asks_device ≡ true → OnOk result ((self.new.progress.under_way ≡ [])

@@ -3,7 +3,7 @@
 ghost use Rattle.std.specs.Prelude.{◌≡◌, ◌↔◌, ◌⊎◌, ◌+◌, ◌^◌, ◌<◌, ◌≤◌, Bool, [], length, slice_get, true, false, IfOk, IfErr, IfSome, OnOk, OnErr, MatchOption, MatchResult};
 ghost use Rattle.napt_sequential.specs.declared.{fault.RunFault.TheVariants.Memory, passage.Passage.TheVariants.Nothing as NoPassage};
 ghost use Rattle.napt_dispatch.specs.Dispatch.{IsDispatchFault};
-ghost use Rattle.napt_dispatch.specs.RunProgresses.{progress_in, marks_in, progress_expecting, is_unknown, FirstMayLeave, ProgressIsWritten, InputIsMarked, FirstInputLeaves};
+ghost use Rattle.napt_dispatch.specs.RunProgresses.{progress_in, marks_in, progress_expecting, is_unknown, FirstIsComplete, ProgressIsWritten, InputIsMarked, FirstInputLeaves};
 ghost use Rattle.napt_dispatch.specs.{RunsThrough.{HandOverOk, HandOverErr}, DispatcherInvariants.{IsSecond, AnswersTo}};
 
 use crate::dispatcher::buffer_pool::BufferPool;
@@ -230,7 +230,7 @@ impl<P: LegTrace> RunProgress<P> {
 
     /// Returns whether the first open input has ended and has no placeholder for a second leg.
     fn is_first_complete(&self) -> bool
-        ensures { (result ≡ true) ↔ FirstMayLeave self.now.under_way }
+        ensures { (result ≡ true) ↔ FirstIsComplete self.now.under_way }
     {
         match self.under_way.front() {
             Some(input) => input.progress.has_ended() && !input.has_place,
@@ -241,7 +241,7 @@ impl<P: LegTrace> RunProgress<P> {
     /// Removes the first open input, which may leave. Returns its arrival time, in ns, and result.
     #[inline(always)]
     fn pop(&mut self) -> (u64, InputResult<P>)
-        requires { FirstMayLeave self.old.under_way }
+        requires { FirstIsComplete self.old.under_way }
         ensures { FirstInputLeaves result self.old self.new }
     {
         let Some(OpenInput { time, progress, .. }) = self.under_way.pop_front() else {
@@ -258,7 +258,7 @@ impl<P: LegTrace> RunProgress<P> {
         &mut self,
         departures: &mut D,
     ) -> Result<(), D::Fault>
-        ensures all { OnOk result (¬ FirstMayLeave self.new.under_way) }
+        ensures all { OnOk result (¬ FirstIsComplete self.new.under_way) }
         ensures handed { MatchResult result
             (λ _. HandOverOk D.takes departures.old self.old departures.new self.new)
             (HandOverErr D.takes D.fails departures.old self.old departures.new self.new) }

@@ -2,7 +2,7 @@
 
 ghost use Rattle.std.specs.Prelude.{◌≡◌, ◌↔◌, ◌+◌, ◌⊎◌, ◌^◌, ◌<◌, [], length, true, IfOk, IfSome, OnOk};
 ghost use Rattle.napt_pool.specs.Pools.{initial_machines};
-ghost use Rattle.napt_dispatch.specs.{RunsThrough.LetsGoUnlessFault, WorkerQueues.owed_count};
+ghost use Rattle.napt_dispatch.specs.{RunsThrough.OutcomesLeaveUnlessFault, WorkerQueues.owed_count};
 ghost use Rattle.napt_dispatch.specs.DispatcherInvariants.{IsSizedFor, ContinuesOr, NoteAnswersPost, HasTaken, HasOffered, HasOfferedAll, DispatcherHasRoom, HasReached, DispatcherIsDone};
 
 use crate::Worker;
@@ -176,7 +176,7 @@ impl<P: LegTrace> Dispatcher<P> {
         departures: &mut D,
     ) -> Result<(), DispatchFault<D::Fault>>
         requires sized { IsSizedFor pool.now self.old }
-        ensures { LetsGoUnlessFault P.tells G.is_open D.takes D.fails
+        ensures { OutcomesLeaveUnlessFault P.tells G.is_open D.takes D.fails
             pool.now self.old departures.old pool.now self.new departures.new result }
     {
         match self.progress.hand_over(departures) {
@@ -211,7 +211,7 @@ impl<P: LegTrace> Dispatcher<P> {
         until: StopCondition,
     ) -> Result<(), DispatchFault<D::Fault>>
         requires sized { IsSizedFor pool.old self.old }
-        ensures state { LetsGoUnlessFault P.tells G.is_open D.takes D.fails
+        ensures state { OutcomesLeaveUnlessFault P.tells G.is_open D.takes D.fails
             pool.old self.old departures.old pool.new self.new departures.new result }
         ensures reached { OnOk result (HasReached until self.new) }
     {
@@ -233,7 +233,7 @@ impl<P: LegTrace> Dispatcher<P> {
         departures: &mut D,
     ) -> Result<(), DispatchFault<D::Fault>>
         requires sized { IsSizedFor pool.old self.old }
-        ensures state { LetsGoUnlessFault P.tells G.is_open D.takes D.fails
+        ensures state { OutcomesLeaveUnlessFault P.tells G.is_open D.takes D.fails
             pool.old self.old departures.old pool.new self.new departures.new result }
         ensures done { OnOk result (DispatcherIsDone self.new) }
         ensures left { OnOk result (self.new.progress.under_way ≡ []) }

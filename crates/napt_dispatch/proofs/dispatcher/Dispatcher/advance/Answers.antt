@@ -10,5 +10,6 @@ returns-clause-state g c =
 
 pub returns-in_err-wait_and_take-clause-state : goal.returns-in_err-wait_and_take-clause-state
 returns-in_err-wait_and_take-clause-state g c =
-    let p = err_from_is_err_and c.from_residual-in_err-wait_and_take.result c.from_residual-in_err-wait_and_take.ensures.1 in
+    let p = err_from_is_err_and c.from_residual-in_err-wait_and_take.result
+    c.from_residual-in_err-wait_and_take.ensures.1 in
     rw (p.1, p.2) (halts_after c.in_ok-offer_all.ensures.state.grows c.in_err-wait_and_take.ensures.state)

@@ -1,9 +1,9 @@
--- `spare`: the number is the least that no binding has, live or held.
+-- `free_number`: the number is the least that no binding has, live or held.
 use Rattle.std.{proofs.Common.{◌≡◌, ◌∙◌, sym, ap}, specs.Option.is_some}
 use Rattle.napt_rules.specs.Prelude.{hold_ago}
 use Rattle.napt_table.{specs.{Bindings.BindingsModel, HeldLists.seen_binding, BindingIndexes.{BindingIndexModel, held_at}, Keys.external_key}, proofs.LeastFree.first_agrees}
 use Rattle.napt_table.proofs.SeenBindings.{live_is_seen}
-use Rattle.napt_table.proofs.bindings.Bindings.spare.Goals as goal
+use Rattle.napt_table.proofs.bindings.Bindings.free_number.Goals as goal
 
 pub returns-clause-spare : goal.returns-clause-spare
 returns-clause-spare c =

@@ -1,10 +1,10 @@
--- take: the index is in the pool, the leg can be counted, and the translators are those after it.
+-- translate_leg: the index is in the pool, the leg can be counted, and the translators are those after it.
 use Rattle.std.proofs.{Common.{◌≡◌, sym, ◌∙◌, subst, arith, get_or, set}, lemmas.Option.slice_get-get_or}
 use Rattle.napt_config.specs.Rules.{Rules}
 use Rattle.napt_sequential.specs.declared.{passage.Passage.Passage, leg_trace.TracedAnswer.TracedAnswer, counted_translator.CountedTranslator.CountedTranslator}
 use Rattle.napt_sequential.{specs.CountedTranslators.{AreCountedTranslators, TracesLeg, state_after, traced_answer, counted_after}, proofs.Results.if_both}
 use Rattle.napt_sequential.proofs.CountedTranslators.{few_legs, told_same, translators_after}
-use Rattle.napt_sequential.proofs.run.take.Goals as goal
+use Rattle.napt_sequential.proofs.run.translate_leg.Goals as goal
 
 pub bounds-translators-place : goal.bounds-translators-place
 bounds-translators-place c = let many = c.requires.can_take.1.many in omega (arith, c.requires.within)

@@ -2,7 +2,7 @@
 use Rattle.std.proofs.{Common.{◌≡◌, ℕ, ◌+◌, ◌*◌, ◌<◌, ◌||◌, true, false, min, subst, sym, ◌∙◌, ap, arith}, lemmas.Bool.Decides.nat_tests}
 use Rattle.napt_rules.specs.Prelude.{Binding, ns_per_second, is_recent, is_live_by, is_live, Protocol, Icmp, Tcp, Udp, Timers}
 use Rattle.napt_binding.specs.Ends.{least_timer}
-use Rattle.napt_binding.proofs.life.until.Goals as goal
+use Rattle.napt_binding.proofs.lifetime.until.Goals as goal
 
 lives_by : (b : Binding) (timers : Timers) (t : ℕ) (protocol : Protocol) → b.row.fixed ≡ false → b.row.protocol
     ≡ protocol → is_live timers t b ≡ true → is_live_by protocol timers t b ≡ true
