@@ -12,7 +12,7 @@ use Rattle.napt_rules.specs.declared.End.{End}
 use Rattle.napt_sequential.specs.declared.passage.{Trace.Trace}
 use Rattle.napt_sequential.specs.Traces.{passage_of_row, loss_of, passage_by, passage_of, first_passage, second_passage, traces_from}
 use Rattle.napt_account.specs.{declared.log.{Entry.Entry, LogEntry.LogEntry}, Log.{LogModel, after_input, after_leg, after_record, entry_is_of, log_on, shares, unnumbered}, Effects.{CanCome, EffectsAreTheLog}}
-use Rattle.napt_account.proofs.{GoingOn.fold_joined, Lists.{any_seen_of, map_twice}, Moves.{Differ, of_moves}}
+use Rattle.napt_account.proofs.{ContinuedLogs.fold_joined, Lists.{any_seen_of, map_twice}, BindingChanges.{Differ, of_moves}}
 use Rattle.napt_account.proofs.Entries.{Tells, hold, hold_of, is_open, binding_of, differ_back, purge_holds, tells_later, told_turn}
 use Rattle.napt_account.proofs.UnnumberedEntries.{plain_act}
 

@@ -8,8 +8,8 @@ use Rattle.napt_rules.specs.Prelude.{Each}
 use Rattle.napt_account.specs.declared.{log.LogEntry.LogEntry, open_entries.{DueEntry.DueEntry, EntryKey.EntryKey, OpenEntry.OpenEntry, OpenEntries.OpenEntries}}
 use Rattle.napt_account.specs.OpenEntries.{entry_key, end_key_of, end_key, external_eq, end_cmp, open_at, entry_at, is_queued, entry_is_at, kept, Has, IsIndexed, OpenEntriesShow}
 use Rattle.napt_account.specs.{Log.LogModel, LogParts.{is_open, ends_within, ends_first, in_order_of_end}}
-use Rattle.napt_account.proofs.InOrder.{Differ, InOrder, differ_filter, each_has, has_each, has_left, has_parts, has_filter, filter_has, first_then, is_order}
-use Rattle.napt_account.proofs.{Rising.{rises_differ, rises_filter, same_number, sorted_rising}, Sorted.{has_back, has_moved, sorted_turn}}
+use Rattle.napt_account.proofs.EndOrderings.{Differ, InOrder, differ_filter, each_has, has_each, has_left, has_parts, has_filter, filter_has, first_then, is_order}
+use Rattle.napt_account.proofs.{AscendingNumbers.{rises_differ, rises_filter, same_number, sorted_rising}, SortedLists.{has_back, has_moved, sorted_turn}}
 use Rattle.napt_account.proofs.OpenEntries.{due_of, external_is, external_itself, external_flip, under, entry_open, open_entry}
 
 -- A LIST THAT IS SORTED

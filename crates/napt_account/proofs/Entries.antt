@@ -9,7 +9,7 @@ use Rattle.napt_laws.proofs.{Endpoints.{protocol_is, end_is, same_itself, end_it
 use Rattle.napt_binding.{specs.Ends.{end_of, is_before, EndsAreFirst}, proofs.FirstEnds.{before_sooner, end_without_dead}}
 use Rattle.napt_account.specs.{declared.log.Entry.Entry, Log.{first_entry, shares, counted, entry_through, stands_at}}
 use Rattle.napt_account.proofs.Lists.{filter_seen, filter_agrees, filter_agrees_each, filter_joined, map_joined, map_twice, map_agrees, each_mapped, each_shown}
-use Rattle.napt_account.proofs.{Moves.{Differ, AllDiffer, differ_kept, differ_act, of_moves}, UnnumberedEntries.{logged_by, logged}}
+use Rattle.napt_account.proofs.{BindingChanges.{Differ, AllDiffer, differ_kept, differ_act, of_moves}, UnnumberedEntries.{logged_by, logged}}
 
 abbrev pub living : Timers → ℕ → List Binding → List Binding
 living timers now list = filter (is_live timers now) list

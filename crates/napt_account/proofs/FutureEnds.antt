@@ -6,7 +6,7 @@ use Rattle.napt_binding.{specs.Ends.{end_of, is_before, EndsAreFirst}}
 use Rattle.napt_rules.specs.{declared.{Leg.Leg, End.End}, Prelude.{BindingUse, Binding, purge, act, LegAct}}
 use Rattle.napt_laws.proofs.{FreshBindings.{IsFresh, fresh_purged}, Lists.find_passes, Turns.{IsTurn}}
 use Rattle.napt_sequential.specs.{declared.passage.Passage.{Passage, TheVariants.{Made, Out, In}}, Traces.{passage_by, passage_of}}
-use Rattle.napt_account.proofs.Moves.{of_moves}
+use Rattle.napt_account.proofs.BindingChanges.{of_moves}
 
 -- The binding of a leg has an end in the future.
 abbrev pub LeavesOpen : ℕ → Passage → Type 0

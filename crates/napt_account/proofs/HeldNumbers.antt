@@ -14,7 +14,7 @@ use Rattle.napt_laws.proofs.Endpoints.{protocol_is, same_itself, end_itself, end
 use Rattle.napt_binding.{specs.Ends.{end_of, is_before, EndsAreFirst}, proofs.FirstEnds.before_sooner}
 use Rattle.napt_account.specs.{declared.log.{Entry.Entry, LogEntry.LogEntry}, Log.{LogModel, after_record, first_entry, shares, counted, entry_through, unnumbered, log_on}, ResumedLogRuns.IsLogOf}
 use Rattle.napt_account.specs.HeldNumbers.{AreEntriesApart, EntriesStayApart, HeldNumbersHaveOneHolder, held_bindings}
-use Rattle.napt_account.proofs.{InputEffects.{goes, order, other, other_sound}, Lists.{each_every, each_mapped, map_joined, map_twice}, Moves.of_moves, UnnumberedEntries.{logged_by, logged, plain_acts}}
+use Rattle.napt_account.proofs.{InputEffects.{goes, order, other, other_sound}, Lists.{each_every, each_mapped, map_joined, map_twice}, BindingChanges.of_moves, UnnumberedEntries.{logged_by, logged, plain_acts}}
 use Rattle.napt_account.proofs.Entries.{counted_end, counted_made, counted_binding, hold, hold_of, living}
 
 -- AN ENTRY AND A HOLDER

@@ -10,7 +10,7 @@ use Rattle.napt_binding.specs.Ends.{is_before}
 use Rattle.napt_table.specs.declared.TimedRow.{TimedRow}
 use Rattle.napt_account.specs.declared.{binding_tally.{BindingTally.BindingTally}, log.{Entry.Entry, LogEntry.LogEntry}, open_entries.{DueEntry.DueEntry, EntryKey.EntryKey, OpenEntry.OpenEntry}}
 use Rattle.napt_account.specs.{declared.open_entries.OpenEntries.OpenEntries, BindingTallies.{noted, no_use, open_of, use_found, tally_used}, Log.{LogModel, counted, shares, entry_is_of, use_entry, with_entry, with_use}}
-use Rattle.napt_account.{specs.LogParts.{IsNumbered, Rises, is_open}, proofs.{Entries.{counted_binding, counted_end, shares_itself}, InOrder.{each_has, has_left, has_parts}, Rising.{rises_differ, rises_mapped, rises_pushed, same_number}}}
+use Rattle.napt_account.{specs.LogParts.{IsNumbered, Rises, is_open}, proofs.{Entries.{counted_binding, counted_end, shares_itself}, EndOrderings.{each_has, has_left, has_parts}, AscendingNumbers.{rises_differ, rises_mapped, rises_pushed, same_number}}}
 use Rattle.napt_account.specs.OpenEntries.{entry_key, external_eq, open_at, entry_at, due_at, is_queued, entry_is_at, Has, IsPlaced, IsIndexed, IsIndexedBut, OpenEntriesShow}
 use Rattle.napt_laws.proofs.Lists.{each_weaker}
 

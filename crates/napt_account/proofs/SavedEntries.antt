@@ -6,7 +6,7 @@ use Rattle.napt_rules.specs.Prelude.{Each}
 use Rattle.napt_account.specs.declared.{log.LogEntry.LogEntry, open_entries.{DueEntry.DueEntry, EntryKey.EntryKey, OpenEntry.OpenEntry, OpenEntries.OpenEntries}}
 use Rattle.napt_account.specs.{Log.LogModel, LogParts.{IsNumbered, Rises, is_open, kept_at}}
 use Rattle.napt_account.specs.OpenEntries.{AreKeyed, Has, entry_key, external_eq, open_at, entry_at, is_queued, IsIndexed, IsIndexedBut, OpenEntriesShow}
-use Rattle.napt_account.proofs.{InOrder.{each_has, filter_has, has_left, has_parts}, Keyed.keyed_before}
+use Rattle.napt_account.proofs.{EndOrderings.{each_has, filter_has, has_left, has_parts}, DistinctKeys.keyed_before}
 use Rattle.napt_account.proofs.OpenEntries.{external_flip, external_itself, indexed_but, open_entry, under}
 
 module _ (ls : List LogEntry) (keyed : AreKeyed (map (λ l. l.entry.binding) ls)) (many : ℕ) where

@@ -11,7 +11,7 @@ use Rattle.napt_table.specs.{declared.TimedRow.TimedRow, TimedRows.timed_row}
 use Rattle.napt_translate.specs.CarriedPackets.{packet_carried}
 use Rattle.napt_sequential.specs.Traces.{passage_of_row, loss_of, passage_by}
 use Rattle.napt_account.specs.{declared.log.{Entry.Entry, LogEntry.LogEntry}, Log.{LogModel, first_entry, counted, entry_through, unnumbered, use_entry, with_use, after_leg, after_record}}
-use Rattle.napt_account.proofs.{Lists.{map_joined, map_twice}, Moves.of_moves}
+use Rattle.napt_account.proofs.{Lists.{map_joined, map_twice}, BindingChanges.of_moves}
 
 -- The entries after a leg: the binding that it made gets one, and that of the binding that it found changes.
 abbrev pub logged_by : Timers → Leg → Option BindingUse → List Entry → List Entry

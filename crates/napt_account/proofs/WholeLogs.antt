@@ -14,7 +14,7 @@ use Rattle.napt_account.specs.{declared.log.{Entry.Entry, LogEntry.LogEntry, Sho
 use Rattle.napt_account.specs.LogParts.{IsNumbered, LogDelta, ends_first, ends_within, in_order_of_end, is_after, is_open, placed}
 use Rattle.napt_account.specs.{ResumedLogRuns.part_of, WholeLogs.{ArePartsOfLog, PartsAreTheLog, parts_joined, origin}}
 use Rattle.napt_account.proofs.{Effects.step_turn, Entries.{counted_binding, counted_made}, FutureEnds.{LeavesOpen, turn_leaves}, Lists.{filter_agrees, filter_joined, filter_seen, map_agrees, map_joined, map_twice}}
-use Rattle.napt_account.proofs.GoingOn.{filter_twice, fold_joined, none_behind, numbered_all}
+use Rattle.napt_account.proofs.ContinuedLogs.{filter_twice, fold_joined, none_behind, numbered_all}
 
 -- LISTS
 

@@ -152,7 +152,7 @@ impl OpenEntries {
     }
 
     /// Returns what is kept of the log.
-    pub(crate) fn left(&self, alloc: Global) -> Result<OpenLog, AllocError>
+    pub(crate) fn to_open_log(&self, alloc: Global) -> Result<OpenLog, AllocError>
         ensures { (now most : ℕ) (log : LogModel) → OpenEntriesShow now most log self.now →
             IfOk result (λ left. left ≡ kept_at now log) }
     {

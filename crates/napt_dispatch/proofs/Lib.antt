@@ -4,7 +4,7 @@ pub mod RunThroughEnds
 pub mod Lanes
 pub mod LeftTranslators
 pub mod WorkerOffers
-pub mod Passing
+pub mod RunSteps
 pub mod QueueStates
 pub mod RunsThrough
 pub mod InvariantSteps

@@ -52,7 +52,7 @@ pub mod OwnBindings
 pub mod OwnStates
 pub mod Rows
 pub mod OneMoreInput
-pub mod GoingOn
+pub mod ContinuedRuns
 pub mod RunsAlike
 pub mod SavedStates
 pub mod EachLeg

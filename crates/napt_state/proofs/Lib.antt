@@ -1,10 +1,10 @@
-pub mod Accounting
+pub mod SavedAccounts
 pub mod FirstWords
-pub mod Ended
+pub mod EndedBindings
 pub mod Lines
-pub mod Reading
+pub mod LinesAhead
 pub mod Replay
 pub mod StandingBindings
 pub mod TakenBindings
-pub mod TakenUp
-pub mod Written
+pub mod RestoredBindings
+pub mod WrittenTexts

@@ -242,7 +242,7 @@ fn end_misfits_in(
                 return Err(AllocError);
             };
             many = more;
-            give_up(binding);
+            end_long_ago(binding);
         } else if goes_on(binding, config, held_at(config, clock)) {
             behind.insert(&binding.row)?;
         }
@@ -272,8 +272,8 @@ fn why_ended(
 }
 
 /// Makes a binding one that ended long ago.
-fn give_up(binding: &mut StateBinding)
-    ensures { binding.new ≡ ending.given_up binding.old }
+fn end_long_ago(binding: &mut StateBinding)
+    ensures { binding.new ≡ ending.ended_long_ago binding.old }
 {
     binding.last = 0;
     binding.flows.clear();

@@ -23,7 +23,7 @@ pub(crate) struct StateReader<R> {
     reader: R,
     line: Vec<u8>,
     /// The line as it is written.
-    again: String,
+    rewritten: String,
     /// The number of lines that have been read.
     lines: u64,
 }
@@ -38,7 +38,7 @@ impl<R: BufRead + Drop> StateReader<R> {
             alloc,
             reader,
             line: Vec::new(alloc),
-            again: String::new(alloc),
+            rewritten: String::new(alloc),
             lines: 0,
         }
     }
@@ -84,11 +84,11 @@ impl<R: BufRead + Drop> StateReader<R> {
         let Some(entry) = StateLine::read(text) else {
             return Err(reason_of(self.alloc, text));
         };
-        self.again.clear();
-        if entry.add_to(&mut self.again).is_err() {
+        self.rewritten.clear();
+        if entry.add_to(&mut self.rewritten).is_err() {
             return Err(StateReason::Memory);
         }
-        if self.again.as_str() == line {
+        if self.rewritten.as_str() == line {
             Ok(Some(entry))
         } else {
             Err(reason_of(self.alloc, text))

@@ -2,7 +2,7 @@
 use Rattle.std.proofs.Common.{length, ap, arith}
 use Rattle.napt_state.specs.StateFiles.{StateFileModel}
 use Rattle.napt_state.specs.declared.saved_bindings.SavedBinding.{SavedBinding}
-use Rattle.napt_state.proofs.Written.{finished, written_saved}
+use Rattle.napt_state.proofs.WrittenTexts.{finished, written_saved}
 use Rattle.napt_state.proofs.text.write_state.Goals as goal
 
 pub returns : goal.returns

@@ -4,7 +4,7 @@ use Rattle.std.specs.Option.{IfSome}
 use Rattle.napt_sequential.specs.declared.passage.{Passage.{Passage, TheVariants.{Nothing, Made, Out, In, Dropped}}, Trace.Trace}
 use Rattle.napt_account.specs.{declared.{legs.InputTally.InputTally, log.{Shortage.Shortage}}, BindingTallies.use_of, Effects.{IsNext, log_after}, Log.{LogModel, after_input, after_leg, shortages_by, shortages_in}}
 use Rattle.napt_account.specs.{LogBuilders.{IsBuilt, LogBuilderModel, built, built_from, taken_in}, OpenEntries.OpenEntriesShow, LogParts.{LogDelta, is_after, part_between}}
-use Rattle.napt_account.proofs.{GoingOn.{few_leg, fold_joined}, Lists.map_joined, WholeLogs.drop_joined}
+use Rattle.napt_account.proofs.{ContinuedLogs.{few_leg, fold_joined}, Lists.map_joined, WholeLogs.drop_joined}
 use Rattle.napt_account.proofs.log_builder.LogBuilder.enter.Goals as goal
 
 built_more : (begun : List (ℕ × LogModel)) (past : List (ℕ × Trace)) (n : ℕ) (effects : Trace) →

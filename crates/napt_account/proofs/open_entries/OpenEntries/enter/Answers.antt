@@ -1,7 +1,7 @@
 -- enter: both legs are recorded in turn, and the entries that they made are listed after both.
 use Rattle.std.proofs.Common.{◌≡◌, ℕ, ◌+◌, ◌++◌, List, refl, ◌∙◌, ap, subst, arith}
 use Rattle.napt_account.specs.{declared.{binding_tally.BindingTally.BindingTally, log.LogEntry.LogEntry}, BindingTallies.{both_uses, leg_use}, Log.{LogModel, after_input, after_leg}, MadeEntries.made_entry, OpenEntries.OpenEntriesShow}
-use Rattle.napt_account.proofs.{GoingOn.few_leg, MadeEntries.made_is}
+use Rattle.napt_account.proofs.{ContinuedLogs.few_leg, MadeEntries.made_is}
 use Rattle.napt_account.proofs.open_entries.OpenEntries.enter.Goals as goal
 
 pub record_leg-requires : goal.record_leg-requires

@@ -1,6 +1,6 @@
 -- make_ready: the dispatcher continues, whether it settles, has room at once or makes room.
 use Rattle.std.proofs.Common.{[]}
-use Rattle.napt_dispatch.proofs.Passing.{goes_none}
+use Rattle.napt_dispatch.proofs.RunSteps.{goes_none}
 use Rattle.napt_dispatch.proofs.dispatcher.Dispatcher.make_ready.Goals as goal
 
 pub returns-then-has_room-clause-state : goal.returns-then-has_room-clause-state

@@ -1,6 +1,6 @@
 -- take_all_available: the steps so far and the next worker's make one step.
 use Rattle.std.proofs.{Common.{sym, ◌∙◌, ap, ◌||◌}, lemmas.Result.err_from_is_err_and}
-use Rattle.napt_dispatch.proofs.{WorkerOffers.taken_more, Passing.continues_both, dispatcher.Dispatcher.take_all_available.Goals.{then-branch, else-branch}}
+use Rattle.napt_dispatch.proofs.{WorkerOffers.taken_more, RunSteps.continues_both, dispatcher.Dispatcher.take_all_available.Goals.{then-branch, else-branch}}
 use Rattle.napt_dispatch.proofs.Lanes.{halts_after}
 use Rattle.napt_dispatch.proofs.dispatcher.Dispatcher.take_all_available.Goals as goal
 

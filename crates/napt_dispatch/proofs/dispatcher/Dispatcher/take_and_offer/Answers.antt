@@ -1,5 +1,5 @@
 -- take_and_offer: taking answers and offering legs after that make one step.
-use Rattle.napt_dispatch.proofs.Passing.{continues_then}
+use Rattle.napt_dispatch.proofs.RunSteps.{continues_then}
 use Rattle.napt_dispatch.proofs.dispatcher.Dispatcher.take_and_offer.Goals as goal
 
 pub returns-then-take_freed-clause-state : goal.returns-then-take_freed-clause-state

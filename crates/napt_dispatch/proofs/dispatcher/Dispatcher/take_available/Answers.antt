@@ -1,6 +1,6 @@
 -- take_available: the steps so far and the next one make one step.
 use Rattle.std.proofs.{Common.rules, lemmas.Result.err_from_is_err_and}
-use Rattle.napt_dispatch.proofs.{WorkerOffers.taken_on, Passing.continues_both, Lanes.halts_after}
+use Rattle.napt_dispatch.proofs.{WorkerOffers.taken_on, RunSteps.continues_both, Lanes.halts_after}
 use Rattle.napt_dispatch.proofs.dispatcher.Dispatcher.take_available.Goals as goal
 
 pub returns-then-not-branch-clause-state : goal.returns-then-not-branch-clause-state

@@ -1,5 +1,5 @@
 -- wait_and_take: a pass without an answer changes nothing; one with an answer ends the wait.
-use Rattle.napt_dispatch.proofs.{WorkerOffers.taken_none, Passing.continues_both, Lanes.halts_after}
+use Rattle.napt_dispatch.proofs.{WorkerOffers.taken_none, RunSteps.continues_both, Lanes.halts_after}
 use Rattle.std.proofs.lemmas.Result.{err_from_is_err_and}
 use Rattle.napt_dispatch.proofs.dispatcher.Dispatcher.wait_and_take.Goals as goal
 

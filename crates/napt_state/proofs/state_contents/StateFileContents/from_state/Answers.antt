@@ -6,7 +6,7 @@ use Rattle.napt_account.specs.LogStarts.{account_in}
 use Rattle.napt_account.specs.declared.account.Account.{Account}
 use Rattle.napt_state.specs.declared.saved_bindings.SavedBinding.{SavedBinding}
 use Rattle.napt_state.specs.Saved.{saved_binding, saved_bindings}
-use Rattle.napt_state.proofs.TakenUp.{saved_long, saved_more, split_next}
+use Rattle.napt_state.proofs.RestoredBindings.{saved_long, saved_more, split_next}
 use Rattle.napt_state.proofs.state_contents.StateFileContents.from_state.Goals as goal
 
 pub loop-binding-preserved : goal.loop-binding-preserved

@@ -1,7 +1,7 @@
 -- restore: the state is taken if no binding misfits, and otherwise the first misfit is returned.
 use Rattle.std.proofs.Common.{◌∙◌, ap, sym, subst}
 use Rattle.napt_state.specs.Saved.{IsTaken, starting}
-use Rattle.napt_state.proofs.TakenUp.{taken_up, not_taken}
+use Rattle.napt_state.proofs.RestoredBindings.{taken_up, not_taken}
 use Rattle.napt_state.proofs.state_contents.StateFileContents.restore.Goals as goal
 use Rattle.napt_state.proofs.state_contents.StateFileContents.restore.Goals.{in-None, in-Some}
 

@@ -3,7 +3,7 @@ use Rattle.std.proofs.lemmas.{Bool.true≢false, Result.err_from_is_err_and}
 use Rattle.std.proofs.Common.{ℕ, ◌≡◌, List, Some, Ok, Err, IfOk, sym, ap, subst, inl, inr}
 use Rattle.napt_state.specs.declared.line.StateLine.{StateLine}
 use Rattle.napt_state.specs.{Saved.HasAccounts, StateContents.{IsFirstLine, IsReadAs}}
-use Rattle.napt_state.proofs.Reading.{AheadOf, ahead_next, none_next, can_follow, no_end, ahead_added, all_read, unless_weaker, taken_added, taken_all, earlier_read, no_earlier}
+use Rattle.napt_state.proofs.LinesAhead.{AheadOf, ahead_next, none_next, can_follow, no_end, ahead_added, all_read, unless_weaker, taken_added, taken_all, earlier_read, no_earlier}
 use Rattle.napt_state.proofs.state_reader.StateReader.saved.Goals as goal
 
 pub returns-in_err-line-clause-read : goal.returns-in_err-line-clause-read

@@ -2,7 +2,7 @@
 use Rattle.std.proofs.Common.{◌≡◌, ℕ, List, Some}
 use Rattle.napt_state.specs.StateFiles.{StateFileModel}
 use Rattle.napt_state.specs.{Saved.IsSaved, StateText.saved_text}
-use Rattle.napt_state.proofs.Reading.{IsAhead, Taken}
+use Rattle.napt_state.proofs.LinesAhead.{IsAhead, Taken}
 use Rattle.napt_state.proofs.state_reader.StateReader.saved.Given as goal
 
 abbrev pub invariant-loop : goal.invariant-loop

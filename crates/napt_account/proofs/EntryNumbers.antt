@@ -5,7 +5,7 @@ use Rattle.std.specs.{Ordering.nat_cmp, List.{AllByRecursion, IsDistinct, Sorted
 use Rattle.std.proofs.lemmas.{List.Sorted.{IsPermutation-sym}, Map.Keys.IsDistinct-IsPermutation}
 use Rattle.napt_rules.specs.Prelude.{Arrival, Each, State, initial_state, effect_from, purge, Rules}
 use Rattle.napt_account.specs.{declared.log.{Entry.Entry, LogEntry.LogEntry}, Log.{first_entry, begun_after, log_of, log_on, numbered_from}, LogParts.{IsNumbered, Rises}}
-use Rattle.napt_account.proofs.{InOrder.Differ, Rising.{rises_all, rises_differ, rises_from, sorted_rising}, Sorted.{has_back, has_moved}}
+use Rattle.napt_account.proofs.{EndOrderings.Differ, AscendingNumbers.{rises_all, rises_differ, rises_from, sorted_rising}, SortedLists.{has_back, has_moved}}
 
 -- MOVED, NO TWO HAVE ONE NUMBER
 

@@ -8,7 +8,7 @@ use Rattle.napt_rules.specs.Prelude.{Binding, act, LegAct, RunEffect, effect_the
 use Rattle.napt_laws.proofs.{OneMoreInput.run_append, Turns.{InTurn, run_turn}}
 use Rattle.napt_sequential.specs.declared.passage.Passage.{Passage}
 use Rattle.napt_account.specs.{declared.log.{LogEntry.LogEntry}, EndedEntries.EndedEntriesStay, Log.{LogModel, after_leg, after_record, log_on}, LogParts.is_open}
-use Rattle.napt_account.proofs.GoingOn.{fold_joined}
+use Rattle.napt_account.proofs.ContinuedLogs.{fold_joined}
 
 -- LISTS
 

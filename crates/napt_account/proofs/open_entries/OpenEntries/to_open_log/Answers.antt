@@ -1,7 +1,7 @@
 -- left: the entries, sorted by number, are the open entries of the log.
 use Rattle.std.{proofs.{Common.{List, [], subst, rules}, lemmas.List.Sorted.answers_always}, specs.List.Sorted.IsPermutation}
 use Rattle.napt_account.{specs.declared.log.LogEntry.LogEntry, proofs.EndOrder.left_is}
-use Rattle.napt_account.proofs.open_entries.OpenEntries.left.Goals as goal
+use Rattle.napt_account.proofs.open_entries.OpenEntries.to_open_log.Goals as goal
 
 pub returns : goal.returns
 returns c now most log shows =

@@ -7,7 +7,7 @@ use Rattle.napt_rules.specs.Prelude.{LegAct, Each, Timers}
 use Rattle.napt_laws.proofs.Lists.{each_weaker}
 use Rattle.napt_sequential.specs.declared.passage.Passage.{Passage, TheVariants.{Nothing, Made, Out, In, Dropped}}
 use Rattle.napt_account.specs.{declared.log.{Entry.Entry, LogEntry.LogEntry}, Log.{LogModel, after_leg, after_record, made_by, numbered_from, use_entry}, OpenEntries.Has, LogParts.{IsNumbered, Rises}}
-use Rattle.napt_account.proofs.{GoingOn.numbered_leg, InOrder.{Differ, InTurn, same_turn, each_has, has_each}, Sorted.sorted_turn}
+use Rattle.napt_account.proofs.{ContinuedLogs.numbered_leg, EndOrderings.{Differ, InTurn, same_turn, each_has, has_each}, SortedLists.sorted_turn}
 
 rises_less : (m n : ℕ) → m ≤ n → (ls : List LogEntry) → Rises n ls → Rises m ls
 rises_less m n le [] h = tt

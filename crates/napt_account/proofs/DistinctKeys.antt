@@ -7,7 +7,7 @@ use Rattle.napt_laws.proofs.TakenStates.{state_sound}
 use Rattle.napt_table.specs.{declared.TimedRow.TimedRow, TimedRows.timed_row}
 use Rattle.napt_account.specs.declared.open_entries.EntryKey.{EntryKey}
 use Rattle.napt_account.specs.{Log.LogModel, OpenEntries.{AreKeyed, Has, external_eq, entry_key}, ResumedLogRuns.{IsLogOf, timed_by}}
-use Rattle.napt_account.proofs.{Entries.{apart_differ, rows_purge}, InOrder.Along, Lists.map_twice, Moves.{AllDiffer, Differ, differ_kept}, OpenEntries.{external_flip, external_is}}
+use Rattle.napt_account.proofs.{Entries.{apart_differ, rows_purge}, EndOrderings.Along, Lists.map_twice, BindingChanges.{AllDiffer, Differ, differ_kept}, OpenEntries.{external_flip, external_is}}
 
 abbrev pub share : Row → Row → Bool
 share a b = external_eq (entry_key a) (entry_key b)

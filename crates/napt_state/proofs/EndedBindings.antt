@@ -8,7 +8,7 @@ use Rattle.napt_binding.specs.Ends.{end_by_protocol, is_before}
 use Rattle.napt_account.specs.declared.account.Account.{Account}
 use Rattle.napt_account.specs.{LogStarts.{SavedLogStateModel, accounted, are_accounts, are_apart, has_redirect, is_account, is_saved_log_state, resumed_entry, with_account}, LogParts.is_open, OpenEntries.{entry_key, external_eq}}
 use Rattle.napt_state.proofs.{StandingBindings.{going_on, dynamic_going}, TakenBindings.drop_before}
-use Rattle.napt_state.specs.EndedMisfits.{EndsMisfits, IsLate, before_fitting, misfits_in, ended_misfits, fitting, fitting_in, given_up, given_up_if, goes_on, one_if, why_ended, without_misfits}
+use Rattle.napt_state.specs.EndedMisfits.{EndsMisfits, IsLate, before_fitting, misfits_in, ended_misfits, fitting, fitting_in, ended_long_ago, ended_long_ago_if, goes_on, one_if, why_ended, without_misfits}
 
 -- ONE MORE BINDING
 
@@ -60,8 +60,8 @@ module _ (rules : Rules) (clock : ℕ) (b : Binding) (rest : List Binding) where
   ends_now = ends_by (goes_on rules.timers held b) refl
 
   pub ended_as : (m : Option Misfit) → why ≡ m →
-      ended_misfits rules clock (b ∷ rest) ≡ given_up_if m b ∷ ended_misfits rules clock rest
-  ended_as m is = ap (λ w. given_up_if w b ∷ ended_misfits rules clock rest) is
+      ended_misfits rules clock (b ∷ rest) ≡ ended_long_ago_if m b ∷ ended_misfits rules clock rest
+  ended_as m is = ap (λ w. ended_long_ago_if w b ∷ ended_misfits rules clock rest) is
 
   pub counted_as : (m : Option Misfit) → why ≡ m →
       misfits_in rules clock (b ∷ rest) ≡ one_if m + misfits_in rules clock rest
@@ -80,7 +80,7 @@ same_place l all left d some is = sym (get_or-take left l (left - 1) d (omega (a
     ∙ ap (λ (m : List Binding). get_or m (left - 1) d) is
     ∙ get_or-take left all (left - 1) d (omega (arith, some))
 
-pub taken_out : (m : Option Misfit) (b : Binding) → is_some m ≡ true → given_up b ≡ given_up_if m b
+pub taken_out : (m : Option Misfit) (b : Binding) → is_some m ≡ true → ended_long_ago b ≡ ended_long_ago_if m b
 taken_out (Some found) b is = refl
 taken_out None b is = absurd (true≢false (sym is))
 
@@ -109,7 +109,7 @@ module _ (rules : Rules) (clock : ℕ) (all list : List Binding) (left : ℕ) (b
   pub front_after : (x : Binding) → take (left - 1) (set list (left - 1) x) ≡ take (left - 1) all
   front_after x = take-set list (left - 1) x ∙ same_front list all left front
 
-  pub back_after : (x : Binding) → x ≡ given_up_if (why rules clock b (drop left all)) b →
+  pub back_after : (x : Binding) → x ≡ ended_long_ago_if (why rules clock b (drop left all)) b →
       drop (left - 1) (set list (left - 1) x) ≡ ended_misfits rules clock (drop (left - 1) all)
   back_after x is =
       let next : left - 1 + 1 ≡ left = omega (arith, some) in
@@ -174,7 +174,7 @@ held_is made clock before (kept ∷ more) =
     ∙ ap (λ b. is_account made clock kept.1
     && (not (list_any (λ other. not (are_far (held_of kept) other)) (map held_of before)) && b)) rest
 
-given_row : (m : Option Misfit) (b : Binding) → (given_up_if m b).row ≡ b.row
+given_row : (m : Option Misfit) (b : Binding) → (ended_long_ago_if m b).row ≡ b.row
 given_row None b = refl
 given_row (Some found) b = refl
 
@@ -227,14 +227,14 @@ past_by Tcp timers clock late row = grind (arith, nat_tests)
 
 module _ (rules : Rules) (clock : ℕ) (late : IsLate rules.timers clock) where
   gone_at : (b : Binding) (fixed : Bool) → b.row.fixed ≡ fixed →
-      goes_on rules.timers (hold_ago rules.timers clock) (given_up b) ≡ false
+      goes_on rules.timers (hold_ago rules.timers clock) (ended_long_ago b) ≡ false
   gone_at b true is = ap (λ v. not v && (v || is_live_by b.row.protocol rules.timers
-      (hold_ago rules.timers clock) (given_up b))) is
+      (hold_ago rules.timers clock) (ended_long_ago b))) is
   gone_at b false is = ap (λ v. not v && (v || is_live_by b.row.protocol rules.timers
-      (hold_ago rules.timers clock) (given_up b))) is
+      (hold_ago rules.timers clock) (ended_long_ago b))) is
       ∙ gone_by b.row.protocol rules.timers clock late b.row
 
-  gone : (b : Binding) → goes_on rules.timers (hold_ago rules.timers clock) (given_up b) ≡ false
+  gone : (b : Binding) → goes_on rules.timers (hold_ago rules.timers clock) (ended_long_ago b) ≡ false
   gone b = gone_at b b.row.fixed refl
 
   goes_as : (goes : Bool) (b : Binding) (list : List Binding) →
@@ -251,7 +251,7 @@ module _ (rules : Rules) (clock : ℕ) (late : IsLate rules.timers clock) where
       going_on rules.timers (hold_ago rules.timers clock) (ended_misfits rules clock rest)
       ≡ fitting_in rules clock rest → (m : Option Misfit) → why rules clock b rest ≡ m → (goes : Bool) →
       goes_on rules.timers (hold_ago rules.timers clock) b ≡ goes →
-      going_on rules.timers (hold_ago rules.timers clock) (given_up_if m b ∷ ended_misfits rules clock rest)
+      going_on rules.timers (hold_ago rules.timers clock) (ended_long_ago_if m b ∷ ended_misfits rules clock rest)
       ≡ fitting_in rules clock (b ∷ rest)
   step b rest so_far None is true goes = goes_as true b (ended_misfits rules clock rest) goes
       ∙ ap (λ (l : List Binding). with_live_flows rules.timers (hold_ago rules.timers clock) b ∷ l) so_far
@@ -259,7 +259,7 @@ module _ (rules : Rules) (clock : ℕ) (late : IsLate rules.timers clock) where
   step b rest so_far None is false goes = goes_as false b (ended_misfits rules clock rest) goes ∙ so_far
       ∙ sym (stays_away rules clock b rest goes)
   step b rest so_far (Some found) is goes on =
-      goes_as false (given_up b) (ended_misfits rules clock rest) (gone b) ∙ so_far
+      goes_as false (ended_long_ago b) (ended_misfits rules clock rest) (gone b) ∙ so_far
       ∙ sym (ends_now rules clock b rest found is)
 
   rest_fits : (list : List Binding) →
@@ -280,6 +280,6 @@ misfits_end rules are state late =
           ∙ fitting_fit rules state.clock (dynamic_bindings rules state);
       told = λ b loose account.
           ap (λ v. is_before state.clock (cond v (cond (has_redirect rules b.row) None (Some state.clock)) (cond v None
-          (Some (end_by_protocol b.row.protocol rules.timers (given_up b)))))) loose
+          (Some (end_by_protocol b.row.protocol rules.timers (ended_long_ago b)))))) loose
           ∙ past_by b.row.protocol rules.timers state.clock late b.row;
     }

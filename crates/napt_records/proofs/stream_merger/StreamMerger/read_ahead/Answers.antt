@@ -1,7 +1,7 @@
--- look: the next record of each side is known, or it has a fault.
+-- read_ahead: the next record of each side is known, or it has a fault.
 use Rattle.std.proofs.Common.{◌∙◌, refl, arith}
 use Rattle.napt_records.proofs.HandedInputs.{stops_inside, stops_outside}
-use Rattle.napt_records.proofs.stream_merger.StreamMerger.look.Goals as goal
+use Rattle.napt_records.proofs.stream_merger.StreamMerger.read_ahead.Goals as goal
 
 pub returns-in-Err-clause-looks : goal.returns-in-Err-clause-looks
 returns-in-Err-clause-looks g c live = record {
@@ -25,10 +25,10 @@ returns-in-Ok-clause-looks g c live = record {
   outside_stays = c.in-Ok.ensures.rest live.0.1;
 }
 
-pub returns-in-Err-look-clause-looks : goal.returns-in-Err-look-clause-looks
-returns-in-Err-look-clause-looks g c live = record {
+pub returns-in-Err-read_ahead-clause-looks : goal.returns-in-Err-read_ahead-clause-looks
+returns-in-Err-read_ahead-clause-looks g c live = record {
   inside_count = c.in_default.ensures.count live.0.0;
-  outside_count = c.in-Err-look.ensures.count live.0.1;
-  stops = stops_outside c.args.self.now c.look.new.self c.look.new.first c.in-Err-look.fault
-      c.in_default.ensures.told (c.in_default.ensures.rest live.0.0) (c.in-Err-look.ensures.fault live.0.1);
+  outside_count = c.in-Err-read_ahead.ensures.count live.0.1;
+  stops = stops_outside c.args.self.now c.read_ahead.new.self c.read_ahead.new.first c.in-Err-read_ahead.fault
+      c.in_default.ensures.told (c.in_default.ensures.rest live.0.0) (c.in-Err-read_ahead.ensures.fault live.0.1);
 }

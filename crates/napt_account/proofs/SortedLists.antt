@@ -3,7 +3,7 @@ use Rattle.std.proofs.Common.{◌≡◌, ℕ, zero, suc, ◌+◌, ◌<◌, inl, 
 use Rattle.std.specs.{declared.cmp.Ordering.Ordering, Ordering.is_lt}
 use Rattle.std.specs.List.{Contains, slice_index_or, Sorted.{IsPermutation, IsSortedByKey}}
 use Rattle.std.proofs.lemmas.List.Sorted.{Contains-permutation, IsPermutation-sym}
-use Rattle.napt_account.{specs.OpenEntries.Has, proofs.InOrder.{Along, InTurn, each_has, has_each}}
+use Rattle.napt_account.{specs.OpenEntries.Has, proofs.EndOrderings.{Along, InTurn, each_has, has_each}}
 
 -- A PERMUTATION HAS THE SAME ELEMENTS
 

@@ -1,8 +1,8 @@
--- look: the record that was read is the first of what is left, and a fault is that of what is left.
+-- read_ahead: the record that was read is the first of what is left, and a fault is that of what is left.
 use Rattle.std.proofs.lemmas.Result.{err_from_is_err_and}
 use Rattle.napt_capture.specs.{declared.{fault.CaptureFault.CaptureFault, reading.NextRead.NextRead}, RecordReaders.remaining_text}
 use Rattle.napt_records.proofs.ReaderRests.{StopsBy-says, held_refused, held_told, held_whole, untold}
-use Rattle.napt_records.proofs.stream.RecordStream.look.Goals as goal
+use Rattle.napt_records.proofs.stream.RecordStream.read_ahead.Goals as goal
 
 pub returns-in_err-record-clause-fault : goal.returns-in_err-record-clause-fault
 returns-in_err-record-clause-fault g c live =

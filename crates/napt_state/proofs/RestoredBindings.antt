@@ -7,7 +7,7 @@ use Rattle.napt_rules.specs.{Prelude.{AreTimers, Binding, Each, Timers, Protocol
 use Rattle.napt_binding.specs.Ends.{end_by_protocol, end_of}
 use Rattle.napt_account.specs.declared.account.Account.{Account}
 use Rattle.napt_account.specs.LogStarts.{account_in, accounted, are_accounts, is_saved_log_state, with_account}
-use Rattle.napt_state.proofs.Ended.{accounts_stay}
+use Rattle.napt_state.proofs.EndedBindings.{accounts_stay}
 use Rattle.napt_state.specs.StateFiles.{StateFileModel}
 use Rattle.napt_state.specs.declared.{saved_bindings.SavedBinding.SavedBinding, state_contents.TakenState.TakenState}
 use Rattle.napt_state.specs.declared.saved_bindings.SavedBinding.TheVariants as bindings
