@@ -210,7 +210,7 @@ impl<R: BufRead + Drop> StateReader<R> {
                     if counts.entries != Some(entries.len() as u64) {
                         return Err(StateReason::Counts);
                     }
-                    if !saved.join(self.alloc, &OpenLog { made, entries })? {
+                    if !saved.assign_accounts(self.alloc, &OpenLog { made, entries })? {
                         return Err(StateReason::Accounts);
                     }
                     let counts = LineCounts {
