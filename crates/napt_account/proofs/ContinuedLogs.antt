@@ -6,7 +6,7 @@ use Rattle.napt_wire.specs.declared.Way.{Way, TheVariants.{Outgoing, Incoming}}
 use Rattle.napt_binding.{proofs.FirstEnds.before_sooner}
 use Rattle.napt_table.specs.declared.TimedRow.{TimedRow}
 use Rattle.napt_rules.specs.Prelude.{Binding, Each, act, LegAct, Arrival, last_clock, State, effect_from, next_state, with_redirects, act_behind, RunsGoOn, SavedRunsGoOn, Rules, Timers}
-use Rattle.napt_laws.proofs.{OneMoreInput.{clock_on}, Lists.{filter_narrow, each_weaker, each_pushed}, Turns.{InTurn, run_turn}}
+use Rattle.napt_laws.proofs.{OneMoreInput.{clock_on}, Lists.{filter_narrow, each_weaker, each_pushed}, RunInduction.{InTurn, run_turn}}
 use Rattle.napt_sequential.specs.{declared.passage.Passage.{Passage, TheVariants.{Nothing, Made, Out, In, Dropped}}, Traces.passage_of}
 use Rattle.napt_account.specs.{declared.log.{Entry.Entry, LogEntry.LogEntry, Shortage.Shortage}, Log.{LogModel, counted, made_by, entry_through, use_entry, with_use, shortages_of, after_leg, after_record, log_on}}
 use Rattle.napt_account.specs.LogParts.{IsNumbered, ends_within, in_order_of_end, is_after, is_open, kept_at, part_between}

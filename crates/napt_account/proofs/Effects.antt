@@ -3,7 +3,7 @@ use Rattle.std.proofs.lemmas.{Grind.common_steps, Bool.Decides.nat_tests}
 use Rattle.std.proofs.Common.{◌≡◌, ℕ, ◌+◌, ◌≤◌, max, true, false, ◌&&◌, ◌||◌, cond, List, [], ◌∷◌, length, map, filter, Option, refl, sym, ◌∙◌, ap, subst, arith, append-nil}
 use Rattle.std.specs.List.{fold, list_any}
 use Rattle.napt_rules.specs.{declared.{Leg.Leg, Row.Row}, Prelude.{BindingUse, Binding, Each, source, kind, act, LegAct, Arrival, RunEffect, purge, row, step, run_from, Rules, AreTimers, Timers, Outgoing}}
-use Rattle.napt_laws.proofs.{FreshBindings.{IsFresh, fresh_purged}, OneMoreInput.step_one, Lists.find_passes, Turns.{IsTurn, InTurn, run_turn}}
+use Rattle.napt_laws.proofs.{FreshBindings.{IsFresh, fresh_purged}, OneMoreInput.step_one, Lists.find_passes, RunInduction.{IsTurn, InTurn, run_turn}}
 use Rattle.napt_binding.specs.Ends.{end_of, is_before, EndsAreFirst}
 use Rattle.napt_table.specs.TimedRows.{timed_row}
 use Rattle.napt_translate.specs.CarriedPackets.{packet_carried}

@@ -5,7 +5,7 @@ use Rattle.std.{specs.List.{fold, slice_get}, proofs.lemmas.Option.same_Some}
 use Rattle.napt_config.specs.Rules.{Rules}
 use Rattle.napt_binding.{specs.Ends.is_before, proofs.FirstEnds.before_sooner}
 use Rattle.napt_rules.specs.Prelude.{Binding, act, LegAct, RunEffect, effect_then, step, run_from, effect_from, last_clock}
-use Rattle.napt_laws.proofs.{OneMoreInput.run_append, Turns.{InTurn, run_turn}}
+use Rattle.napt_laws.proofs.{OneMoreInput.run_append, RunInduction.{InTurn, run_turn}}
 use Rattle.napt_sequential.specs.declared.passage.Passage.{Passage}
 use Rattle.napt_account.specs.{declared.log.{LogEntry.LogEntry}, EndedEntries.EndedEntriesStay, Log.{LogModel, after_leg, after_record, log_on}, LogParts.is_open}
 use Rattle.napt_account.proofs.ContinuedLogs.{fold_joined}

@@ -4,7 +4,7 @@ use Rattle.std.proofs.Common.{◌≡◌, ℕ, true, List, Option, Some, None, sy
 use Rattle.napt_rules.specs.Prelude.{Protocol, Way, Rules, AreTimers, Timers}
 use Rattle.napt_binding.{specs.Ends.{end_of, is_before, EndsAreFirst}}
 use Rattle.napt_rules.specs.{declared.{Leg.Leg, End.End}, Prelude.{BindingUse, Binding, purge, act, LegAct}}
-use Rattle.napt_laws.proofs.{FreshBindings.{IsFresh, fresh_purged}, Lists.find_passes, Turns.{IsTurn}}
+use Rattle.napt_laws.proofs.{FreshBindings.{IsFresh, fresh_purged}, Lists.find_passes, RunInduction.{IsTurn}}
 use Rattle.napt_sequential.specs.{declared.passage.Passage.{Passage, TheVariants.{Made, Out, In}}, Traces.{passage_by, passage_of}}
 use Rattle.napt_account.proofs.BindingChanges.{of_moves}
 

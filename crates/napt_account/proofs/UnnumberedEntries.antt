@@ -5,7 +5,7 @@ use Rattle.std.specs.List.{fold}
 use Rattle.napt_wire.specs.declared.{Protocol.Protocol, Way.{Way, TheVariants.{Outgoing, Incoming}}}
 use Rattle.napt_rules.specs.{declared.{Leg.Leg}, Prelude.{BindingUse, Binding, source, kind, act, LegAct, row, Rules, AreTimers, Timers}}
 use Rattle.napt_rules.specs.declared.End.{End, TheVariants.{ToOutside, ToInside, Onward, Dropped}}
-use Rattle.napt_laws.proofs.{Turns.{IsTurn, InTurn}}
+use Rattle.napt_laws.proofs.{RunInduction.{IsTurn, InTurn}}
 use Rattle.napt_binding.specs.Ends.{end_of}
 use Rattle.napt_table.specs.{declared.TimedRow.TimedRow, TimedRows.timed_row}
 use Rattle.napt_translate.specs.CarriedPackets.{packet_carried}

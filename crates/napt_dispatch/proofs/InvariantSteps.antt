@@ -17,7 +17,7 @@ use Rattle.napt_dispatch.specs.WorkerQueues.{WorkerQueueModel, unused_queue, que
 use Rattle.napt_dispatch.specs.RunProgresses.{RunProgressModel, RunLegs, whole_of, progress_in, times_in, is_incoming, departed_with, passages_after, progress_refused, refused_at, second_leg_asked_by, first_by, NoneBehind, ProgressIsKnown, AllKnown}
 use Rattle.napt_dispatch.specs.DispatcherInvariants.{PoolGrows, Lane, DispatcherModel, state_with, dispatcher_state, LaneStands, resolved_legs, lane_legs, IsRight, AreRight, DispatcherReaches, DispatcherInvariant, DispatcherKeeps, Admits, Resolves, queue_waits, DispatcherIsDone}
 use Rattle.napt_dispatch.proofs.{DispatchEnds.map_at, Lanes.{fronts_both, place_within}, QueueStates.{queue_own, queue_other, length_with, nothing, of_replicate}}
-use Rattle.napt_dispatch.proofs.Windows.{known_set, returning_known, ended_known, second_known, left_front, left_whole, timed_outcomes, departed_long, departed_outcomes}
+use Rattle.napt_dispatch.proofs.KnownInputs.{known_set, returning_known, ended_known, second_known, left_front, left_whole, timed_outcomes, departed_long, departed_outcomes}
 use Rattle.napt_dispatch.specs.declared.dispatcher.holding.QueueHead.TheVariants as fronts
 use Rattle.napt_laws.specs.{Dispatching.{IsFrontOf, outcome_of_end, OutcomeIsGiven, IsEndForeseen, OnwardIsForeseen}, SecondLegs.{first_act, second_legs, second_of, IsSeconded}}
 use Rattle.napt_laws.proofs.{DispatchLaws.answers_tell, OneMoreInput.outcomes_long, OneInput.{acts_begin, outcomes_begin, get_at, grown}}

@@ -8,4 +8,4 @@ pub mod RunSteps
 pub mod QueueStates
 pub mod RunsThrough
 pub mod InvariantSteps
-pub mod Windows
+pub mod KnownInputs

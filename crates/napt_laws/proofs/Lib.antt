@@ -13,7 +13,7 @@ pub mod Endpoints
 -- STEPS: the list of bindings at the start, and what a packet does to it
 
 pub mod HeldNumbers
-pub mod Passes
+pub mod StepCases
 pub mod Shuffles
 pub mod AlikeLists
 pub mod StepRows
@@ -38,8 +38,8 @@ pub mod LegsLocal
 pub mod BindingUseLaws
 -- RUNS
 
-pub mod AnyStep
-pub mod Turns
+pub mod StepProperties
+pub mod RunInduction
 pub mod RunsBeside
 pub mod Routes
 pub mod RunsLocal
@@ -55,7 +55,7 @@ pub mod OneMoreInput
 pub mod ContinuedRuns
 pub mod RunsAlike
 pub mod SavedStates
-pub mod EachLeg
+pub mod LegInduction
 pub mod DispatchLaws
 pub mod OneInput
 pub mod Places

@@ -4,7 +4,7 @@ use Rattle.std.proofs.Common.{rules, ◌≡◌, ℕ, zero, suc, ◌+◌, ◌<◌
 use Rattle.std.{specs.Prelude.{Result, Ok, Err, OnOk, IfOk, IfErr, MatchResult, Contains, replicate}, proofs.lemmas.List.{length-map, nil_from_length}}
 use Rattle.std.{specs.Vec.Iter.{into_iter_items, into_iter_len}}
 use Rattle.napt_pool.specs.declared.{fault.{PoolFault.PoolFault, WorkerFault.{WorkerFault, TheVariants.{Memory, GateShut, Ring}}}, machine.Machine.Ghosts}
-use Rattle.napt_pool.{specs.declared.{closing.{ClosingWorker.ClosingWorker, Ended.Ended}, message.Reply.TheVariants.Failed, pool.Pool.Pool}, proofs.Steps.map-snoc}
+use Rattle.napt_pool.{specs.declared.{closing.{ClosingWorker.ClosingWorker, Ended.Ended}, message.Reply.TheVariants.Failed, pool.Pool.Pool}, proofs.HistorySteps.map-snoc}
 use Rattle.napt_pool.specs.{declared.thread_state.ThreadState.ThreadState, Faults.{is_shut, is_gate_shut, fault_of, IsFaultOf, IsFaultUpTo, IsLeastFault}}
 use Rattle.napt_pool.specs.Histories.{after, replies, ArePrefixesOf}
 use Rattle.napt_pool.specs.Workers.{IsEnd, AreEnds, closing_machine, closing_thread_state, closing_accepted, closing_taken, closing_heard}

@@ -1,7 +1,7 @@
 -- serve: the new input is unmarked, and after it the invariant holds with one more input.
 use Rattle.std.proofs.{Common.{◌≡◌, ◌∙◌, ap}, lemmas.Result.err_from_is_err_and}
 use Rattle.napt_rules.specs.Prelude.{Arrival, way_from}
-use Rattle.napt_dispatch.{specs.RunProgresses.progress_expecting, proofs.{Lanes.{grows_none, halts_after}, RunSteps.{serves_as, continues_both}, Windows.expecting_unmarked}}
+use Rattle.napt_dispatch.{specs.RunProgresses.progress_expecting, proofs.{Lanes.{grows_none, halts_after}, RunSteps.{serves_as, continues_both}, KnownInputs.expecting_unmarked}}
 use Rattle.napt_dispatch.proofs.dispatcher.Dispatcher.serve.Goals as goal
 
 pub admit-requires-clause-open : goal.admit-requires-clause-open

@@ -1,6 +1,6 @@
 -- hand_over: each result that leaves the window is written, or the sink fails with it.
 use Rattle.std.proofs.Common.{ℕ, [], ◌∷◌, ◌++◌, refl}
-use Rattle.napt_dispatch.{specs.declared.outcome_sink.InputResult.InputResult, proofs.Windows.{over_more, leaves_over}}
+use Rattle.napt_dispatch.{specs.declared.outcome_sink.InputResult.InputResult, proofs.KnownInputs.{over_more, leaves_over}}
 use Rattle.napt_dispatch.proofs.dispatcher.run_progress.RunProgress.hand_over.Goals as goal
 
 pub loop-self-preserved : goal.loop-self-preserved

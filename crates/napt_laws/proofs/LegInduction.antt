@@ -2,7 +2,7 @@
 use Rattle.std.proofs.Common.{ℕ, ◌+◌, max, Option, List, [], ◌∷◌, ◌++◌}
 use Rattle.napt_rules.specs.Prelude.{BindingUse, Binding, Each, LegEffect, act, Arrival, LegAct, RunEffect, effect_then, with_second_leg, first_leg, step, run_from, Rules}
 use Rattle.napt_rules.specs.declared.{Leg.Leg, End.End}
-use Rattle.napt_laws.proofs.{AnyStep.of_step, OneMoreInput.{IsOfOne, step_one}}
+use Rattle.napt_laws.proofs.{StepProperties.of_step, OneMoreInput.{IsOfOne, step_one}}
 
 -- `Here` is the property in the effect of one input, `From` that in the effect of inputs from a number on.
 module _ (rules : Rules) (Here From : ℕ → RunEffect → LegAct → Type 0)
