@@ -142,7 +142,7 @@ fn start_under<'a, R: Eprint + AllocGlobal>(
 ) -> Result<RunStart<'a>, Exit> {
     let path = options.files.resume.as_ref();
     let path = path.map_or("", |path| path.as_str());
-    match saved.take_up(rt.alloc(), config, options.ends_misfits)? {
+    match saved.restore(rt.alloc(), config, options.ends_misfits)? {
         Ok(TakenState { state, log, ended }) => {
             if !log.is_valid(rt.alloc(), &state)? {
                 return Err(refusals::print_accounts(rt, path));

@@ -118,7 +118,7 @@ fn saved_state(
     ensures stop { IfErr result (λ stop. stop ≡ MEMORY) }
 {
     match passed.into_state_if(is_saved, alloc)? {
-        Some(state) => Ok(Some(StateFileContents::of(alloc, config, state, None)?)),
+        Some(state) => Ok(Some(StateFileContents::from_state(alloc, config, state, None)?)),
         None => Ok(None),
     }
 }

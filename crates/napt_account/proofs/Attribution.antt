@@ -3,10 +3,10 @@ use Rattle.std.{proofs.Common.{◌≡◌, ℕ, suc, ◌+◌, ◌<◌, ◌≤◌,
 use Rattle.std.{specs.List.{fold, Sorted.IsPermutation}, proofs.lemmas.List.Sorted.{IsPermutation-map, list_any-IsPermutation}}
 use Rattle.napt_rules.specs.Prelude.{AlikeStatesGoOn, TakenStatesAreSound, Arrival, Binding, IsSound, LegAct, RunEffect, State, effect_from, effect_then, hold_ago, is_live, last_clock, live_and_held, next_state, pair_of, purge, row, run_from, step, with_redirects, Rules, RulesInvariant, Timers}
 use Rattle.napt_rules.specs.declared.Row.{Row}
-use Rattle.napt_laws.proofs.{AlikeLists.alike_later, OneMoreInput.run_append, Purges.purge_purge, Turns.run_turn}
+use Rattle.napt_laws.proofs.{AlikeLists.alike_later, OneMoreInput.run_append, Purges.purge_purge, RunInduction.run_turn}
 use Rattle.napt_account.specs.{declared.log.Entry.Entry, Log.{LogModel, after_record, log_on, stands_at, unnumbered}, ResumedLogRuns.IsLogOf}
 use Rattle.napt_account.specs.Attribution.{AreInOrderOf, IsBeforeNext, has_ends, LogNamesTheHolders, LogListsTheLiving}
-use Rattle.napt_account.proofs.{Comes.{goes, other, tells, tells_state}, Lists.{any_seen_of, any_among}, GoingOn.fold_joined, Plain.{logged, plain_acts}}
+use Rattle.napt_account.proofs.{InputEffects.{goes, other, tells, tells_state}, Lists.{any_seen_of, any_among}, ContinuedLogs.fold_joined, UnnumberedEntries.{logged, plain_acts}}
 use Rattle.napt_account.proofs.Entries.{Tells, living, named, tells_later, named_now, rows_purge, told_turn, past_turn}
 use Rattle.napt_binding.proofs.FirstEnds.{ends_are_first}
 

@@ -3,18 +3,18 @@ use Rattle.std.proofs.lemmas.{Grind.common_steps, Bool.Decides.nat_tests}
 use Rattle.std.proofs.Common.{◌≡◌, ℕ, ◌+◌, ◌≤◌, max, true, false, ◌&&◌, ◌||◌, cond, List, [], ◌∷◌, length, map, filter, Option, refl, sym, ◌∙◌, ap, subst, arith, append-nil}
 use Rattle.std.specs.List.{fold, list_any}
 use Rattle.napt_rules.specs.{declared.{Leg.Leg, Row.Row}, Prelude.{BindingUse, Binding, Each, source, kind, act, LegAct, Arrival, RunEffect, purge, row, step, run_from, Rules, AreTimers, Timers, Outgoing}}
-use Rattle.napt_laws.proofs.{FreshBindings.{IsFresh, fresh_purged}, OneMoreInput.step_one, Lists.find_passes, Turns.{IsTurn, InTurn, run_turn}}
+use Rattle.napt_laws.proofs.{FreshBindings.{IsFresh, fresh_purged}, OneMoreInput.step_one, Lists.find_passes, RunInduction.{IsTurn, InTurn, run_turn}}
 use Rattle.napt_binding.specs.Ends.{end_of, is_before, EndsAreFirst}
 use Rattle.napt_table.specs.TimedRows.{timed_row}
 use Rattle.napt_translate.specs.CarriedPackets.{packet_carried}
 use Rattle.napt_wire.specs.declared.{Protocol.Protocol, Way.{Way, TheVariants.Incoming}}
 use Rattle.napt_rules.specs.declared.End.{End}
 use Rattle.napt_sequential.specs.declared.passage.{Trace.Trace}
-use Rattle.napt_sequential.specs.Traces.{gone_through, loss_of, passage_by, passage_of, first_passage, second_passage, traces_from}
+use Rattle.napt_sequential.specs.Traces.{passage_of_row, loss_of, passage_by, passage_of, first_passage, second_passage, traces_from}
 use Rattle.napt_account.specs.{declared.log.{Entry.Entry, LogEntry.LogEntry}, Log.{LogModel, after_input, after_leg, after_record, entry_is_of, log_on, shares, unnumbered}, Effects.{CanCome, EffectsAreTheLog}}
-use Rattle.napt_account.proofs.{GoingOn.fold_joined, Lists.{any_seen_of, map_twice}, Moves.{Differ, of_moves}}
+use Rattle.napt_account.proofs.{ContinuedLogs.fold_joined, Lists.{any_seen_of, map_twice}, BindingChanges.{Differ, of_moves}}
 use Rattle.napt_account.proofs.Entries.{Tells, hold, hold_of, is_open, binding_of, differ_back, purge_holds, tells_later, told_turn}
-use Rattle.napt_account.proofs.Plain.{plain_act}
+use Rattle.napt_account.proofs.UnnumberedEntries.{plain_act}
 
 -- BY THE EFFECTS
 
@@ -86,7 +86,7 @@ idle_comes : (now : ℕ) (log : LogModel) (carried : Option Protocol) (host : �
 idle_comes now log carried host end = grind (arith, common_steps, nat_tests)
 
 found_comes : (timers : Timers) (now : ℕ) (log : LogModel) (way : Way) (b : Binding) →
-    is_before now (end_of timers b) ≡ true → CanCome now log (gone_through way false (timed_row timers b))
+    is_before now (end_of timers b) ≡ true → CanCome now log (passage_of_row way false (timed_row timers b))
 found_comes timers now log Outgoing b opens = opens
 found_comes timers now log Incoming b opens = opens
 
@@ -114,7 +114,7 @@ module _ (ends : EndsAreFirst) (rules : Rules) (t : AreTimers rules.timers) (add
       (new_open (f b) (keeps b (find_passes p (IsFresh rules.timers leg.now) own b
       (fresh_purged rules.timers leg.now list) found).1)))
       (λ new out is others. subst (λ (way : Way). CanCome leg.now log
-      (gone_through way true (timed_row rules.timers new)))
+      (passage_of_row way true (timed_row rules.timers new)))
       (sym out) (
         new_open new is,
         sym (any_seen_of (entry_is_of leg.now (row new)) (λ (n : LogEntry). n.entry) log.entries)

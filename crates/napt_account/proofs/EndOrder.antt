@@ -5,11 +5,11 @@ use Rattle.std.specs.{Prelude.{filter, not}, Ordering.nat_cmp, List.{AllByRecurs
 use Rattle.std.{specs.{Map.{lookup, keys_of, values_of}, Ordering.is_lt, HashMap.IsUnique}, proofs.lemmas.Bool.{and_parts, and_from, eq-eqb}}
 use Rattle.std.proofs.lemmas.{Map.Keys.IsDistinct-IsPermutation, Option.same_Some}
 use Rattle.napt_rules.specs.Prelude.{Each}
-use Rattle.napt_account.specs.declared.{log.LogEntry.LogEntry, open_entries.{DueEntry.DueEntry, EntryKey.EntryKey, Open.Open, OpenEntries.OpenEntries}}
+use Rattle.napt_account.specs.declared.{log.LogEntry.LogEntry, open_entries.{DueEntry.DueEntry, EntryKey.EntryKey, OpenEntry.OpenEntry, OpenEntries.OpenEntries}}
 use Rattle.napt_account.specs.OpenEntries.{entry_key, end_key_of, end_key, external_eq, end_cmp, open_at, entry_at, is_queued, entry_is_at, kept, Has, IsIndexed, OpenEntriesShow}
 use Rattle.napt_account.specs.{Log.LogModel, LogParts.{is_open, ends_within, ends_first, in_order_of_end}}
-use Rattle.napt_account.proofs.InOrder.{Differ, InOrder, differ_filter, each_has, has_each, has_left, has_parts, has_filter, filter_has, first_then, is_order}
-use Rattle.napt_account.proofs.{Rising.{rises_differ, rises_filter, same_number, sorted_rising}, Sorted.{has_back, has_moved, sorted_turn}}
+use Rattle.napt_account.proofs.EndOrderings.{Differ, InOrder, differ_filter, each_has, has_each, has_left, has_parts, has_filter, filter_has, first_then, is_order}
+use Rattle.napt_account.proofs.{AscendingNumbers.{rises_differ, rises_filter, same_number, sorted_rising}, SortedLists.{has_back, has_moved, sorted_turn}}
 use Rattle.napt_account.proofs.OpenEntries.{due_of, external_is, external_itself, external_flip, under, entry_open, open_entry}
 
 -- A LIST THAT IS SORTED
@@ -78,25 +78,25 @@ module _ (now most : ℕ) (log : LogModel) (all : OpenEntries) (shows : OpenEntr
 
 -- WHAT IS KEPT
 
-abbrev of_open : Open → LogEntry
+abbrev of_open : OpenEntry → LogEntry
 of_open o = o.numbered
 
 -- An entry that is found is in the list.
-found_has : (test : EntryKey → Bool) (es : List (EntryKey × Open)) (o : Open) → lookup test es ≡ Some o →
+found_has : (test : EntryKey → Bool) (es : List (EntryKey × OpenEntry)) (o : OpenEntry) → lookup test es ≡ Some o →
     Has (map of_open (values_of es)) o.numbered
 found_has test [] o h = cc
 found_has test (e ∷ es) o h = elim (test e.0) as (λ v. cond v (Some e.1) (lookup test es) ≡ Some o →
     (e.1.numbered ≡ o.numbered) ⊎ Has (map of_open (values_of es)) o.numbered)
     [ true ↦ λ g. inl (ap of_open (same_Some e.1 o g)) | false ↦ λ g. inr (found_has test es o g) ] h
 
-value_at : (P : EntryKey → LogEntry → Type 0) (es : List (EntryKey × Open)) → Each (λ f. P f.0 f.1.numbered) es →
+value_at : (P : EntryKey → LogEntry → Type 0) (es : List (EntryKey × OpenEntry)) → Each (λ f. P f.0 f.1.numbered) es →
     (l : LogEntry) → Has (map of_open (values_of es)) l → (x : EntryKey) × P x l
 value_at P [] each l h = absurd h
 value_at P (e ∷ es) each l (inl is) = (e.0, subst (P e.0) is each.0)
 value_at P (e ∷ es) each l (inr h) = value_at P es each.1 l h
 
 -- Each entry of a list whose keys differ is found.
-found_later : (e : EntryKey × Open) (all es : List (EntryKey × Open)) →
+found_later : (e : EntryKey × OpenEntry) (all es : List (EntryKey × OpenEntry)) →
     AllByRecursion (λ k. external_eq e.0 k ≡ false) (keys_of es) →
     Each (λ f. lookup (external_eq f.0) all ≡ Some f.1) es →
     Each (λ f. lookup (external_eq f.0) (e ∷ all) ≡ Some f.1) es
@@ -104,7 +104,7 @@ found_later e all [] apart found = tt
 found_later e all (f ∷ es) apart found =
     grind (arith, common_steps, nat_tests, external_flip, found_later e all es apart.1 found.1)
 
-found_each : (es : List (EntryKey × Open)) → IsDistinct external_eq (keys_of es) →
+found_each : (es : List (EntryKey × OpenEntry)) → IsDistinct external_eq (keys_of es) →
     Each (λ f. lookup (external_eq f.0) es ≡ Some f.1) es
 unfolding IsDistinct
 found_each [] distinct = tt
@@ -113,7 +113,7 @@ found_each (e ∷ es) distinct = (
   found_later e es es distinct.0 (found_each es distinct.1),
 )
 
-values_apart : (e : EntryKey × Open) (es : List (EntryKey × Open)) →
+values_apart : (e : EntryKey × OpenEntry) (es : List (EntryKey × OpenEntry)) →
     e.0 ≡ entry_key e.1.numbered.entry.binding →
     Each (λ f. f.0 ≡ entry_key f.1.numbered.entry.binding) es →
     AllByRecursion (λ k. external_eq e.0 k ≡ false) (keys_of es) →
@@ -121,7 +121,7 @@ values_apart : (e : EntryKey × Open) (es : List (EntryKey × Open)) →
 values_apart e [] is placed apart = tt
 values_apart e (f ∷ es) is placed apart = grind (arith, common_steps, nat_tests, values_apart e es is placed.1 apart.1)
 
-kept_apart : (es : List (EntryKey × Open)) → IsDistinct external_eq (keys_of es) →
+kept_apart : (es : List (EntryKey × OpenEntry)) → IsDistinct external_eq (keys_of es) →
     Each (λ f. f.0 ≡ entry_key f.1.numbered.entry.binding) es → Apart (map of_open (values_of es))
 unfolding IsDistinct
 kept_apart [] distinct placed = tt
@@ -189,7 +189,7 @@ none_due now fits all indexed later x l at =
       | None ↦ λ e. fits
       | Some time ↦ λ e. later (record { at = time; key = x })
           (indexed.queued (record { at = time; key = x })
-          ∙ (ap (λ (v : Option Open). entry_is_at (due_of v) time) o.1
+          ∙ (ap (λ (v : Option OpenEntry). entry_is_at (due_of v) time) o.1
           ∙ (ap (λ due. entry_is_at due time) e ∙ eq-eqb time time refl)))
     ] refl))
 

@@ -5,11 +5,11 @@ use Rattle.std.{specs.{Prelude.{filter, find, nat_le}, List.fold}, proofs.lemmas
 use Rattle.napt_rules.specs.Prelude.{BindingUse, Binding, Each, change_first, is_live, with_live_flows, purge, row, act, LegAct, AreBindingsApart, Way, Outgoing, Incoming, Rules, AreTimers, Timers}
 use Rattle.napt_rules.{specs.declared.{Row.Row, Leg.Leg}, proofs.{Lists.{each_filter, filter_all}, Life.lived}}
 use Rattle.napt_laws.proofs.Lists.{filter_narrow, find_passes, each_weaker, each_pushed}
-use Rattle.napt_laws.proofs.{Endpoints.{protocol_is, end_is, same_itself, end_itself}, FreshBindings.{IsFresh, fresh_purged}, Turns.InTurn}
+use Rattle.napt_laws.proofs.{Endpoints.{protocol_is, end_is, same_itself, end_itself}, FreshBindings.{IsFresh, fresh_purged}, RunInduction.InTurn}
 use Rattle.napt_binding.{specs.Ends.{end_of, is_before, EndsAreFirst}, proofs.FirstEnds.{before_sooner, end_without_dead}}
 use Rattle.napt_account.specs.{declared.log.Entry.Entry, Log.{first_entry, shares, counted, entry_through, stands_at}}
 use Rattle.napt_account.proofs.Lists.{filter_seen, filter_agrees, filter_agrees_each, filter_joined, map_joined, map_twice, map_agrees, each_mapped, each_shown}
-use Rattle.napt_account.proofs.{Moves.{Differ, AllDiffer, differ_kept, differ_act, of_moves}, Plain.{logged_by, logged}}
+use Rattle.napt_account.proofs.{BindingChanges.{Differ, AllDiffer, differ_kept, differ_act, of_moves}, UnnumberedEntries.{logged_by, logged}}
 
 abbrev pub living : Timers → ℕ → List Binding → List Binding
 living timers now list = filter (is_live timers now) list

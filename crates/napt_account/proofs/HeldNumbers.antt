@@ -8,13 +8,13 @@ use Rattle.napt_wire.specs.declared.{Protocol.Protocol, Flags.Flags, Kind.{Kind,
 use Rattle.napt_rules.specs.Prelude.{BindingUse, Binding, Each, same_protocol, same_endpoint, is_live, with_live_flows, hold_ago, live_and_held, assignment_rules, inbound_rules, outbound_packet, inbound_packet, no_flags, served_at, LegEffect, act, act_out, act_in, act_by, Arrival, LegAct, RunEffect, State, TakenStatesAreSound, AlikeStatesGoOn, effect_from, row, AreRowsApart, AreBindingsApart, IsNumber, IsSound, Inside, source, kind, local_of, local_end, is_error, CanCarry, reading, PacketsCarryNumbers, pair_of, last_clock, with_redirects, Rules, RulesInvariant, AreTimers, Timers}
 use Rattle.napt_rules.{specs.declared.{Row.Row, Leg.Leg, OutboundPacket.OutboundPacket, InboundPacket.InboundPacket}, proofs.{Life.lived, Lists.each_filter}}
 use Rattle.napt_laws.specs.HoldTimes.{Holder, HaveSameEnds, have_same_ends, holder_after, holders_after, AreHoldersApart as HoldersApart, HoldersStayApart as AllHoldersApart, HasOne, HolderCoversBinding, IsAccounted, AreBindingsAccounted}
-use Rattle.napt_laws.proofs.{Accounts.{taken_accounted, out_keeps_accounts, in_keeps_accounts}, SeenElements.{ago_before, ago_later, purge_taken}}
-use Rattle.napt_laws.proofs.{StepsSound.{purge_stays_sound, out_stays_sound, in_stays_sound}, HeldNumbers.each_rows, Lists.{each_append, each_weaker}, Shuffles.{apart_moved, each_moved, filter_moved}, Turns.{IsServed, InTurn, run_turn}}
+use Rattle.napt_laws.proofs.{HoldTimes.{taken_accounted, out_keeps_accounts, in_keeps_accounts}, SeenElements.{ago_before, ago_later, purge_taken}}
+use Rattle.napt_laws.proofs.{StepsSound.{purge_stays_sound, out_stays_sound, in_stays_sound}, HeldNumbers.each_rows, Lists.{each_append, each_weaker}, Shuffles.{apart_moved, each_moved, filter_moved}, RunInduction.{IsServed, InTurn, run_turn}}
 use Rattle.napt_laws.proofs.Endpoints.{protocol_is, same_itself, end_itself, end_is}
 use Rattle.napt_binding.{specs.Ends.{end_of, is_before, EndsAreFirst}, proofs.FirstEnds.before_sooner}
 use Rattle.napt_account.specs.{declared.log.{Entry.Entry, LogEntry.LogEntry}, Log.{LogModel, after_record, first_entry, shares, counted, entry_through, unnumbered, log_on}, ResumedLogRuns.IsLogOf}
 use Rattle.napt_account.specs.HeldNumbers.{AreEntriesApart, EntriesStayApart, HeldNumbersHaveOneHolder, held_bindings}
-use Rattle.napt_account.proofs.{Comes.{goes, order, other, other_sound}, Lists.{each_every, each_mapped, map_joined, map_twice}, Moves.of_moves, Plain.{logged_by, logged, plain_acts}}
+use Rattle.napt_account.proofs.{InputEffects.{goes, order, other, other_sound}, Lists.{each_every, each_mapped, map_joined, map_twice}, BindingChanges.of_moves, UnnumberedEntries.{logged_by, logged, plain_acts}}
 use Rattle.napt_account.proofs.Entries.{counted_end, counted_made, counted_binding, hold, hold_of, living}
 
 -- AN ENTRY AND A HOLDER

@@ -12,9 +12,9 @@ use Rattle.napt_table.specs.{declared.TimedRow.TimedRow, TimedRows.timed_row}
 use Rattle.napt_account.specs.declared.{account.Account.Account, log.{Entry.Entry, LogEntry.LogEntry}}
 use Rattle.napt_account.specs.{Attribution.has_ends, Log.{LogModel, first_entry, numbered_from, shares, unused_entry}, LogBuilders.IsStart, LogParts.{IsNumbered, Rises, is_open}}
 use Rattle.napt_account.specs.{LogStarts.{NumbersDiffer, SavedLogStateModel, are_accounts, are_apart, accounted, continued_entries, empty_state, has_entry, has_redirect, in_order_of_number, StartedLogsAreOfTheirStates, StartedLogsBeginAnew, is_account, is_saved_log_state, log_started, most_saved, new_entries, no_saved_log, placed_by_number, resumed_end, resumed_entries, resumed_entry, unlisted_rows}, OpenEntries.{Has, entry_key, external_eq}, ResumedLogRuns.{IsLogOf, timed_by}}
-use Rattle.napt_account.proofs.InOrder.{Along, Differ, differ_filter, each_has, filter_has, has_each, has_filter, has_left, has_parts}
-use Rattle.napt_account.proofs.{Entries.shares_itself, Keyed.{keyed_along, live_keyed, log_keyed, share, share_flip}, Lists.{each_mapped, map_joined, map_twice}, LiveRows.{is_loose, live_all, live_of}, Numbers.{differ_moved, within_from}, OpenEntries.{any_has, external_itself, key_shares}, Rising.{rises_from, sorted_rising}}
-use Rattle.napt_account.proofs.Sorted.{has_back, has_moved}
+use Rattle.napt_account.proofs.EndOrderings.{Along, Differ, differ_filter, each_has, filter_has, has_each, has_filter, has_left, has_parts}
+use Rattle.napt_account.proofs.{Entries.shares_itself, DistinctKeys.{keyed_along, live_keyed, log_keyed, share, share_flip}, Lists.{each_mapped, map_joined, map_twice}, LiveRows.{is_loose, live_all, live_of}, EntryNumbers.{differ_moved, within_from}, OpenEntries.{any_has, external_itself, key_shares}, AscendingNumbers.{rises_from, sorted_rising}}
+use Rattle.napt_account.proofs.SortedLists.{has_back, has_moved}
 
 -- IN ORDER OF NUMBER
 

@@ -5,7 +5,7 @@ use Rattle.napt_rules.specs.Prelude.{Arrival, Rules, State, last_clock}
 use Rattle.napt_laws.proofs.OneMoreInput.{clock_more}
 use Rattle.napt_sequential.specs.{Traces.traces_of, declared.{fault.RunFault.{RunFault, TheVariants.{TooMany, Memory}}, passage.Trace.Trace}}
 use Rattle.napt_account.specs.{Effects.{EffectsAreTheLog, IsNext, log_after}, Log.{LogModel, after_input, log_on}, LogBuilders.{IsBuilderFault, LogBuilderModel, taken_in}, LogParts.part_between, ResumedLogRuns.part_of}
-use Rattle.napt_account.proofs.{GoingOn.fold_joined, Lists.map_joined}
+use Rattle.napt_account.proofs.{ContinuedLogs.fold_joined, Lists.map_joined}
 
 module _ (are : EffectsAreTheLog) (rules : Rules) (state : State) (log : LogModel) (before : List Arrival)
     (input : Arrival) (effects : Trace)

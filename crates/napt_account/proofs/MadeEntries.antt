@@ -8,7 +8,7 @@ use Rattle.napt_binding.specs.Ends.{is_before}
 use Rattle.napt_table.specs.declared.TimedRow.{TimedRow}
 use Rattle.napt_sequential.specs.declared.passage.{Passage.{Passage, TheVariants.{Nothing, Made, Out, In, Dropped}}}
 use Rattle.napt_account.specs.{declared.log.{Entry.Entry, LogEntry.LogEntry}, BindingTallies.open_of, Effects.CanCome, Log.{LogModel, after_leg, counted, entry_is_of, made_by, shares, use_entry, with_use}, MadeEntries.made_entry, LogParts.{IsNumbered, is_after}}
-use Rattle.napt_account.proofs.{Entries.{counted_binding, counted_end, shares_itself}, GoingOn.{more_leg, none_behind}, Lists.{filter_joined, filter_seen}}
+use Rattle.napt_account.proofs.{Entries.{counted_binding, counted_end, shares_itself}, ContinuedLogs.{more_leg, none_behind}, Lists.{filter_joined, filter_seen}}
 
 -- LISTS
 

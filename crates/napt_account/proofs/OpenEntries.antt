@@ -8,9 +8,9 @@ use Rattle.napt_rules.specs.{declared.Row.Row, Prelude.Each}
 use Rattle.napt_laws.proofs.Endpoints.{protocol_is, end_is}
 use Rattle.napt_binding.specs.Ends.{is_before}
 use Rattle.napt_table.specs.declared.TimedRow.{TimedRow}
-use Rattle.napt_account.specs.declared.{binding_tally.{BindingTally.BindingTally}, log.{Entry.Entry, LogEntry.LogEntry}, open_entries.{DueEntry.DueEntry, EntryKey.EntryKey, Open.Open}}
+use Rattle.napt_account.specs.declared.{binding_tally.{BindingTally.BindingTally}, log.{Entry.Entry, LogEntry.LogEntry}, open_entries.{DueEntry.DueEntry, EntryKey.EntryKey, OpenEntry.OpenEntry}}
 use Rattle.napt_account.specs.{declared.open_entries.OpenEntries.OpenEntries, BindingTallies.{noted, no_use, open_of, use_found, tally_used}, Log.{LogModel, counted, shares, entry_is_of, use_entry, with_entry, with_use}}
-use Rattle.napt_account.{specs.LogParts.{IsNumbered, Rises, is_open}, proofs.{Entries.{counted_binding, counted_end, shares_itself}, InOrder.{each_has, has_left, has_parts}, Rising.{rises_differ, rises_mapped, rises_pushed, same_number}}}
+use Rattle.napt_account.{specs.LogParts.{IsNumbered, Rises, is_open}, proofs.{Entries.{counted_binding, counted_end, shares_itself}, EndOrderings.{each_has, has_left, has_parts}, AscendingNumbers.{rises_differ, rises_mapped, rises_pushed, same_number}}}
 use Rattle.napt_account.specs.OpenEntries.{entry_key, external_eq, open_at, entry_at, due_at, is_queued, entry_is_at, Has, IsPlaced, IsIndexed, IsIndexedBut, OpenEntriesShow}
 use Rattle.napt_laws.proofs.Lists.{each_weaker}
 
@@ -27,16 +27,16 @@ external_flip a b = grind (arith, common_steps, nat_tests, external_is, external
 
 -- WHAT IS AT AN ENDPOINT
 
-abbrev pub due_of : Option Open → Option ℕ
-due_of found = option_and_then (λ (o : Open). o.due) found
+abbrev pub due_of : Option OpenEntry → Option ℕ
+due_of found = option_and_then (λ (o : OpenEntry). o.due) found
 
 pub entry_open : (all : OpenEntries) (x : EntryKey) (l : LogEntry) → entry_at all x ≡ Some l →
-    (o : Open) × (open_at all x ≡ Some o) × (o.numbered ≡ l)
+    (o : OpenEntry) × (open_at all x ≡ Some o) × (o.numbered ≡ l)
 entry_open all x l at = grind (arith, common_steps, same_Some)
 
-pub open_entry : (all : OpenEntries) (x : EntryKey) (o : Open) → open_at all x ≡ Some o →
+pub open_entry : (all : OpenEntries) (x : EntryKey) (o : OpenEntry) → open_at all x ≡ Some o →
     entry_at all x ≡ Some o.numbered
-open_entry all x o at = ap (option_map (λ (o : Open). o.numbered)) at
+open_entry all x o at = ap (option_map (λ (o : OpenEntry). o.numbered)) at
 
 pub under : (all : OpenEntries) → IsIndexed all → (x : EntryKey) (l : LogEntry) → entry_at all x ≡ Some l →
     x ≡ entry_key l.entry.binding
@@ -51,11 +51,11 @@ queued_at all x was indexed d e = indexed.queued d ∙ ap (λ v. entry_is_at (co
 
 -- One endpoint has another entry, or none, and is queued as that entry is.
 module _ (old new : OpenEntries) (x : EntryKey) (was : Option ℕ) (indexed : IsIndexedBut x was old)
-    (next : Option Open)
+    (next : Option OpenEntry)
     (opens : (y : EntryKey) → open_at new y ≡ cond (external_eq x y) next (open_at old y))
     (queue : (d : DueEntry) → is_queued new d ≡ cond (external_eq x d.key) (entry_is_at (due_of next) d.at)
     (is_queued old d))
-    (its : (o : Open) → next ≡ Some o → IsPlaced x o) where
+    (its : (o : OpenEntry) → next ≡ Some o → IsPlaced x o) where
   pub moved : IsIndexed new
   moved = grind (arith, common_steps, nat_tests, external_is)
 
@@ -263,7 +263,7 @@ pub row_free : (now most : ℕ) (all : OpenEntries) (log : LogModel) → OpenEnt
     list_any (λ n. entry_is_of now r n.entry) log.entries ≡ false → open_at all (entry_key r) ≡ None
 row_free now most all log shows r none = go (open_at all (entry_key r)) refl
   where
-    go : (o : Option Open) → open_at all (entry_key r) ≡ o → o ≡ None
+    go : (o : Option OpenEntry) → open_at all (entry_key r) ≡ o → o ≡ None
     go None at = refl
     go (Some o) at =
         let any = row_any now most all log shows r o.numbered (open_entry all (entry_key r) o at) in
@@ -280,20 +280,20 @@ module _ (way : Way) (now most : ℕ) (old : OpenEntries) (log : LogModel) (show
     (timed : TimedRow) (key : EntryKey) (is : key ≡ entry_key timed.row) where
   pub unused_here : open_at old key ≡ None → no_use ≡ use_found way (open_of now timed.row log)
   unused_here none = sym (ap (use_found way) (open_none now most old log shows timed.row
-      (ap (entry_at old) (sym is) ∙ ap (option_map (λ (o : Open). o.numbered)) none)))
+      (ap (entry_at old) (sym is) ∙ ap (option_map (λ (o : OpenEntry). o.numbered)) none)))
 
   -- Without an open entry nothing changes.
   pub unused_same : open_at old key ≡ None → with_use way now timed log ≡ log
   unused_same none =
       let free : entry_at old (entry_key timed.row) ≡ None =
-      ap (entry_at old) (sym is) ∙ ap (option_map (λ (o : Open). o.numbered)) none in
+      ap (entry_at old) (sym is) ∙ ap (option_map (λ (o : OpenEntry). o.numbered)) none in
       let same : map (use_entry way now timed) log.entries ≡ log.entries =
       map_same (use_entry way now timed) log.entries (λ m has.
       ap (λ v. record m { entry = cond v (counted way now timed.end m.entry) m.entry })
       (none_passes now most old log shows timed.row free m has)) in
       λ i. record { made = log.made; entries = same i; shortages = log.shortages }
 
-  module _ (o : Open) (at : open_at old key ≡ Some o) where
+  module _ (o : OpenEntry) (at : open_at old key ≡ Some o) where
     abbrev l : LogEntry
     l = o.numbered
 
@@ -333,7 +333,7 @@ module _ (way : Way) (now most : ℕ) (old : OpenEntries) (log : LogModel) (show
       abbrev next : LogEntry
       next = record { number = l.number; entry = e }
 
-      abbrev changed : Open
+      abbrev changed : OpenEntry
       changed = record { numbered = next; due = due }
 
       pub counted_shows :
@@ -381,8 +381,8 @@ module _ (way : Way) (now most : ℕ) (old : OpenEntries) (log : LogModel) (show
           let never : true ≡ false = sym (external_itself (entry_key e.binding))
           ∙ (ap (external_eq (entry_key e.binding)) here ∙ apart) in cc)
           indexed
-          (λ y. ap (option_map (λ (p : Open). p.numbered)) (opens y)
-          ∙ (elim (external_eq key y) as (λ v. option_map (λ (p : Open). p.numbered)
+          (λ y. ap (option_map (λ (p : OpenEntry). p.numbered)) (opens y)
+          ∙ (elim (external_eq key y) as (λ v. option_map (λ (p : OpenEntry). p.numbered)
           (cond v (Some changed) (open_at old y)) ≡ cond v (Some next) (entry_at old y))
           [ true ↦ refl | false ↦ refl ]
           ∙ ap (λ (k : EntryKey). cond (external_eq k y) (Some next) (entry_at old y)) its))

@@ -6,7 +6,7 @@ use Rattle.std.specs.HashMap as hash
 use Rattle.napt_rules.specs.{declared.Row.Row, Prelude.{Binding, Each}}
 use Rattle.napt_account.specs.declared.{account.Account.Account, log.LogEntry.LogEntry, open_entries.EntryKey.EntryKey}
 use Rattle.napt_account.specs.{Log.{LogModel, entry_is_of, shares}, LogParts.{is_open, kept_at}, LogStarts.{account_at, account_of_entry}, OpenEntries.{Has, entry_key, external_eq}}
-use Rattle.napt_account.proofs.{InOrder.{filter_has, has_each}, NewEntries.share_either, OpenEntries.external_is}
+use Rattle.napt_account.proofs.{EndOrderings.{filter_has, has_each}, NewEntries.share_either, OpenEntries.external_is}
 
 abbrev is_under : EntryKey → LogEntry → Bool
 is_under x numbered = external_eq (entry_key numbered.entry.binding) x

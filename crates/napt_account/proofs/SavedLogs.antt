@@ -12,10 +12,10 @@ use Rattle.napt_table.specs.{declared.TimedRow.TimedRow, TimedRows.timed_row}
 use Rattle.napt_account.specs.declared.{account.Account.Account, log.{LogEntry.LogEntry}}
 use Rattle.napt_account.specs.{Attribution.has_ends, BindingTallies.open_of, Log.{LogModel, entry_is_of, log_on, numbered_from, shares, unused_entry}, LogParts.{Rises, is_open}}
 use Rattle.napt_account.specs.{LogStarts.{SavedLogStateModel, SavedLogsAreTakenUp, account_at, account_of_entry, accounted, continued_entries, entry_ended_at, has_entry, has_redirect, in_order_of_number, log_started, new_entries, resumed_end, resumed_entries, resumed_entry, saved_log_state, started_part, unlisted_rows, with_account}, OpenEntries.{AreKeyed, Has, entry_key, external_eq}, ResumedLogRuns.{IsLogOf, left_of, timed_by}}
-use Rattle.napt_account.proofs.InOrder.{Along, Differ, each_has, filter_has, has_each, has_parts}
-use Rattle.napt_account.proofs.{Comes.{logs_are_of_their_states, rows_left}, Entries.{apart_differ, rows_purge, shares_itself}, Moves.{AllDiffer, differ_kept}, Keyed.{differ_keyed, keyed_along, keyed_moved, log_keyed, share, share_flip}, Lists.{each_mapped}, LiveRows.{is_loose, live_all, live_of, purge_joined}, OpenEntries.{any_has, external_itself, key_shares}, Rising.{rises_above, rises_all, rises_differ, rises_filter, rises_same, same_number}}
+use Rattle.napt_account.proofs.EndOrderings.{Along, Differ, each_has, filter_has, has_each, has_parts}
+use Rattle.napt_account.proofs.{InputEffects.{logs_are_of_their_states, rows_left}, Entries.{apart_differ, rows_purge, shares_itself}, BindingChanges.{AllDiffer, differ_kept}, DistinctKeys.{differ_keyed, keyed_along, keyed_moved, log_keyed, share, share_flip}, Lists.{each_mapped}, LiveRows.{is_loose, live_all, live_of, purge_joined}, OpenEntries.{any_has, external_itself, key_shares}, AscendingNumbers.{rises_above, rises_all, rises_differ, rises_filter, rises_same, same_number}}
 use Rattle.napt_account.proofs.LogStarts.{Kept, dynamics, has_mapped, mapped_has, only_one, openings, order_moves, order_rises}
-use Rattle.napt_account.proofs.Sorted.{has_back, has_moved}
+use Rattle.napt_account.proofs.SortedLists.{has_back, has_moved}
 
 find_only : {X : Type 0} (p : X → Bool) (xs : List X) (x : X) → Has xs x → p x ≡ true →
     ((y : X) → Has xs y → p y ≡ true → y ≡ x) → find p xs ≡ Some x

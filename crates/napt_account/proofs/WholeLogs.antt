@@ -8,13 +8,13 @@ use Rattle.napt_binding.{specs.Ends.{is_before}, proofs.FirstEnds.{ends_are_firs
 use Rattle.napt_table.specs.declared.TimedRow.{TimedRow}
 use Rattle.napt_rules.specs.declared.Row.{Row}
 use Rattle.napt_rules.specs.Prelude.{Binding, Each, act, LegAct, Arrival, RunEffect, step, effect_from, last_clock, State, Rules, RulesInvariant, AreTimers}
-use Rattle.napt_laws.proofs.{OneMoreInput.{grows, clock_more}, Turns.InTurn}
+use Rattle.napt_laws.proofs.{OneMoreInput.{grows, clock_more}, RunInduction.InTurn}
 use Rattle.napt_sequential.specs.{declared.passage.Passage.{Passage, TheVariants.{Nothing, Made, Out, In, Dropped}}, Traces.passage_of}
 use Rattle.napt_account.specs.{declared.log.{Entry.Entry, LogEntry.LogEntry, Shortage.Shortage}, Log.{LogModel, counted, made_by, use_entry, with_use, shortages_of, after_leg, after_record, log_on}}
 use Rattle.napt_account.specs.LogParts.{IsNumbered, LogDelta, ends_first, ends_within, in_order_of_end, is_after, is_open, placed}
 use Rattle.napt_account.specs.{ResumedLogRuns.part_of, WholeLogs.{ArePartsOfLog, PartsAreTheLog, parts_joined, origin}}
-use Rattle.napt_account.proofs.{Effects.step_turn, Entries.{counted_binding, counted_made}, Leaves.{LeavesOpen, turn_leaves}, Lists.{filter_agrees, filter_joined, filter_seen, map_agrees, map_joined, map_twice}}
-use Rattle.napt_account.proofs.GoingOn.{filter_twice, fold_joined, none_behind, numbered_all}
+use Rattle.napt_account.proofs.{Effects.step_turn, Entries.{counted_binding, counted_made}, FutureEnds.{LeavesOpen, turn_leaves}, Lists.{filter_agrees, filter_joined, filter_seen, map_agrees, map_joined, map_twice}}
+use Rattle.napt_account.proofs.ContinuedLogs.{filter_twice, fold_joined, none_behind, numbered_all}
 
 -- LISTS
 

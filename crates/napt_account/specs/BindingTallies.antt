@@ -8,11 +8,11 @@ use Rattle.napt_account.specs.declared.binding_tally.LogNote.TheVariants as note
 
 -- No binding was used.
 abbrev pub no_use : BindingTally
-no_use = record { note = notes.Nothing; out = None; into = None }
+no_use = record { note = notes.Nothing; outbound = None; inbound = None }
 
 abbrev pub tally_used : Way → LogNote → ℕ → BindingTally
-tally_used Outgoing note number = record { note = note; out = Some number; into = None }
-tally_used Incoming note number = record { note = note; out = None; into = Some number }
+tally_used Outgoing note number = record { note = note; outbound = Some number; inbound = None }
+tally_used Incoming note number = record { note = note; outbound = None; inbound = Some number }
 
 -- The open entry of a row.
 abbrev pub open_of : ℕ → Row → LogModel → Option LogEntry
@@ -40,8 +40,8 @@ first_note first second = first
 abbrev pub both_uses : BindingTally → BindingTally → BindingTally
 both_uses first second = record {
   note = first_note first.note second.note;
-  out = option_or first.out second.out;
-  into = option_or first.into second.into;
+  outbound = option_or first.outbound second.outbound;
+  inbound = option_or first.inbound second.inbound;
 }
 
 abbrev pub use_of : LogModel → Trace → BindingTally

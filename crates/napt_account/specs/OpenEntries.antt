@@ -8,7 +8,7 @@ use denote.Enum.Bare.{sameb}
 use Rattle.napt_wire.specs.contracts.Protocol.{the_type}
 use Rattle.napt_wire.specs.contracts.ProtocolOrd.TheImpl as protocols
 use Rattle.napt_rules.specs.declared.Row.{Row}
-use Rattle.napt_account.specs.declared.{log.LogEntry.LogEntry, open_entries.{DueEntry.DueEntry, EndKey.EndKey, EntryKey.EntryKey, Open.Open}}
+use Rattle.napt_account.specs.declared.{log.LogEntry.LogEntry, open_entries.{DueEntry.DueEntry, EndKey.EndKey, EntryKey.EntryKey, OpenEntry.OpenEntry}}
 use Rattle.napt_account.specs.{declared.open_entries.OpenEntries.OpenEntries, Log.LogModel, LogParts.{IsNumbered, Rises, is_open}}
 
 -- KEYS
@@ -44,15 +44,15 @@ due_cmp a b = ordering_then (nat_cmp a.at b.at) (external_cmp a.key b.key)
 
 -- WHAT IS KEPT
 
-abbrev pub open_at : OpenEntries → EntryKey → Option Open
+abbrev pub open_at : OpenEntries → EntryKey → Option OpenEntry
 open_at all x = hash.get external_eq all.by_external x
 
 -- The entry of an endpoint, and when it is looked at next.
 abbrev pub entry_at : OpenEntries → EntryKey → Option LogEntry
-entry_at all x = option_map (λ (o : Open). o.numbered) (open_at all x)
+entry_at all x = option_map (λ (o : OpenEntry). o.numbered) (open_at all x)
 
 abbrev pub due_at : OpenEntries → EntryKey → Option ℕ
-due_at all x = option_and_then (λ (o : Open). o.due) (open_at all x)
+due_at all x = option_and_then (λ (o : OpenEntry). o.due) (open_at all x)
 
 abbrev pub is_queued : OpenEntries → DueEntry → Bool
 is_queued all due = sorted.contains due_cmp all.queue due
@@ -63,25 +63,25 @@ entry_is_at (Some at) time = at == time
 
 -- All entries, in no particular order.
 abbrev pub kept : OpenEntries → List LogEntry
-kept all = map (λ (o : Open). o.numbered) (hash.values all.by_external)
+kept all = map (λ (o : OpenEntry). o.numbered) (hash.values all.by_external)
 
 -- The number of entries that are to be checked by a time.
 abbrev pub due_within : ℕ → OpenEntries → ℕ
 due_within now all = length (filter (λ (due : DueEntry). nat_le due.at now) all.queue.keys)
 
 -- The entry is under its endpoint, and checked no later than at its end.
-abbrev pub IsPlaced : EntryKey → Open → Type 0
+abbrev pub IsPlaced : EntryKey → OpenEntry → Type 0
 IsPlaced x o = (x ≡ entry_key o.numbered.entry.binding)
     × ((time : ℕ) → time < unwrap_or o.due (2 ^ 64) → is_open time o.numbered ≡ true)
 
 -- Each entry is at its endpoint, and the queue has the time of each that has one, and nothing else.
 pub record IsIndexed (all : OpenEntries) : Type 0 where
-  pub placed : (x : EntryKey) (o : Open) → open_at all x ≡ Some o → IsPlaced x o
+  pub placed : (x : EntryKey) (o : OpenEntry) → open_at all x ≡ Some o → IsPlaced x o
   pub queued : (due : DueEntry) → is_queued all due ≡ entry_is_at (due_at all due.key) due.at
 
 -- The same except for one endpoint, which the queue has at another time.
 pub record IsIndexedBut (key : EntryKey) (at : Option ℕ) (all : OpenEntries) : Type 0 where
-  pub placed : (x : EntryKey) (o : Open) → open_at all x ≡ Some o → IsPlaced x o
+  pub placed : (x : EntryKey) (o : OpenEntry) → open_at all x ≡ Some o → IsPlaced x o
   pub queued : (due : DueEntry) → is_queued all due
       ≡ entry_is_at (cond (external_eq key due.key) at (due_at all due.key)) due.at
 

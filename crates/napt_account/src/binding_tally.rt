@@ -25,16 +25,16 @@ pub struct BindingTally {
     /// What the packet did to the binding that it used first.
     pub note: LogNote,
     /// The number of the entry of the binding that it went out through.
-    pub out: Option<u64>,
+    pub outbound: Option<u64>,
     /// The number of the entry of the binding that it came in through; a hairpin has both numbers.
-    pub into: Option<u64>,
+    pub inbound: Option<u64>,
 }
 
 /// No binding was used.
 pub(crate) const NO_USE: BindingTally = BindingTally {
     note: LogNote::Nothing,
-    out: None,
-    into: None,
+    outbound: None,
+    inbound: None,
 };
 
 /// Returns what a packet did to a binding that existed before it.
@@ -57,13 +57,13 @@ impl BindingTally {
         match way {
             Way::Outgoing => BindingTally {
                 note,
-                out: Some(number),
-                into: None,
+                outbound: Some(number),
+                inbound: None,
             },
             Way::Incoming => BindingTally {
                 note,
-                out: None,
-                into: Some(number),
+                outbound: None,
+                inbound: Some(number),
             },
         }
     }
@@ -78,7 +78,7 @@ pub(crate) fn both_uses(first: BindingTally, second: BindingTally) -> BindingTal
             LogNote::Nothing => second.note,
             note => note,
         },
-        out: first.out.or(second.out),
-        into: first.into.or(second.into),
+        outbound: first.outbound.or(second.outbound),
+        inbound: first.inbound.or(second.inbound),
     }
 }

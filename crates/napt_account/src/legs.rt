@@ -11,7 +11,7 @@ use std::alloc::{AllocError, Global};
 
 /// What the legs of an input did to the bindings.
 #[derive(Drop)]
-pub(crate) struct Legs {
+pub(crate) struct InputTally {
     pub(crate) used: BindingTally,
     /// The entries that the legs made, as they are after both legs.
     pub(crate) made: Vec<LogEntry>,
@@ -25,7 +25,7 @@ impl OpenEntries {
         &mut self,
         alloc: Global,
         effects: Trace,
-    ) -> Result<Option<Legs>, AllocError>
+    ) -> Result<Option<InputTally>, AllocError>
         requires { (most : ℕ) × (log : LogModel) × OpenEntriesShow effects.now most log self.old
             × (most + 2 < 2 ^ 64) × (log.made + 2 < 2 ^ 64) }
         ensures shows { (most : ℕ) (log : LogModel) → OpenEntriesShow effects.now most log self.old →
@@ -48,15 +48,15 @@ impl OpenEntries {
         if !self.can_come(effects.now, effects.first) {
             return Ok(None);
         }
-        let first = self.pass(effects.now, effects.first)?;
+        let first = self.record_leg(effects.now, effects.first)?;
         if !self.can_come(effects.now, effects.second) {
             return Ok(None);
         }
-        let second = self.pass(effects.now, effects.second)?;
+        let second = self.record_leg(effects.now, effects.second)?;
         let mut made = Vec::new(alloc);
         self.list_made(&mut made, effects.first)?;
         self.list_made(&mut made, effects.second)?;
-        Ok(Some(Legs {
+        Ok(Some(InputTally {
             used: both_uses(first, second),
             made,
             refused: refused_by(alloc, effects)?,

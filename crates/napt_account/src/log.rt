@@ -51,7 +51,7 @@ impl Entry {
     }
 
     /// Returns the entry of a binding that a packet made at a time, in ns, and went out through.
-    pub(crate) fn by_packet(now: u64, timed: TimedRow) -> Entry
+    pub(crate) fn from_packet(now: u64, timed: TimedRow) -> Entry
         ensures { result ≡ made_by now timed }
     {
         let mut entry = Entry::unused(timed, now);

@@ -132,11 +132,11 @@ impl<'a> LogBuilder<'a> {
     }
 
     /// Returns what is kept of the log in addition to the state that the run leaves. Fails only if memory is refused.
-    pub fn left(&self, alloc: Global) -> Result<OpenLog, AllocError>
+    pub fn to_open_log(&self, alloc: Global) -> Result<OpenLog, AllocError>
         ensures { self.now.is_stopped ≡ false → IfOk result (λ left. left
             ≡ kept_at self.now.clock self.now.log) }
     {
-        self.entries.left(alloc)
+        self.entries.to_open_log(alloc)
     }
 
     /// Records what the legs of the next input did, and returns what this adds to the log. After a fault each later

@@ -38,7 +38,7 @@ pub(crate) struct EndKey {
 
 /// An entry whose binding has not ended.
 #[derive(Clone, Copy)]
-pub(crate) struct Open {
+pub(crate) struct OpenEntry {
     pub(crate) numbered: LogEntry,
     /// When the entry is checked next, in ns: never after its end. `None` if its end does not fit 64 bits.
     due: Option<u64>,
@@ -55,7 +55,7 @@ pub(crate) struct DueEntry {
 /// its binding leaves the queue alone: the entry is queued again when its time in the queue has come.
 #[derive(Drop)]
 pub(crate) struct OpenEntries {
-    by_external: HashMap<EntryKey, Open>,
+    by_external: HashMap<EntryKey, OpenEntry>,
     /// An element for each entry that has a time.
     queue: BTreeSet<DueEntry>,
     /// The number of entries of the log.
@@ -152,7 +152,7 @@ impl OpenEntries {
     }
 
     /// Returns what is kept of the log.
-    pub(crate) fn left(&self, alloc: Global) -> Result<OpenLog, AllocError>
+    pub(crate) fn to_open_log(&self, alloc: Global) -> Result<OpenLog, AllocError>
         ensures { (now most : ℕ) (log : LogModel) → OpenEntriesShow now most log self.now →
             IfOk result (λ left. left ≡ kept_at now log) }
     {
@@ -194,7 +194,7 @@ impl OpenEntries {
         let key = external_key(numbered.entry.binding);
         let due = due_by(was, numbered.entry.end);
         self.queue_at(key, was, due)?;
-        self.by_external.insert(key, Open { numbered, due })?;
+        self.by_external.insert(key, OpenEntry { numbered, due })?;
         Ok(())
     }
 
@@ -252,7 +252,7 @@ impl OpenEntries {
     }
 
     /// Returns the entry of an external endpoint.
-    pub(crate) fn find(&self, row: Row) -> Option<Open>
+    pub(crate) fn find(&self, row: Row) -> Option<OpenEntry>
         ensures { result ≡ open_at self.now (keys.entry_key row) }
     {
         self.by_external.get(&external_key(row)).copied()
@@ -329,7 +329,7 @@ impl OpenEntries {
     /// Checks the entry of an endpoint that is not queued: removes it if its binding has ended by a time, in ns, and
     /// queues it at its end otherwise.
     #[inline(never)]
-    fn look_at(&mut self, key: EntryKey, now: u64) -> Result<Option<LogEntry>, AllocError>
+    fn end_or_queue(&mut self, key: EntryKey, now: u64) -> Result<Option<LogEntry>, AllocError>
         ensures made { self.new.made ≡ self.old.made }
         ensures indexed { IsIndexedBut key None self.old → OnOk result (IsIndexed self.new) }
         ensures taken { IfOk result (λ taken. IfSome taken (λ l.
@@ -365,7 +365,7 @@ impl OpenEntries {
     {
         let mut ended = Vec::new(alloc);
         while let Some(key) = self.take_due(now) {
-            if let Some(numbered) = self.look_at(key, now)? {
+            if let Some(numbered) = self.end_or_queue(key, now)? {
                 ended.push(numbered)?;
             }
         }
@@ -396,7 +396,11 @@ impl OpenEntries {
 
     /// Records the effect of one leg, and returns what it did to the bindings.
     #[inline(always)]
-    pub(crate) fn pass(&mut self, now: u64, effect: Passage) -> Result<BindingTally, AllocError>
+    pub(crate) fn record_leg(
+        &mut self,
+        now: u64,
+        effect: Passage,
+    ) -> Result<BindingTally, AllocError>
         requires { (most : ℕ) × (log : LogModel) × OpenEntriesShow now most log self.old
             × (most + 1 < 2 ^ 64) × (log.made + 1 < 2 ^ 64) }
         ensures shows { (most : ℕ) (log : LogModel) → OpenEntriesShow now most log self.old →
@@ -408,7 +412,7 @@ impl OpenEntries {
         match effect {
             Passage::Nothing | Passage::Dropped(_) => Ok(NO_USE),
             Passage::Made(through) => {
-                let number = self.insert(Entry::by_packet(now, through.timed()))?;
+                let number = self.insert(Entry::from_packet(now, through.timed()))?;
                 Ok(BindingTally::through(Way::Outgoing, LogNote::Made, number))
             }
             Passage::Out(through) => self.count(Way::Outgoing, now, through.timed()),

@@ -4,7 +4,7 @@ use Rattle.std.proofs.lemmas.Map.{Lookups.exact_unsigned, Made.update_all_distin
 use Rattle.std.specs.{BTreeMap.{BTreeMap, InsertsAll, IsOrdered, get, is_at}, Cmp.{eq_by_cmp_equiv, nat_cmp_total}, Prelude.T, FinMap.Entries.{below_all, is_sorted, same_entries}, List.{AllByRecursion, Sorted.IsStrictlySortedBy}, Map.{lookup, keys_of, values_of}, Option.{is_some, option_and_then, option_map, option_or}, Ordering.{eq_by_cmp, is_lt, nat_cmp}, declared.cmp.Ordering.{Ordering, TheVariants.Less}}
 use Rattle.napt_rules.specs.Prelude.{Each}
 use Rattle.napt_account.specs.{declared.log.{Entry.Entry, LogEntry.LogEntry}, LogParts.Rises}
-use Rattle.napt_account.proofs.Rising.{rises_above, rises_filter, rises_mapped}
+use Rattle.napt_account.proofs.AscendingNumbers.{rises_above, rises_filter, rises_mapped}
 use Rattle.napt_attribution.specs.{RequestParties.{is_asked_about, is_wanted}, SavedLogs.{TracksEntries, asked_entries, entry_of, entry_with_end, has_no_end, is_ended_and_asked, entry_if}, declared.{requests.HolderRequest.HolderRequest, kept_entries.KeptEntries.KeptEntries, wanted_endpoints.WantedEndpoints.WantedEndpoints}}
 
 -- ONE MORE

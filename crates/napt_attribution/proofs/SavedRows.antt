@@ -3,7 +3,7 @@ use Rattle.std.proofs.{Common.{◌≡◌, ℕ, ◌+◌, ◌<◌, ◌≤◌, ◌=
 use Rattle.std.specs.{BTreeMap.BTreeMap, Option.{IsSome, is_some, option_or}}
 use Rattle.napt_wire.specs.declared.{Cause.TheVariants.OverQuota, Protocol.Protocol}
 use Rattle.napt_rules.specs.{Prelude.Each, declared.Row.Row}
-use Rattle.napt_account.{specs.{declared.log.{Entry.Entry, LogEntry.LogEntry, Shortage.Shortage}, LogParts.Rises}, proofs.Rising.rises_pushed}
+use Rattle.napt_account.{specs.{declared.log.{Entry.Entry, LogEntry.LogEntry, Shortage.Shortage}, LogParts.Rises}, proofs.AscendingNumbers.rises_pushed}
 use Rattle.napt_log_text.specs.{LogRows.{number_field, saved_row}, Rows.shortage_number, declared.{event.LogEvent.{LogEvent, TheVariants.{Made, Ended, Living, Refused}}, log_row.{LogField.TheVariants.{Empty, Number}, LogRow.LogRow}}}
 use Rattle.napt_attribution.specs.{SavedLogs.{Follows, HasBinding, HasOpen, TracksEntries, RowsTrackEntries, RowsTrackEvents, bare_entry, row_end_among, end_told, entries_in, entry_of, entry_with_end, has_no_end, made_in, entry_if}, declared.{requests.HolderRequest.HolderRequest, kept_entries.KeptEntries.KeptEntries, saved_rows.SavedRows.SavedRows}}
 

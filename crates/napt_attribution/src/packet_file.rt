@@ -64,8 +64,8 @@ fn add_packet_row(passing: RunPacket<'_>, text: &mut String) -> Result<(), Alloc
             text.push_str(cause_name(*cause))?;
         }
     }
-    add_binding_number(step.part.used.out, text)?;
-    add_binding_number(step.part.used.into, text)?;
+    add_binding_number(step.part.used.outbound, text)?;
+    add_binding_number(step.part.used.inbound, text)?;
     text.push_str("\n")
 }
 

@@ -1,7 +1,7 @@
 pub mod Lists
 pub mod FirstEnds
 mod Slots
-mod Standing
+mod StandingFlows
 mod TimedRows
 mod FlowMapSteps
 mod DistinctFlows

@@ -4,7 +4,7 @@ use Rattle.std.proofs.Common.{◌≡◌, ◌≤◌, ◌<◌, ◌+◌, ℕ, Bool,
 use Rattle.std.{specs.List.list_any, proofs.lemmas.{List.length_push, Bool.Decides.nat_tests}}
 use Rattle.napt_config.specs.declared.settings.Timers.{Timers}
 use Rattle.napt_rules.specs.declared.{Flow.Flow, OutboundPacket.OutboundPacket}
-use Rattle.napt_binding.{specs.{StandingFlows.{is_standing, standing_flow_of}, OutboundFlows.standing_at, FlowStores.{most_listed, is_full}}, proofs.{Standing.standing, Lists.some_place}}
+use Rattle.napt_binding.{specs.{StandingFlows.{is_standing, standing_flow_of}, OutboundFlows.standing_at, FlowStores.{most_listed, is_full}}, proofs.{StandingFlows.standing, Lists.some_place}}
 
 pub short_filter : {X : Type 0} (p : X → Bool) (xs : List X) → length (filter p xs) ≤ length xs
 short_filter p [] = omega arith

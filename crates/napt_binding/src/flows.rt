@@ -15,7 +15,7 @@ mod flow_maps;
 mod slots;
 
 use crate::idle_timers::IdleTimers;
-use crate::life::{flow_end, flow_moment, is_live_flow, is_standing};
+use crate::lifetime::{flow_end, flow_moment, is_live_flow, is_standing};
 use crate::outbound::{flow_after, new_flow};
 use crate::traffic::{is_flow_of, used};
 use flow_maps::FlowMaps;
@@ -32,8 +32,8 @@ const FEW: usize = 8;
 enum FlowStore {
     Empty,
     One(Flow),
-    Few(Vec<Flow>),
-    Many(Box<FlowMaps>),
+    Listed(Vec<Flow>),
+    Mapped(Box<FlowMaps>),
 }
 
 /// The flows of one binding, oldest first, no two of one remote endpoint; contracts see a list.
@@ -67,7 +67,7 @@ fn is_full(flows: &[Flow], timers: IdleTimers, sent: OutboundPacket) -> bool
 }
 
 /// Returns the store after a packet goes out: one flow still, if it is the packet's or expired.
-fn after_one(
+fn one_after_outbound(
     alloc: Global,
     timers: IdleTimers,
     sent: OutboundPacket,
@@ -90,7 +90,7 @@ fn after_one(
     let mut flows = Vec::new(alloc);
     flows.push(flow)?;
     flows.push(new_flow(sent))?;
-    Ok(FlowStore::Few(flows))
+    Ok(FlowStore::Listed(flows))
 }
 
 /// Puts these flows, no two of one remote, into maps, and uses that of the packet's remote. This is
@@ -113,12 +113,12 @@ fn with_maps(
 {
     let mut many = FlowMaps::from_flows(alloc, flows)?;
     many.use_flow(alloc, timers, sent)?;
-    Ok(FlowStore::Many(Box::new(alloc, many)?))
+    Ok(FlowStore::Mapped(Box::new(alloc, many)?))
 }
 
 /// Uses the flow of the packet's remote, or begins one if none is live. Changes nothing if memory
 /// is refused. A list of flows gets maps if it is full, and only then.
-fn use_kept(
+fn use_flow_in_store(
     kept: &mut FlowStore,
     alloc: Global,
     timers: IdleTimers,
@@ -142,17 +142,17 @@ fn use_kept(
             return Ok(());
         }
         FlowStore::One(flow) => {
-            *kept = after_one(alloc, timers, sent, *flow)?;
+            *kept = one_after_outbound(alloc, timers, sent, *flow)?;
             return Ok(());
         }
-        FlowStore::Few(flows) => {
+        FlowStore::Listed(flows) => {
             if !is_full(flows, timers, sent) {
                 return flow_list::use_flow(flows, timers, sent);
             }
             *kept = with_maps(alloc, timers, sent, flows)?;
             return Ok(());
         }
-        FlowStore::Many(many) => return many.use_flow(alloc, timers, sent),
+        FlowStore::Mapped(many) => return many.use_flow(alloc, timers, sent),
     }
 }
 
@@ -189,8 +189,8 @@ impl Flows {
         let kept = match flows.len() {
             0 => FlowStore::Empty,
             1 => FlowStore::One(flows[0]),
-            few if few <= FEW => FlowStore::Few(flows.to_vec(alloc)?),
-            _ => FlowStore::Many(Box::new(alloc, FlowMaps::from_flows(alloc, flows)?)?),
+            few if few <= FEW => FlowStore::Listed(flows.to_vec(alloc)?),
+            _ => FlowStore::Mapped(Box::new(alloc, FlowMaps::from_flows(alloc, flows)?)?),
         };
         Ok(Flows { kept })
     }
@@ -203,8 +203,8 @@ impl Flows {
         match &self.kept {
             FlowStore::Empty => Ok(Vec::new(alloc)),
             FlowStore::One(flow) => [*flow].to_vec(alloc),
-            FlowStore::Few(flows) => flows.to_vec(alloc),
-            FlowStore::Many(many) => many.flows(alloc),
+            FlowStore::Listed(flows) => flows.to_vec(alloc),
+            FlowStore::Mapped(many) => many.flows(alloc),
         }
     }
 
@@ -253,8 +253,8 @@ impl Flows {
         match &self.kept {
             FlowStore::Empty => now,
             FlowStore::One(flow) => flow_moment(flow, timers).max(now),
-            FlowStore::Few(flows) => flow_list::last_moment_of(flows, timers, now),
-            FlowStore::Many(many) => many.last_moment(timers, now),
+            FlowStore::Listed(flows) => flow_list::last_moment_of(flows, timers, now),
+            FlowStore::Mapped(many) => many.last_moment(timers, now),
         }
     }
 
@@ -265,8 +265,8 @@ impl Flows {
         match &self.kept {
             FlowStore::Empty => 0,
             FlowStore::One(flow) => flow_end(flow, timers),
-            FlowStore::Few(flows) => flow_list::last_end(flows, timers),
-            FlowStore::Many(many) => many.last_end(timers),
+            FlowStore::Listed(flows) => flow_list::last_end(flows, timers),
+            FlowStore::Mapped(many) => many.last_end(timers),
         }
     }
 
@@ -277,8 +277,8 @@ impl Flows {
         match &self.kept {
             FlowStore::Empty => false,
             FlowStore::One(flow) => is_live_flow(flow, timers, now),
-            FlowStore::Few(flows) => flows.iter().any(|flow| is_live_flow(flow, timers, now)),
-            FlowStore::Many(many) => many.has_live(timers, now),
+            FlowStore::Listed(flows) => flows.iter().any(|flow| is_live_flow(flow, timers, now)),
+            FlowStore::Mapped(many) => many.has_live(timers, now),
         }
     }
 
@@ -293,8 +293,8 @@ impl Flows {
                     self.kept = FlowStore::Empty;
                 }
             }
-            FlowStore::Few(flows) => flow_list::retain_live(flows, timers, now),
-            FlowStore::Many(many) => return many.retain_live(timers, now),
+            FlowStore::Listed(flows) => flow_list::retain_live(flows, timers, now),
+            FlowStore::Mapped(many) => return many.retain_live(timers, now),
         }
     }
 
@@ -305,8 +305,8 @@ impl Flows {
         match &self.kept {
             FlowStore::Empty => false,
             FlowStore::One(flow) => flow.remote.address == address,
-            FlowStore::Few(flows) => flows.iter().any(|flow| flow.remote.address == address),
-            FlowStore::Many(many) => many.has_address(address),
+            FlowStore::Listed(flows) => flows.iter().any(|flow| flow.remote.address == address),
+            FlowStore::Mapped(many) => many.has_address(address),
         }
     }
 
@@ -317,8 +317,8 @@ impl Flows {
         match &self.kept {
             FlowStore::Empty => false,
             FlowStore::One(flow) => is_flow_of(flow, remote),
-            FlowStore::Few(flows) => flows.iter().any(|flow| is_flow_of(flow, remote)),
-            FlowStore::Many(many) => many.has_remote(remote),
+            FlowStore::Listed(flows) => flows.iter().any(|flow| is_flow_of(flow, remote)),
+            FlowStore::Mapped(many) => many.has_remote(remote),
         }
     }
 
@@ -335,7 +335,7 @@ impl Flows {
         ensures live { OnOk result (list_any (life.is_live_flow timers sent.now) self.new ≡ true) }
         ensures err { OnErr result (self.new ≡ self.old) }
     {
-        use_kept(&mut self.kept, alloc, timers, sent)
+        use_flow_in_store(&mut self.kept, alloc, timers, sent)
     }
 
     /// Marks the remote's flow, if there is one, as used now by an incoming segment.
@@ -351,8 +351,8 @@ impl Flows {
                     *flow = used(*flow, Protocol::Tcp, Way::Incoming, flags, now);
                 }
             }
-            FlowStore::Few(flows) => flow_list::refresh_flow(flows, now, remote, flags),
-            FlowStore::Many(many) => return many.refresh_flow(now, remote, flags),
+            FlowStore::Listed(flows) => flow_list::refresh_flow(flows, now, remote, flags),
+            FlowStore::Mapped(many) => return many.refresh_flow(now, remote, flags),
         }
     }
 }

@@ -4,7 +4,7 @@ ghost use Rattle.std.specs.Prelude.{◌≡◌};
 ghost use Rattle.napt_config.specs.Rules.{AreTimers};
 ghost use Rattle.napt_rules.specs.Life as life;
 
-use crate::life::SECOND;
+use crate::lifetime::SECOND;
 use napt_config::{Config, Timers};
 use std::marker::Model;
 

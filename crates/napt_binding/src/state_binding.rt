@@ -7,7 +7,7 @@ ghost use Rattle.napt_binding.specs.Slots.{AreDistinct};
 use crate::TableBinding;
 use crate::flows::{Flows, live_flows};
 use crate::idle_timers::IdleTimers;
-use crate::life::{is_live_flow, is_recent};
+use crate::lifetime::{is_live_flow, is_recent};
 use crate::packed_row::PackedRow;
 use napt_rules::{Flow, StateBinding};
 use napt_wire::Protocol;

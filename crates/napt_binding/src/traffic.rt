@@ -10,7 +10,7 @@ ghost use Rattle.napt_binding.specs.{Inbounds.{binding_after_inbound, inbound_an
 
 use crate::TableBinding;
 use crate::idle_timers::IdleTimers;
-use crate::life::purge_flows;
+use crate::lifetime::purge_flows;
 use crate::session::{NO_MARKS, marked};
 use napt_config::{Filter, MappingRefresh};
 use napt_rules::{Flow, InboundPacket, InboundRules, OutboundPacket};

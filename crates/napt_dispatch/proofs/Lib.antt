@@ -4,8 +4,8 @@ pub mod RunThroughEnds
 pub mod Lanes
 pub mod LeftTranslators
 pub mod WorkerOffers
-pub mod Passing
+pub mod RunSteps
 pub mod QueueStates
 pub mod RunsThrough
-pub mod Standing
-pub mod Windows
+pub mod InvariantSteps
+pub mod KnownInputs

@@ -5,7 +5,7 @@ use Rattle.std.proofs.lemmas.List.{length-append, length-map, length-set, length
 use Rattle.std.proofs.lemmas.List.Sums.{sum_by-cons, sum_by-set}
 use Rattle.napt_rules.specs.{Prelude.LegAct, declared.Leg.Leg}
 use Rattle.napt_dispatch.specs.{declared.dispatcher.holding.{PendingLeg.{PendingLeg, TheVariants.Ready}, AwaitedLeg.AwaitedLeg}, DispatcherInvariants.{MovesLegs, MovesLegsAt, turned_legs}}
-use Rattle.napt_dispatch.specs.WorkerQueues.{WorkerQueueModel, unused_queue, queue_of, all_held, held_legs_count, many_held, AreQueuesCounted, HoldPost, AllHold, AnswersAt, only_at, with_queue}
+use Rattle.napt_dispatch.specs.WorkerQueues.{WorkerQueueModel, unused_queue, queue_of, all_held, held_legs_count, held_count, AreQueuesCounted, HoldPost, AllHold, AnswersAt, only_at, with_queue}
 
 module _ (queues : List WorkerQueueModel) (w : ℕ) (change : WorkerQueueModel → WorkerQueueModel) where
   pub queue_own : w < length queues → queue_of (with_queue w change queues) w ≡ change (queue_of queues w)
@@ -87,18 +87,18 @@ of_replicate zero w x = refl
 of_replicate (suc n) zero x = refl
 of_replicate (suc n) (suc w) x = of_replicate n w x
 
-pub none_held : (queues : List WorkerQueueModel) → many_held queues ≡ 0 → (w : ℕ) →
+pub none_held : (queues : List WorkerQueueModel) → held_count queues ≡ 0 → (w : ℕ) →
     held_legs_count (queue_of queues w) ≡ 0
 none_held [] e w = refl
 none_held (q ∷ queues) e zero = omega (arith, sym (sum_by-cons held_legs_count q queues) ∙ e)
 none_held (q ∷ queues) e (suc w) = none_held queues (omega (arith, sym (sum_by-cons held_legs_count q queues) ∙ e)) w
 
 pub held_none : (queues : List WorkerQueueModel) → ((w : ℕ) → held_legs_count (queue_of queues w) ≡ 0) →
-    many_held queues ≡ 0
+    held_count queues ≡ 0
 held_none [] none = refl
 held_none (q ∷ queues) none =
     let here : held_legs_count q ≡ 0 = none zero in
-    let rest : many_held queues ≡ 0 = held_none queues (λ w. none (suc w)) in
+    let rest : held_count queues ≡ 0 = held_none queues (λ w. none (suc w)) in
     sum_by-cons held_legs_count q queues ∙ omega (arith, here, rest)
 
 -- Before any offer nothing is held.

@@ -9,8 +9,8 @@ use Rattle.napt_pool.specs.{declared.pool.Pool.Pool, Pools.{accepted_items, take
 use Rattle.napt_dispatch.specs.declared.dispatcher.{Dispatcher.Dispatcher, DispatchResult.DispatchResult, DispatchEnd.DispatchEnd, reading.EndOfInputs.EndOfInputs}
 use Rattle.napt_dispatch.specs.{Dispatch.{of_worker, input_results}, WorkerQueues.{unused_queue, counts_in}, RunProgresses.{progress_in, whole_of}, DispatcherInvariants.{dispatcher_state, DispatcherInvariant}}
 use Rattle.napt_dispatch.specs.RunsThrough.{timed_results, HasCome, ReadInputsPost, ReadsAll, ReadsSome, ReadsToHalt, DispatchOk, DispatchDeparturesErr, DispatchErr, DispatchPost}
-use Rattle.napt_dispatch.proofs.{DispatchEnds.same_lengths, Passing.many_read, Lanes.grows_none, Windows.{length_all, left_front_of, departed_long}}
-use Rattle.napt_dispatch.{proofs.Standing.{begin_stands, all_taken, dispatched, left_right, right_before}, specs.declared.outcome_sink.InputResult.InputResult}
+use Rattle.napt_dispatch.proofs.{DispatchEnds.same_lengths, RunSteps.many_read, Lanes.grows_none, KnownInputs.{length_all, left_front_of, departed_long}}
+use Rattle.napt_dispatch.{proofs.InvariantSteps.{begin_stands, all_taken, dispatched, left_right, right_before}, specs.declared.outcome_sink.InputResult.InputResult}
 use Rattle.napt_dispatch.specs.declared.dispatcher.DispatchEnd.TheVariants as endings
 
 -- The invariant holds before the first input.

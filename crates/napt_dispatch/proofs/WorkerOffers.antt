@@ -5,11 +5,11 @@ use Rattle.napt_rules.specs.{Prelude.effect_from, declared.Leg.Leg}
 use Rattle.napt_pool.specs.{declared.pool.Pool.Pool, Pools.{initial_machines, accepted_items, taken_answers, capacity_of}}
 use Rattle.napt_dispatch.specs.declared.dispatcher.{Dispatcher.Dispatcher, holding.{QueueHead.QueueHead, PendingLeg.TheVariants.Ready}, progress.InputProgress.InputProgress}
 use Rattle.napt_dispatch.specs.{declared.{dispatcher.progress.InputProgress.TheVariants.{Returning, Answered}, outcome_sink.InputResult.InputResult}, Dispatch.of_worker}
-use Rattle.napt_dispatch.specs.WorkerQueues.{WorkerQueueModel, queue_of, many_owed, front_of, queue_readied, queue_answered, with_offers, with_queue}
+use Rattle.napt_dispatch.specs.WorkerQueues.{WorkerQueueModel, queue_of, owed_count, front_of, queue_readied, queue_answered, with_offers, with_queue}
 use Rattle.napt_dispatch.specs.RunProgresses.{RunProgressModel, progress_in, ProgressIsWritten, InputIsMarked}
 use Rattle.napt_dispatch.specs.DispatcherInvariants.{journal_of, state_with, dispatcher_state, with_more_at, DispatcherKeeps, KeepsAt, IsSizedFor, DispatcherContinues, NoteAnswerPost, NoteAnswersPost, Forgets, NothingMoved, Resolves, queue_waits, waits_behind, ReadyLegsPost, HasTaken, HasOffered, OffersOnlyTo, MovesLegsAt}
 use Rattle.napt_dispatch.proofs.Lanes.{grows_none, added_own, added_other, added_none, added_more, set_added}
-use Rattle.napt_dispatch.proofs.{QueueStates.{queue_own, queue_other, sum_with, nothing}, Standing.{queues_keep, offers_keep, readied_keeps, answer_keeps}}
+use Rattle.napt_dispatch.proofs.{QueueStates.{queue_own, queue_other, sum_with, nothing}, InvariantSteps.{queues_keep, offers_keep, readied_keeps, answer_keeps}}
 use Rattle.napt_sequential.specs.declared.{leg_trace.TracedAnswer.TracedAnswer, passage.Passage.Passage}
 
 -- THE FIRST HELD ENTRY
@@ -189,7 +189,7 @@ module _ {P : Type 0} {tells : Passage → P} (w : ℕ) (told : TracedAnswer P) 
   }
 
   -- Fewer answers are owed.
-  pub noted_less : many_owed later.queues + 1 ≡ many_owed mid.queues
+  pub noted_less : owed_count later.queues + 1 ≡ owed_count mid.queues
   noted_less = grind (arith, common_steps, nat_tests, sum_with)
 
 -- Answers were taken from the pool and recorded.

@@ -14,7 +14,7 @@ use Rattle.napt_dispatch.specs.declared.{outcome_sink.InputResult.InputResult, d
 use Rattle.napt_dispatch.specs.declared.dispatcher.{holding.{PendingLeg.TheVariants.{Ready, Place}, AwaitedLeg.AwaitedLeg}, progress.{OpenInput.OpenInput, InputProgress.InputProgress}}
 use Rattle.napt_dispatch.specs.declared.dispatcher.{progress.InputProgress.TheVariants.{Returning, Answered}, taking.StopCondition.StopCondition}
 use Rattle.napt_dispatch.specs.Dispatch.{of_worker, local_bindings, IsDispatchFault}
-use Rattle.napt_dispatch.specs.WorkerQueues.{WorkerQueueModel, AnswersAt, all_held, held_legs_count, front_of, queue_of, owed_of, many_owed, many_held, with_queue}
+use Rattle.napt_dispatch.specs.WorkerQueues.{WorkerQueueModel, AnswersAt, all_held, held_legs_count, front_of, queue_of, owed_of, owed_count, held_count, with_queue}
 use Rattle.napt_dispatch.specs.RunProgresses.{RunProgressModel, progress_in, times_in, is_unknown, passages_after, second_leg_asked, AsksForSecondLeg, first_in, whole_of, AllKnown, ProgressIsWritten, HasMark, InputIsMarked}
 use Rattle.napt_dispatch.specs.declared.dispatcher.holding.QueueHead.TheVariants as fronts
 use Rattle.napt_dispatch.specs.declared.dispatcher.taking.StopCondition.TheVariants as untils
@@ -233,7 +233,7 @@ Admits {P} tells rules number now input d later =
 
 -- For `true`, answers were taken, so fewer are owed. For `false`, nothing changed.
 abbrev pub HasTaken : {P : Type 0} → Dispatcher P → Dispatcher P → Bool → Type 0
-HasTaken d later true = many_owed later.queues < many_owed d.queues
+HasTaken d later true = owed_count later.queues < owed_count d.queues
 HasTaken d later false = NothingMoved d later
 
 -- These answers of worker w were recorded. The invariant is kept, whatever was offered and answered before.
@@ -291,7 +291,7 @@ pub record OffersOnlyTo {P M G : Type 0} (w : ℕ) (pool : Pool M G Leg (TracedA
 
 -- One more input may be read: two more legs or placeholders fit, and fewer than 131,072 inputs are open.
 pub record DispatcherHasRoom {P : Type 0} (d : Dispatcher P) : Type 0 where
-  pub held : many_held d.queues + 2 ≤ 65536
+  pub held : held_count d.queues + 2 ≤ 65536
   pub under_way : length d.progress.under_way < 131072
 
 -- THE END

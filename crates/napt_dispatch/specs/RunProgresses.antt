@@ -93,9 +93,9 @@ pub record IsUnmarked {P : Type 0} (number : ℕ) (window : RunProgressModel P) 
   pub mark : slice_get (marks_in window) number ≡ Some false
 
 -- The first open input has ended, and no placeholder is held for its second leg.
-abbrev pub FirstMayLeave : {P : Type 0} → List (OpenInput P) → Type 0
-FirstMayLeave [] = ⊥
-FirstMayLeave (first ∷ rest) = (has_ended first.progress ≡ true) × (first.has_place ≡ false)
+abbrev pub FirstIsComplete : {P : Type 0} → List (OpenInput P) → Type 0
+FirstIsComplete [] = ⊥
+FirstIsComplete (first ∷ rest) = (has_ended first.progress ≡ true) × (first.has_place ≡ false)
 
 -- STEPS
 

@@ -98,8 +98,8 @@ module _ {P M G S F : Type 0} (tells : Passage → P) (open_gate : Bool) (takes 
   HaltsAt (dispatch_faults.Departure fault) = StopsAt fault
   HaltsAt (dispatch_faults.Run fault) = RunThroughHalts tells open_gate takes pool d before later_pool after fault
 
-  abbrev pub LetsGoUnlessFault : {X : Type 0} → Result X (DispatchFault F) → Type 0
-  LetsGoUnlessFault result =
+  abbrev pub OutcomesLeaveUnlessFault : {X : Type 0} → Result X (DispatchFault F) → Type 0
+  OutcomesLeaveUnlessFault result =
       MatchResult result (λ done. OutcomesLeave tells takes pool d before later_pool later after) HaltsAt
 
 -- READING

@@ -32,15 +32,15 @@ abbrev pub held_legs_count : WorkerQueueModel → ℕ
 held_legs_count q = length q.ready + length q.held
 
 -- The number of legs that are not answered yet, and the number of entries held, over all workers.
-abbrev pub many_owed : List WorkerQueueModel → ℕ
-many_owed queues = sum_by (λ q. length q.owed) queues
+abbrev pub owed_count : List WorkerQueueModel → ℕ
+owed_count queues = sum_by (λ q. length q.owed) queues
 
-abbrev pub many_held : List WorkerQueueModel → ℕ
-many_held queues = sum_by held_legs_count queues
+abbrev pub held_count : List WorkerQueueModel → ℕ
+held_count queues = sum_by held_legs_count queues
 
 -- There are 1 to 4,294,967,295 workers, for which `many` legs and placeholders are held, at most 65,536.
 pub record AreQueuesCounted (many : ℕ) (queues : List WorkerQueueModel) : Type 0 where
-  pub counted : many ≡ many_held queues
+  pub counted : many ≡ held_count queues
   pub few : many ≤ 65536
   pub some : 0 < length queues
   pub numbered : length queues < 2 ^ 32

@@ -141,7 +141,7 @@ pub(crate) struct DispatchResult<A, D> {
 pub(crate) fn dispatch_to<R: Wait, G: Gate, A: InputSource, D: OutcomeSink>(
     rt: &R,
     alloc: Global,
-    pool: &mut Pool<Worker<D::Told>, G>,
+    pool: &mut Pool<Worker<D::Trace>, G>,
     config: &Config,
     clock: u64,
     arrivals: &mut A,
@@ -152,15 +152,15 @@ pub(crate) fn dispatch_to<R: Wait, G: Gate, A: InputSource, D: OutcomeSink>(
     requires untaken { taken_answers pool.old ≡ replicate (length config.now.pool) [] }
     ensures starts { initial_machines pool.new ≡ initial_machines pool.old }
     ensures ends { IfOk result (λ done. (start : State) → start.clock ≡ clock →
-        DispatchPost D.Told.tells config.now start A.hands A.ends D.takes D.fails D.is_settled
+        DispatchPost D.Trace.tells config.now start A.hands A.ends D.takes D.fails D.is_settled
         arrivals.old departures.old pool.new arrivals.new departures.new done done.ending) }
     ensures halts { OnErr result ((start : State) → start.clock ≡ clock →
-        DispatchErr D.Told.tells config.now start A.hands A.ends D.takes D.fails D.is_settled
+        DispatchErr D.Trace.tells config.now start A.hands A.ends D.takes D.fails D.is_settled
         arrivals.old departures.old pool.new arrivals.new departures.new) }
     ensures fault { IfErr result (IsDispatchFault G.is_open) }
 {
     let workers = config.pool().len() as u32;
-    let mut dispatcher = Dispatcher::<D::Told>::new(alloc, workers, config.ring(), clock)?;
+    let mut dispatcher = Dispatcher::<D::Trace>::new(alloc, workers, config.ring(), clock)?;
     match dispatcher.pass_all(rt, pool, config, arrivals, departures) {
         Ok(EndOfInputs { clock, fault }) => Ok(DispatchResult {
             legs: dispatcher.queues.counts(alloc)?,

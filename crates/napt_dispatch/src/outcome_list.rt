@@ -30,7 +30,7 @@ impl OutcomeSink for OutcomeList {
 
     type Fault = AllocError;
 
-    type Told = NoTrace;
+    type Trace = NoTrace;
 
     ghost takes = { Collects };
 

@@ -22,13 +22,13 @@ pub trait OutcomeSink {
     type Fault: Drop;
 
     /// What the workers record of each leg in addition to its answer.
-    type Told: LegTrace;
+    type Trace: LegTrace;
 
     // Between the two states these results, each with its arrival time, were written in this order.
-    ghost takes: { Self → List (ℕ × KnownDeparted Self.Told) → Self → Type 0 };
+    ghost takes: { Self → List (ℕ × KnownDeparted Self.Trace) → Self → Type 0 };
 
     // Between the two states writing these results ended with this fault.
-    ghost fails: { Self → List (ℕ × KnownDeparted Self.Told) → Self.Fault → Self → Type 0 };
+    ghost fails: { Self → List (ℕ × KnownDeparted Self.Trace) → Self.Fault → Self → Type 0 };
 
     // Every outcome written has reached its destination.
     ghost is_settled: { Self → Type 0 };
@@ -38,7 +38,7 @@ pub trait OutcomeSink {
     fn write(
         &mut self,
         time: u64,
-        departed: InputResult<Self::Told>,
+        departed: InputResult<Self::Trace>,
     ) -> Result<Option<Vec<u8>>, Self::Fault>
         ensures { MatchResult result (λ _. takes self.old ((time, departed) ∷ []) self.new)
             (λ fault. fails self.old ((time, departed) ∷ []) fault self.new) };
@@ -50,6 +50,6 @@ pub trait OutcomeSink {
 
     ghost takes_none: { (x : Self) → takes x [] x };
 
-    ghost takes_more: { (x y z : Self) (xs ys : List (ℕ × KnownDeparted Self.Told)) →
+    ghost takes_more: { (x y z : Self) (xs ys : List (ℕ × KnownDeparted Self.Trace)) →
         takes x xs y → takes y ys z → takes x (xs ++ ys) z };
 }

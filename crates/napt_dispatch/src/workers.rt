@@ -41,7 +41,7 @@ fn workers<P: LegTrace>(
     let many = config.pool().len() as u32;
     let mut made = Vec::new(alloc);
     for index in 0..many {
-        let translator = Translator::resumed(alloc, index, config.copy(alloc)?, state)?;
+        let translator = Translator::from_state(alloc, index, config.copy(alloc)?, state)?;
         made.push(Worker {
             translator,
             told: PhantomData,
@@ -263,12 +263,12 @@ pub fn run_through<
     gate: Arc<G>,
 ) -> Result<RunSummary, PassFault<A::Fault, D::Fault>>
     requires { TakesState config.now state.now }
-    ensures passes { RunThroughPost D.Told.tells config.now (with_redirects config.now state.now)
+    ensures passes { RunThroughPost D.Trace.tells config.now (with_redirects config.now state.now)
         A.hands A.ends
         D.takes D.fails D.is_settled arrivals.old departures.old arrivals.new departures.new result }
     ensures fault { IfErr result (IsStoppedUnder G.is_open) }
 {
-    let mut pool = start::<D::Told, _, _>(rt, alloc, config, state, gate)?;
+    let mut pool = start::<D::Trace, _, _>(rt, alloc, config, state, gate)?;
     let dispatched = dispatch_to(
         rt,
         alloc,

@@ -5,7 +5,7 @@ use Rattle.napt_rules.specs.Prelude.{BindingUse, Binding, Each, bindings_at, Leg
 use Rattle.napt_rules.specs.declared.{Leg.Leg, Answer.Answer, End.{End, TheVariants.{ToOutside, ToInside, Onward, Dropped}}, Outcome.Outcome}
 use Rattle.napt_laws.proofs.Lists.{each_weaker, each_append}
 use Rattle.napt_laws.specs.Dispatching.{IsFrontOf, RightAnswersAreTheRuns, RunsGrow, outcome_of_end, OutcomeIsGiven, AnswersGiveOutcomes, OnwardIsForeseen}
-use Rattle.napt_laws.proofs.{EachLeg.each_leg, OneMoreInput.grows, RunsLocal.translators_answer_from, OnwardLegs.{OnwardBy, onward}}
+use Rattle.napt_laws.proofs.{LegInduction.each_leg, OneMoreInput.grows, RunsLocal.translators_answer_from, OnwardLegs.{OnwardBy, onward}}
 
 -- PREFIXES
 

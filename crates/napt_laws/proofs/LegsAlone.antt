@@ -2,7 +2,7 @@
 use Rattle.std.proofs.Common.{◌≡◌, ℕ, List, map, refl, ap}
 use Rattle.napt_rules.specs.Prelude.{Binding, bindings_at, act, Arrival, LegAct, run, last_clock, acts_at, legs_at, answer_of, legs_replies, list_after_legs, LegsAnswerAlone, LegsLeaveTheirOwn, Rules}
 use Rattle.napt_rules.specs.declared.End.{End}
-use Rattle.napt_laws.{specs.LocalAgreement.LocalListAgrees, proofs.{LegsLocal.{agrees_later, alike, kept}, Turns.run_alone}}
+use Rattle.napt_laws.{specs.LocalAgreement.LocalListAgrees, proofs.{LegsLocal.{agrees_later, alike, kept}, RunInduction.run_alone}}
 
 record SeenAlone (rules : Rules) (address last : ℕ) (own : List Binding) (acts : List LegAct)
     (new : List Binding) : Type 0 where

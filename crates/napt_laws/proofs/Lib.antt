@@ -13,7 +13,7 @@ pub mod Endpoints
 -- STEPS: the list of bindings at the start, and what a packet does to it
 
 pub mod HeldNumbers
-pub mod Passes
+pub mod StepCases
 pub mod Shuffles
 pub mod AlikeLists
 pub mod StepRows
@@ -23,7 +23,7 @@ pub mod StepsLive
 pub mod StepsSound
 pub mod StepsQuota
 pub mod StepsAlike
-pub mod Accounts
+pub mod HoldTimes
 pub mod RowNumbers
 pub mod OpeningList
 pub mod Orders
@@ -38,8 +38,8 @@ pub mod LegsLocal
 pub mod BindingUseLaws
 -- RUNS
 
-pub mod AnyStep
-pub mod Turns
+pub mod StepProperties
+pub mod RunInduction
 pub mod RunsBeside
 pub mod Routes
 pub mod RunsLocal
@@ -52,10 +52,10 @@ pub mod OwnBindings
 pub mod OwnStates
 pub mod Rows
 pub mod OneMoreInput
-pub mod GoingOn
+pub mod ContinuedRuns
 pub mod RunsAlike
 pub mod SavedStates
-pub mod EachLeg
+pub mod LegInduction
 pub mod DispatchLaws
 pub mod OneInput
 pub mod Places

@@ -2,7 +2,7 @@
 use Rattle.std.proofs.Common.{◌≡◌, ℕ, suc, ◌+◌, ◌*◌, ◌≤◌, max, List, [], ◌∷◌, ◌++◌, length, refl, ◌∙◌, ap, arith, append-nil, append_assoc, length-append}
 use Rattle.napt_rules.specs.Prelude.{Binding, LegEffect, act, Arrival, RunEffect, effect_then, with_second_leg, first_leg, step, run_from, last_clock, opening, run_result, Rules}
 use Rattle.napt_rules.specs.declared.{Leg.Leg, End.{End, TheVariants.{ToOutside, ToInside, Onward, Dropped}}, Outcome.Outcome}
-use Rattle.napt_laws.proofs.AnyStep.{of_step}
+use Rattle.napt_laws.proofs.StepProperties.{of_step}
 
 ahead_none : (course : RunEffect) → effect_then course (record { outcomes = []; acts = []; list = course.list })
     ≡ course

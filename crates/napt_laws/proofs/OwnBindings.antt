@@ -5,8 +5,8 @@ use Rattle.std.{specs.List.list_any, proofs.lemmas.Bool.{or_parts, true≢false}
 use Rattle.napt_wire.specs.declared.Kind.TheVariants as kinds
 use Rattle.napt_rules.specs.declared.{Flow.Flow, InboundRules.InboundRules, OutboundPacket.OutboundPacket, InboundPacket.InboundPacket, Leg.Leg}
 use Rattle.napt_rules.specs.Prelude.{Binding, no_marks, change_first, same_endpoint, is_tcp, is_live_flow, live_flows, with_live_flows, hold_ago, live_and_held, is_flow_of, flow_after, with_flow, refreshes, inbound_rules, assignment_rules, no_flags, is_of_source, binding_after_out, is_of_live_source, live_binding_after_out, other_bindings, new_binding, binding_after_in, is_of_live_destination, live_binding_after_in, outbound_packet, inbound_packet, act_out, act_in, act_by, Arrival, run_from, last_clock, flows_share, redirect_binding, opening, dynamic_bindings, with_redirects, AreFlowsOwn, IsBindingOwn, AreAllOwn, TakenStatesAreOwn, Protocol, Icmp, Tcp, Udp, Way, Outgoing, Incoming, Flags, Endpoint, Kind, source, kind, Timers, Rules, pair_of, is_inside, Redirect}
-use Rattle.napt_laws.proofs.{Endpoints.{end_itself, end_is}, Lists.{each_changed, each_pushed, each_weaker, each_less, each_append}, Passes.{of_out, of_in}, Purges.each_purged}
-use Rattle.napt_laws.proofs.{TakenStates.all, Turns.run_keeps_at}
+use Rattle.napt_laws.proofs.{Endpoints.{end_itself, end_is}, Lists.{each_changed, each_pushed, each_weaker, each_less, each_append}, StepCases.{of_out, of_in}, Purges.each_purged}
+use Rattle.napt_laws.proofs.{TakenStates.all, RunInduction.run_keeps_at}
 
 -- FLOWS
 

@@ -5,7 +5,7 @@ use Rattle.napt_rules.specs.Prelude.{BindingUse, Binding, Each, way_from, served
 use Rattle.napt_rules.specs.declared.{Leg.Leg, End.{End, TheVariants.{ToOutside, ToInside, Onward, Dropped}}}
 use Rattle.napt_laws.{proofs.Lists.{each_weaker, each_append}, specs.Dispatching.{IsFrontOf, OnwardIsForeseen}}
 use Rattle.napt_laws.specs.SecondLegs.{first_act, acts_of, acts_of_number, all_but_first, second_legs, second_of, IsSeconded, AnswersFillPlaces, PlacesStandForLegs}
-use Rattle.napt_laws.proofs.{EachLeg.each_leg, OneInput.{acts_begin, grown}}
+use Rattle.napt_laws.proofs.{LegInduction.each_leg, OneInput.{acts_begin, grown}}
 
 -- The legs of an address in two lists of acts are those of the first and then those of the second.
 pub legs_append : (address : ℕ) (xs ys : List LegAct) → legs_at address (xs ++ ys) ≡ legs_at address xs

@@ -4,7 +4,7 @@ use Rattle.std.{specs.Option.option_map, proofs.lemmas.Bool.and_parts}
 use Rattle.napt_rules.specs.declared.{AssignmentRules.AssignmentRules, InboundRules.InboundRules}
 use Rattle.napt_rules.specs.Prelude.{Binding, same_protocol, is_of_inside, has_number, purge, permits, is_of_source, granted_again, out_made, out_found, out_taken, is_of_destination, in_found, in_taken, row, Timers, IsNumber, IsPaired, IsSound, IsPortBlock, Protocol, Icmp, Tcp, Udp, Cause, Endpoint}
 use Rattle.napt_rules.specs.declared.{OutboundPacket.OutboundPacket, InboundPacket.InboundPacket}
-use Rattle.napt_laws.proofs.{Passes.in_passed, HeldNumbers.each_rows, Lists.find_passes, StepsSound.{granted_apart, purge_stays_sound}}
+use Rattle.napt_laws.proofs.{StepCases.in_passed, HeldNumbers.each_rows, Lists.find_passes, StepsSound.{granted_apart, purge_stays_sound}}
 
 number_of : (p q : Protocol) (n : ℕ) → same_protocol p q ≡ true → IsNumber q n → IsNumber p n
 number_of Icmp q n e h = tt

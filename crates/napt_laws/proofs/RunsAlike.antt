@@ -4,7 +4,7 @@ use Rattle.std.{specs.List.{list_any, Sorted.IsPermutation}, proofs.lemmas.List.
 use Rattle.napt_rules.specs.Prelude.{Binding, Each, bindings_at, is_at, purge, row, protocol_rank, rows, sorted_rows, act, Arrival, LegAct, RunEffect, run_from, last_clock, legs_at, run_result_of, AreRowsApart, AreBindingsApart, IsSound, AreAlike, AlikeRunGoesOn, AlikeStatesGoOn, Protocol, Icmp, Tcp, Udp, PacketsCarryNumbers, Rules, RulesInvariant, pair_of}
 use Rattle.napt_rules.{specs.declared.{Row.Row, Leg.Leg, Outcome.Outcome}, proofs.Lists.each_filter}
 use Rattle.napt_laws.proofs.{Lists.{each_weaker, each_parts}, Finds.Once, Orders.{same_rank, same_rank-true, in_order_alike, in_order-moves}, OpeningList.sound_at, StepsSound.{purge_stays_sound, out_stays_sound, in_stays_sound}}
-use Rattle.napt_laws.proofs.{Shuffles.{filter_once, each_moved}, AlikeLists.{filter_of, purge_some, alike_some, alike_later, alike_taken}, StepsAlike.acts_alike, Turns.IsServed, RunsBeside.{AreActsBeside, AreBeside, run_both}, RunsSound.sound_by}
+use Rattle.napt_laws.proofs.{Shuffles.{filter_once, each_moved}, AlikeLists.{filter_of, purge_some, alike_some, alike_later, alike_taken}, StepsAlike.acts_alike, RunInduction.IsServed, RunsBeside.{AreActsBeside, AreBeside, run_both}, RunsSound.sound_by}
 
 -- THE ROWS of one address differ in rank, where numbers are below 2 ^ 16
 

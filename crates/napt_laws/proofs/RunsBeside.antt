@@ -2,7 +2,7 @@
 use Rattle.std.proofs.Common.{◌≡◌, ℕ, ◌+◌, ◌≤◌, max, List, [], ◌∷◌, ◌++◌, Option, Result, Ok, Err, refl, ◌∙◌, ap, subst, arith}
 use Rattle.napt_rules.specs.Prelude.{BindingUse, Binding, LegEffect, act, Arrival, admission, LegAct, RunEffect, outcome_of, leg_effect, with_second_leg, admitted_effect, served_at, reading, first_leg, step_as, step, run_from, last_clock, Incoming, Cause, destination, Rules}
 use Rattle.napt_rules.specs.declared.{Leg.Leg, Outcome.Outcome, End.{End, TheVariants.{ToOutside, ToInside, Onward, Dropped}}}
-use Rattle.napt_laws.proofs.Turns.{IsServed, was_admitted, serves}
+use Rattle.napt_laws.proofs.RunInduction.{IsServed, was_admitted, serves}
 
 -- The relation of the two lists at a time, after a leg, and after a run.
 module _ (R : ℕ → List Binding → List Binding → Type 0) (now : ℕ) where

@@ -4,7 +4,7 @@ use Rattle.std.proofs.lemmas.{Bool.{ne_eqb, eqb-true, and_parts, true≢false}, 
 use Rattle.napt_rules.specs.declared.{AssignmentRules.AssignmentRules, InboundRules.InboundRules}
 use Rattle.napt_rules.specs.Prelude.{Binding, same_protocol, same_endpoint, is_at, bindings_at, is_live, purge, permits, is_of_source, is_of_live_source, binding_after_out, live_binding_after_out, other_bindings, new_binding, out_made, granted_again, out_found, out_taken, is_of_destination, is_of_live_destination, live_binding_after_in, in_found, in_taken, Cause, Timers}
 use Rattle.napt_rules.specs.declared.{Row.Row, OutboundPacket.OutboundPacket, InboundPacket.InboundPacket}
-use Rattle.napt_laws.proofs.{Lists.{find_filter, filter_swap, filter_narrow, filter_change, filter_change_other}, Purges.of_purge, Passes.{in_passed, of_out, of_in}, Quotas.granted_local}
+use Rattle.napt_laws.proofs.{Lists.{find_filter, filter_swap, filter_narrow, filter_change, filter_change_other}, Purges.of_purge, StepCases.{in_passed, of_out, of_in}, Quotas.granted_local}
 
 of_push : (address : ℕ) (list : List Binding) (b : Binding) → is_at address b.row ≡ true →
     bindings_at address (list ++ b ∷ [])

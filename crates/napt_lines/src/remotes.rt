@@ -117,7 +117,7 @@ impl Remotes {
         let Some(remote) = remote_of(bytes, Side::Inside) else {
             return Ok(());
         };
-        if let Some(number) = passing.step.part.used.out
+        if let Some(number) = passing.step.part.used.outbound
             && let Some(remotes) = self.of_bindings.get_mut(&number)
             && remotes.len() < MOST
             && !remotes.contains(&remote)
@@ -192,7 +192,7 @@ impl Remotes {
             Outcome::Dropped(cause) => *cause == Cause::NoBinding,
             Outcome::ToInside(packet) => {
                 let is_another = sent.by_others || packet.destination().address != sent.host;
-                is_another && !self.has_sent(passing.step.part.used.into, remote)
+                is_another && !self.has_sent(passing.step.part.used.inbound, remote)
             }
             Outcome::ToOutside(_) => false,
         };

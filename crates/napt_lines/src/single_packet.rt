@@ -107,8 +107,8 @@ impl<R: Print + Eprint + AllocGlobal> CommandOutput<R> for SinglePacket<'_> {
         let mut widths = ColumnWidths::default();
         widths.widen_for(number, input);
         line.add(rt.alloc(), text, widths)?;
-        self.out = step.part.used.out.map(UsedBinding::new);
-        self.into = step.part.used.into.map(UsedBinding::new);
+        self.out = step.part.used.outbound.map(UsedBinding::new);
+        self.into = step.part.used.inbound.map(UsedBinding::new);
         Ok(())
     }
 

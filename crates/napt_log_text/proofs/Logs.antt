@@ -7,7 +7,7 @@ use Rattle.napt_rules.specs.Prelude.{Arrival, Binding, RunEffect, State, effect_
 use Rattle.napt_sequential.{specs.{Traces.{trace_of, traces_from, traces_of}, declared.passage.Trace.Trace}, proofs.StepTraceSteps.traces_grow}
 use Rattle.napt_account.specs.{declared.log.LogEntry.LogEntry, Effects.{EffectsAreTheLog, log_after}, Log.{LogModel, after_input, log_on}}
 use Rattle.napt_account.specs.{ResumedLogRuns.{LogGoesOn, LogsGoOn, SavedLogsGoOn, left_of, part_of}, LogParts.{LogDelta, in_order_of_end, kept_at, part_between}}
-use Rattle.napt_account.proofs.GoingOn.{fold_joined}
+use Rattle.napt_account.proofs.ContinuedLogs.{fold_joined}
 use Rattle.napt_laws.proofs.OneMoreInput.{clock_more, clock_on, grows as run_grows}
 use Rattle.napt_log_text.specs.Logs.{EffectsHaveTheRows, Join, LogGrows, LogOrigin, LogsJoin, PiecesStandAlone, SavedLogsJoin, log_added, begins_piece, clock_after, first_text, living_rows, grown_log, log_so_far}
 use Rattle.napt_log_text.specs.{Logs.{log_text, opening_text, part_rows, piece_opening, rows_by, rows_from, text_of}, Times.TimeText}

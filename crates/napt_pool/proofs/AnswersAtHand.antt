@@ -3,7 +3,7 @@ use Rattle.std.proofs.lemmas.Grind.{common_steps}
 use Rattle.std.proofs.Common.{◌≡◌, sym, ap, ◌∙◌, arith, List, map, length, [], ◌∷◌, ◌++◌, append-nil, append_assoc, length-append}
 use Rattle.std.{proofs.lemmas.List.{length-map, take_at}, specs.Prelude.{Option, None, Some, MatchOption, option_to_list}}
 use Rattle.napt_pool.specs.{declared.message.Reply.{Reply, TheVariants.Done}, Histories.{all_but_last, answers_of, each_reply}}
-use Rattle.napt_pool.proofs.{HistoryGrowth.{answers_of-append, each_reply-next}, Ending.answers_of-map}
+use Rattle.napt_pool.proofs.{HistoryGrowth.{answers_of-append, each_reply-next}, EndHistories.answers_of-map}
 
 -- All but the last elements are the list before them.
 pub front_is : {X : Type 0} (e hs ys : List X) → hs ++ ys ≡ e → all_but_last (length ys) e ≡ hs

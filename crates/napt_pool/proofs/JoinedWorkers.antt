@@ -4,11 +4,11 @@ use Rattle.std.proofs.Common.{rules, ◌≡◌, ℕ, zero, suc, ◌+◌, ◌<◌
 use Rattle.std.{specs.Prelude.{Result, Ok, Err, OnOk, IfOk, IfErr, MatchResult, Contains, replicate}, proofs.lemmas.List.{length-map, nil_from_length}}
 use Rattle.std.{specs.Vec.Iter.{into_iter_items, into_iter_len}}
 use Rattle.napt_pool.specs.declared.{fault.{PoolFault.PoolFault, WorkerFault.{WorkerFault, TheVariants.{Memory, GateShut, Ring}}}, machine.Machine.Ghosts}
-use Rattle.napt_pool.{specs.declared.{closing.{ClosingWorker.ClosingWorker, Ended.Ended}, message.Reply.TheVariants.Failed, pool.Pool.Pool}, proofs.Steps.map-snoc}
+use Rattle.napt_pool.{specs.declared.{closing.{ClosingWorker.ClosingWorker, Ended.Ended}, message.Reply.TheVariants.Failed, pool.Pool.Pool}, proofs.HistorySteps.map-snoc}
 use Rattle.napt_pool.specs.{declared.thread_state.ThreadState.ThreadState, Faults.{is_shut, is_gate_shut, fault_of, IsFaultOf, IsFaultUpTo, IsLeastFault}}
 use Rattle.napt_pool.specs.Histories.{after, replies, ArePrefixesOf}
 use Rattle.napt_pool.specs.Workers.{IsEnd, AreEnds, closing_machine, closing_thread_state, closing_accepted, closing_taken, closing_heard}
-use Rattle.napt_pool.{specs.Pools.{initial_machines, accepted_items, taken_answers, handed_out_replies, thread_states, zip_with, HasReported, HaveReceived, CloseErr}, proofs.Ending.length-replies}
+use Rattle.napt_pool.{specs.Pools.{initial_machines, accepted_items, taken_answers, handed_out_replies, thread_states, zip_with, HasReported, HaveReceived, CloseErr}, proofs.EndHistories.length-replies}
 
 no_rest : {A : Type 0} (t rest : List A) → length (t ++ rest) ≡ length t → t ++ rest ≡ t
 no_rest [] [] e = refl

@@ -3,7 +3,7 @@
 ghost use Rattle.std.specs.Prelude.{◌≡◌, Bool, true, false, IsTrue};
 
 /// The largest number of times that a worker asks for one item.
-const MOST_ASKS: u32 = 1_000_000;
+const MAX_REQUESTS: u32 = 1_000_000;
 
 /// What a worker asks before each step. It decides when a worker continues, and not the result.
 pub trait Gate {
@@ -32,10 +32,10 @@ impl Gate for OpenGate {
 }
 
 /// Asks until the gate is open, or has refused as often as it may.
-pub(crate) fn is_let_in<G: Gate>(gate: &G, worker: u32, turn: u64) -> bool
+pub(crate) fn enter_gate<G: Gate>(gate: &G, worker: u32, turn: u64) -> bool
     ensures { G.is_open ≡ true → IsTrue result }
 {
-    for _ in 0..MOST_ASKS {
+    for _ in 0..MAX_REQUESTS {
         if gate.enter(worker, turn) {
             return true;
         }

@@ -22,7 +22,7 @@ pub(crate) struct StartFailure<M: Machine> {
 }
 
 /// Closes and joins the workers started so far, because the next one could not be started.
-pub(crate) fn give_up<M: Machine, G: Gate, R: Threads>(
+pub(crate) fn close_started<M: Machine, G: Gate, R: Threads>(
     rt: &R,
     fault: PoolFault,
     workers: Vec<WorkerHandle<M, G>>,

@@ -6,7 +6,7 @@ ghost use Rattle.napt_pool.specs.{Faults.IsStartFault, Workers.{AreWorkersNew, A
 use crate::close_buffers::CloseBuffers;
 use crate::fault::PoolFault;
 use crate::gate::Gate;
-use crate::joining::{StartFailure, give_up};
+use crate::joining::{StartFailure, close_started};
 use crate::machine::Machine;
 use crate::worker::WorkerHandle;
 use std::alloc::Global;
@@ -40,13 +40,13 @@ where
         gone.started gone.ends.items) }
 {
     let Ok(mut workers) = Vec::with_capacity(alloc, machines.len()) else {
-        return Err(give_up(rt, PoolFault::Memory, Vec::new(alloc), buffers));
+        return Err(close_started(rt, PoolFault::Memory, Vec::new(alloc), buffers));
     };
     let mut number = 0u32;
     for machine in machines {
         let worker = match WorkerHandle::start(rt, alloc, machine, capacity, &gate, number) {
             Ok(worker) => worker,
-            Err(fault) => return Err(give_up(rt, fault, workers, buffers)),
+            Err(fault) => return Err(close_started(rt, fault, workers, buffers)),
         };
         workers.push_reserved(worker);
         number += 1;

@@ -83,7 +83,7 @@ pub fn state_from<D: Read + Drop>(
         Err(fault) => return Err(stop_of_state(&fault)),
     };
     let log = saved.log.map_or(LogEnd::default(), |log| log.end);
-    match saved.take_up(alloc, config, ends_misfits)? {
+    match saved.restore(alloc, config, ends_misfits)? {
         Ok(
             TakenState {
                 state,

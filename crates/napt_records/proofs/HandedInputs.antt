@@ -6,7 +6,7 @@ use Rattle.napt_capture.specs.{declared.{device.Source.Ghosts, record_reader.Rec
 use Rattle.napt_capture.specs.Reading.{IsReadFault}
 use Rattle.napt_records.{specs.declared.{stream.RecordStream.RecordStream, stream_merger.StreamMerger.StreamMerger}, proofs.ReaderRests.StopsBy-then}
 use Rattle.napt_records.{proofs.Merges.{IsKnown, hands_until, takes_timely}, specs.Output.IsTimely}
-use Rattle.napt_records.specs.StreamMergers.{IsMergerLive, AreSame, MergeEndsWith, HandsOutInputs, LookPost, TakesAny, NextOk, cut_of}
+use Rattle.napt_records.specs.StreamMergers.{IsMergerLive, AreSame, MergeEndsWith, HandsOutInputs, ReadAheadPost, TakesAny, NextOk, cut_of}
 use Rattle.napt_records.specs.UnreadInputs.{InputsCameFirst, KnownStays, merger_rest, reader_rest, holds_by, inputs_of, stream_holds}
 use Rattle.napt_records.specs.RecordMerging.{MergedInputs, TakesRecord, at_fault, inputs_from, is_outside_next}
 use Rattle.napt_sequential.specs.Inputs.{NextInputPost}
@@ -126,11 +126,11 @@ module _ {R Q : Type 0} {G : Ghosts R} {H : Ghosts Q} where
       ≡ mid.outside → AreSame old new
   same_moved old mid new same ins outs = grind (arith, common_steps, nat_tests)
 
-  looks_stay : (old mid : StreamMerger R Q G H) → LookPost old mid → KnownStays (inputs_of old) (inputs_of mid)
+  looks_stay : (old mid : StreamMerger R Q G H) → ReadAheadPost old mid → KnownStays (inputs_of old) (inputs_of mid)
   looks_stay old mid p = stays_both old.clock _ _ mid.clock _ _ p.clock p.inside_stays p.outside_stays
 
   HandsOut-one : (old mid new : StreamMerger R Q G H) (input : Arrival) → AreSame old mid →
-      (IsMergerLive old → LookPost old mid)
+      (IsMergerLive old → ReadAheadPost old mid)
       → NextOk mid.inside_first mid.outside_first mid.clock input new.inside_first new.outside_first new.clock
       → new.inside ≡ mid.inside → new.outside ≡ mid.outside → HandsOutInputs old (input ∷ []) new
   HandsOut-one old mid new input same looks first ins outs = (
@@ -154,7 +154,7 @@ module _ {R Q : Type 0} {G : Ghosts R} {H : Ghosts Q} where
         },
   )
 
-  EndsWith-none : (old mid new : StreamMerger R Q G H) → AreSame old mid → (IsMergerLive old → LookPost old mid)
+  EndsWith-none : (old mid new : StreamMerger R Q G H) → AreSame old mid → (IsMergerLive old → ReadAheadPost old mid)
       → TakesAny mid.inside_first mid.outside_first mid.clock None new.inside_first new.outside_first new.clock
       → new.inside ≡ mid.inside → new.outside ≡ mid.outside → MergeEndsWith old None new
   EndsWith-none old mid new same looks other ins outs =
@@ -176,7 +176,7 @@ module _ {R Q : Type 0} {G : Ghosts R} {H : Ghosts Q} where
       grind (arith, common_steps, nat_tests, StopsBy-then, fault_outside, more_of)
 
   pub Hands-any : (old mid new : StreamMerger R Q G H) (taken : Option Arrival) → AreSame old mid →
-      (IsMergerLive old → LookPost old mid)
+      (IsMergerLive old → ReadAheadPost old mid)
       → TakesAny mid.inside_first mid.outside_first mid.clock taken new.inside_first new.outside_first new.clock
       → new.inside ≡ mid.inside → new.outside ≡ mid.outside →
       NextInputPost HandsOutInputs MergeEndsWith old (Ok taken) new

@@ -48,8 +48,9 @@ abbrev pub AreSame : {R Q : Type 0} {G : Ghosts R} {H : Ghosts Q} → StreamMerg
     Type 0
 AreSame old new = HasSameSource old.inside new.inside × HasSameSource old.outside new.outside
 
--- After a look at both streams, the unread inputs are unchanged, and the next record of each is known or its end is.
-pub record LookPost {R Q : Type 0} {G : Ghosts R} {H : Ghosts Q} (old new : StreamMerger R Q G H) : Type 0 where
+-- After both streams have read ahead, the unread inputs are unchanged, and the next record of each is known or its end
+-- is.
+pub record ReadAheadPost {R Q : Type 0} {G : Ghosts R} {H : Ghosts Q} (old new : StreamMerger R Q G H) : Type 0 where
   pub live : IsMergerLive new
   pub inside_count : NoneFailed old.inside new.inside
   pub outside_count : NoneFailed old.outside new.outside
@@ -73,10 +74,10 @@ pub record NextFault {R Q : Type 0} {G : Ghosts R} {H : Ghosts Q} (old : StreamM
   pub outside_count : CountsFailures old.outside (failed_by Outside fault.side fault.fault) new.outside
   pub stops : IsReadFault fault.fault (IfSome (inputs_of old) (λ inputs. inputs ≡ at_fault fault.side fault.fault))
 
-abbrev pub LooksOrMeets : {R Q : Type 0} {G : Ghosts R} {H : Ghosts Q} → StreamMerger R Q G H →
+abbrev pub ReadsAheadOrMeets : {R Q : Type 0} {G : Ghosts R} {H : Ghosts Q} → StreamMerger R Q G H →
     Result (Unit {0}) SideFault → StreamMerger R Q G H → Type 0
-LooksOrMeets old (Ok done) new = LookPost old new
-LooksOrMeets old (Err fault) new = NextFault old fault new
+ReadsAheadOrMeets old (Ok done) new = ReadAheadPost old new
+ReadsAheadOrMeets old (Err fault) new = NextFault old fault new
 
 -- The next of the records that were read became an input.
 pub record NextOk (first other : Option RecordModel) (clock : ℕ) (input : Arrival)

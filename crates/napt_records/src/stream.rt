@@ -100,7 +100,7 @@ impl<'a, R: Source> RecordStream<'a, R> {
     /// Reads the next record into `first`, unless it holds one or the end was reached. The record
     /// takes `spare`, which a new vector replaces. After a fault, nothing of the rest is lost.
     #[inline(always)]
-    pub fn look(
+    pub fn read_ahead(
         &mut self,
         alloc: Global,
         first: &mut Option<Record>,
@@ -138,7 +138,7 @@ impl<'a, R: Source> RecordStream<'a, R> {
         Ok(())
     }
 
-    /// Returns whether `look` would read the source.
+    /// Returns whether `read_ahead` would read the source.
     pub fn asks_device(&self, first: &Option<Record>) -> bool
         ensures quiet { result ≡ false → ¬ AsksSource self.now first.now }
         ensures needed { result ≡ true → AsksSource self.now first.now }

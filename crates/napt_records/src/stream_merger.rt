@@ -55,7 +55,7 @@ pub struct StreamMerger<'a, 'b, R: Source, Q: Source> {
 
 impl<'a, 'b, R: Source, Q: Source> StreamMerger<'a, 'b, R, Q> {
     ghost use Rattle.std.specs.Prelude.{◌≡◌, None};
-    ghost use Rattle.napt_records.specs.StreamMergers.{IsMergerLive, AreSame, LooksOrMeets, TakesAny, cut_of};
+    ghost use Rattle.napt_records.specs.StreamMergers.{IsMergerLive, AreSame, ReadsAheadOrMeets, TakesAny, cut_of};
 
     /// Returns a merger of these captures, whose headers have been read.
     pub fn new(
@@ -100,11 +100,14 @@ impl<'a, 'b, R: Source, Q: Source> StreamMerger<'a, 'b, R, Q> {
 
     /// Reads until the next record of each side is known. The first record read reuses `spare`.
     #[inline(always)]
-    fn look(&mut self, spare: &mut Vec<u8>) -> Result<(), SideFault>
+    fn read_ahead(&mut self, spare: &mut Vec<u8>) -> Result<(), SideFault>
         ensures same { AreSame self.old self.new }
-        ensures looks { IsMergerLive self.old → LooksOrMeets self.old result self.new }
+        ensures looks { IsMergerLive self.old → ReadsAheadOrMeets self.old result self.new }
     {
-        if let Err(fault) = self.inside.look(self.alloc, &mut self.inside_first, spare) {
+        if let Err(fault) = self
+            .inside
+            .read_ahead(self.alloc, &mut self.inside_first, spare)
+        {
             return Err(SideFault {
                 side: Side::Inside,
                 fault,
@@ -112,7 +115,7 @@ impl<'a, 'b, R: Source, Q: Source> StreamMerger<'a, 'b, R, Q> {
         }
         match self
             .outside
-            .look(self.alloc, &mut self.outside_first, spare)
+            .read_ahead(self.alloc, &mut self.outside_first, spare)
         {
             Ok(()) => Ok(()),
             Err(fault) => Err(SideFault {
@@ -168,7 +171,7 @@ impl<'a, 'b, R: Source, Q: Source> InputSource for StreamMerger<'a, 'b, R, Q> {
     #[inline(always)]
     fn next(&mut self, spare: Vec<u8>) -> Result<Option<Input>, SideFault> {
         let mut spare = spare;
-        self.look(&mut spare)?;
+        self.read_ahead(&mut spare)?;
         Ok(self.pop())
     }
 }

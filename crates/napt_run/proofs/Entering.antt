@@ -3,7 +3,7 @@ use Rattle.std.proofs.lemmas.{Grind.common_steps, Bool.{Decides.nat_tests, eqb-t
 use Rattle.std.proofs.Common.{◌≡◌, ℕ, ◌+◌, ◌^◌, ◌<◌, ◌==◌, Bool, true, false, cond, List, [], ◌∷◌, ◌++◌, length, Option, Some, None, Result, Ok, Err, IfErr, OnOk, refl, sym, ◌∙◌, ap, arith, subst, append-nil, length-append}
 use Rattle.napt_capture.specs.declared.{device.Sink.Ghosts, fault.WriteFault.WriteFault}
 use Rattle.napt_log_text.specs.Times.{TimeText}
-use Rattle.napt_account.{specs.{Effects.log_after, Log.{after_input}, LogBuilders.{IsBuilderFault, LogBuilderModel}, LogParts.{LogDelta, part_between}}, proofs.GoingOn.fold_joined}
+use Rattle.napt_account.{specs.{Effects.log_after, Log.{after_input}, LogBuilders.{IsBuilderFault, LogBuilderModel}, LogParts.{LogDelta, part_between}}, proofs.ContinuedLogs.fold_joined}
 use Rattle.napt_records.specs.declared.{Fault.{Fault, TheVariants.{Capture, Run, Write}}, Which.TheVariants.{Log}}
 use Rattle.napt_sequential.specs.declared.passage.Trace.{Trace}
 use Rattle.napt_run.specs.{OutputSinkLaws.{breaks_more, grows_more, grows_none}, OutputSinks.named, Outputs.{Breaks, OutputGrows}, LogOrigins.LoggedOrigin, RunningLogLaws.time_joined, RunningLogs.{Adds, EntersNot, EntersWith, FailsBy, LogGoesOnFrom, LogIsAt, known_logs, last_time, rows_in, last_trace_time}}

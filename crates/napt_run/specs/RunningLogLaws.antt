@@ -2,7 +2,7 @@
 use Rattle.std.{specs.Prelude.{◌≡◌, ℕ, List, [], ◌∷◌, ◌++◌, Option, Some, None}, proofs.{Common.{refl, sym, ◌∙◌, ap, subst, append-nil, append_assoc}, lemmas.List.map-append}}
 use Rattle.napt_capture.specs.declared.device.Sink.{Ghosts}
 use Rattle.napt_config.specs.Rules.{Rules}
-use Rattle.napt_account.{specs.{Effects.log_after, Log.{LogModel, after_input}, LogBuilders.IsBuilderFault, LogParts.{kept_at, part_between}}, proofs.GoingOn.fold_joined}
+use Rattle.napt_account.{specs.{Effects.log_after, Log.{LogModel, after_input}, LogBuilders.IsBuilderFault, LogParts.{kept_at, part_between}}, proofs.ContinuedLogs.fold_joined}
 use Rattle.napt_log_text.specs.{Logs.{part_rows, piece_opening, rows_by}, Times.TimeText}
 use Rattle.napt_records.specs.declared.{Fault.{Fault, TheVariants.{Capture, Run, Write}}, Which.TheVariants.{Outside, Inside, Report, Log}}
 use Rattle.napt_sequential.specs.declared.passage.{Passage.Passage, Trace.Trace}

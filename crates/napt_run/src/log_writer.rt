@@ -131,7 +131,7 @@ impl<'a, 'b, L: Sink> LogWriter<'a, 'b, L> {
     {
         let mut text = String::new(self.alloc);
         if begins_piece(self.each, self.log.last(), now) {
-            let kept = self.log.left(self.alloc)?;
+            let kept = self.log.to_open_log(self.alloc)?;
             add_opening(self.log.config(), &kept, &mut text)?;
         }
         Ok(text)
@@ -164,7 +164,7 @@ impl<'a, 'b, L: Sink> LogWriter<'a, 'b, L> {
             IfOk result (λ left. left ≡ left_with from all) }
         ensures fault { IfErr result (IsTextFault true) }
     {
-        let left = self.log.left(self.alloc)?;
+        let left = self.log.to_open_log(self.alloc)?;
         let text = self.ending()?;
         self.write(&text)?;
         Ok(left)

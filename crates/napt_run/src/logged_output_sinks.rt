@@ -35,7 +35,7 @@ impl<W: Sink, V: Sink, K: StreamLog> OutcomeSink for LoggedOutcomeWriter<'_, '_,
 
     type Fault = Fault;
 
-    type Told = K::Told;
+    type Trace = K::Told;
 
     ghost takes = { λ x all y. TakesBoth K.enters x all y };
 

@@ -100,7 +100,7 @@ fn a_log_goes_on_with_the_bindings_of_its_state(rt: HostRuntime) -> Result<(), F
     let kept = kept(alloc, 3, 2)?;
     let resumed = resumed(alloc, &config, &kept)?;
     assert!(rt; resumed.ended.is_empty() && resumed.made.is_empty());
-    let left = resumed.log.left(alloc)?;
+    let left = resumed.log.to_open_log(alloc)?;
     assert_eq!(rt; left.made, 3);
     assert!(rt; left.entries == resumed.before.entries);
     assert!(rt; numbers(alloc, &left.entries)?.as_slice() == [1, 3].as_slice());
@@ -135,7 +135,7 @@ fn a_log_ends_what_the_configuration_leaves_out(rt: HostRuntime) -> Result<(), F
             .first()
             .is_some_and(|it| it.entry.made == 30_000)
     );
-    let left = resumed.log.left(alloc)?;
+    let left = resumed.log.to_open_log(alloc)?;
     assert_eq!(rt; left.made, 4);
     assert!(rt; numbers(alloc, &left.entries)?.as_slice() == [3, 4].as_slice());
     Ok(())

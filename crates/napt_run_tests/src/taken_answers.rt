@@ -75,7 +75,7 @@ struct Count {
 impl OutcomeSink for Count {
     type Fault = AllocError;
 
-    type Told = NoTrace;
+    type Trace = NoTrace;
 
     ghost takes = { λ before pairs after. ⊤ };
 

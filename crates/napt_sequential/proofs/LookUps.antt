@@ -10,7 +10,7 @@ use Rattle.napt_table.specs.TimedRows.{timed_row}
 use Rattle.napt_translate.specs.{CarriedPackets.packet_carried, Translators.{TranslatorModel, is_made, local_state, translator_after}}
 use Rattle.napt_laws.{specs.BindingUses.{IsThrough, BindingUseIsSaid}, proofs.BindingUseLaws.{out_says_its_binding, in_says_its_binding}}
 use Rattle.napt_sequential.specs.declared.{passage.{Passage.Passage, PacketTuple.PacketTuple}, leg_trace.TracedAnswer.TracedAnswer}
-use Rattle.napt_sequential.specs.{CountedTranslators.{seen_of, gone_by, found_by, passage_seen, traced_answer}, Traces.passage_by}
+use Rattle.napt_sequential.specs.{CountedTranslators.{seen_of, passage_through, found_by, passage_seen, traced_answer}, Traces.passage_by}
 
 module _ (rules : Rules) (t : AreTimers rules.timers) (address : ℕ) (leg : Leg) (list : List Binding) where
   abbrev found : Bool → Option Protocol → List Binding → End → Passage
@@ -25,10 +25,13 @@ module _ (rules : Rules) (t : AreTimers rules.timers) (address : ℕ) (leg : Leg
 
     -- what is found of a packet that went through a binding
     through_found : (way : Way) (after : Option Binding) → IsThrough before after through → (end : End) →
-        gone_by way (is_made through) (option_map (timed_row rules.timers) after) ≡ said way (Some protocol) end through
+        passage_through way (is_made through) (option_map (timed_row rules.timers) after)
+        ≡ said way (Some protocol) end through
     through_found way after says end =
-        ap (λ (o : Option Binding). gone_by way (is_made through) (option_map (timed_row rules.timers) o)) says.binding
-        ∙ (ap (λ (t : Option BindingUse). gone_by way (is_made t) (Some (timed_row rules.timers says.went.binding))) says.is
+        ap (λ (o : Option Binding). passage_through way (is_made through) (option_map (timed_row rules.timers) o))
+        says.binding
+        ∙ (ap (λ (t : Option BindingUse). passage_through way (is_made t)
+        (Some (timed_row rules.timers says.went.binding))) says.is
         ∙ sym (ap (said way (Some protocol) end) says.is))
 
     gone : (place : Option ℕ) (packet : List ℕ) → (number : ℕ) →

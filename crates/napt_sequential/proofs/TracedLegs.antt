@@ -5,7 +5,7 @@ use Rattle.napt_wire.specs.declared.{Side.TheVariants.Outside, Way.TheVariants.I
 use Rattle.napt_config.specs.{Rules.Rules, declared.settings.Timers.Timers}
 use Rattle.napt_rules.specs.declared.{Leg.Leg, End.{End, TheVariants.{ToOutside, ToInside, Onward, Dropped}}}
 use Rattle.napt_rules.specs.Prelude.{BindingUse, Binding, Each, LegEffect, act, Arrival, LegAct, RunEffect, with_second_leg, step, run_from, State, effect_from, is_in_or_dropped}
-use Rattle.napt_laws.{specs.SecondLegs.{acts_of_number, all_but_first, second_legs}, proofs.{AnyStep.{of_input, of_step}, LegLaws.in_stays_in}}
+use Rattle.napt_laws.{specs.SecondLegs.{acts_of_number, all_but_first, second_legs}, proofs.{StepProperties.{of_input, of_step}, LegLaws.in_stays_in}}
 use Rattle.napt_laws.proofs.Lists.{each_weaker, each_append}
 use Rattle.napt_sequential.specs.{declared.passage.{Passage.TheVariants.Nothing, Trace.Trace}, Traces.{passage_of, trace_of, traces_from, traces_of}}
 

@@ -4,7 +4,7 @@ use Rattle.std.proofs.Common.{◌≡◌, ℕ, ◌≤◌, true, false, cond, List
 use Rattle.napt_config.specs.Rules.{Rules}
 use Rattle.napt_rules.specs.{Prelude.{Binding, bindings_at, LegEffect, act, Arrival, LegAct, last_clock, State, effect_from, acts_at, legs_at, LocalState, local_after}, declared.Leg.Leg}
 use Rattle.napt_laws.{specs.{LocalAgreement.IsTranslatorCurrent, Dispatching.IsFrontOf}, proofs.LegsLocal.alike}
-use Rattle.napt_laws.proofs.{RunsLocal.{on_time, leg_at_once, other_at_once}, Turns.{InTurn, run_turn}}
+use Rattle.napt_laws.proofs.{RunsLocal.{on_time, leg_at_once, other_at_once}, RunInduction.{InTurn, run_turn}}
 use Rattle.napt_sequential.specs.{declared.{passage.Passage.Passage, leg_trace.TracedAnswer.TracedAnswer}, CountedTranslators.{act_of, act_there, traced_act}, Steps.traced_replies}
 
 -- A leg acts at the translator as in the run.

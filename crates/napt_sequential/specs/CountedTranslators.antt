@@ -10,7 +10,7 @@ use Rattle.napt_table.specs.{declared.TimedRow.TimedRow, TimedRows.timed_row}
 use Rattle.napt_translate.specs.{CarriedPackets.packet_carried, Translators.{TranslatorModel, initial_translator, local_state, with_local_state, translator_after}}
 use Rattle.napt_sequential.specs.declared.{counted_translator.CountedTranslator.CountedTranslator, passage.Passage.Passage}
 use Rattle.napt_sequential.specs.declared.{passage.{Passage.TheVariants.{Nothing, Dropped}, PacketTuple.PacketTuple}, leg_trace.{TracedAnswer.TracedAnswer, NoTrace.NoTrace}}
-use Rattle.napt_sequential.specs.{declared.outcome.StepResult.StepResult, Traces.{gone_through, passage_of, trace_of}}
+use Rattle.napt_sequential.specs.{declared.outcome.StepResult.StepResult, Traces.{passage_of_row, passage_of, trace_of}}
 use Rattle.napt_laws.specs.LocalAgreement.{IsTranslatorCurrent}
 
 -- A run at some time: the time of its last leg in ns, the acts of its legs, and its bindings.
@@ -98,19 +98,20 @@ abbrev pub seen_of : List ℕ → PacketTuple
 seen_of packet =
     record { protocol = packet_carried (kind packet); source = source packet; destination = destination packet }
 
-abbrev pub gone_by : Way → Bool → Option TimedRow → Passage
-gone_by way made None = Nothing
-gone_by way made (Some row) = gone_through way made row
+abbrev pub passage_through : Way → Bool → Option TimedRow → Passage
+passage_through way made None = Nothing
+passage_through way made (Some row) = passage_of_row way made row
 
 -- `made` says whether the leg made the binding that its packet used.
 abbrev pub found_by : Timers → ℕ → List Binding → ℕ → PacketTuple → Bool → Option Protocol → End → Passage
 found_by timers now list address seen made None end = Nothing
-found_by timers now list address seen made (Some protocol) (ends.ToInside packet) = gone_by Incoming made
+found_by timers now list address seen made (Some protocol) (ends.ToInside packet) = passage_through Incoming made
     (option_map (timed_row timers) (by_number timers address now protocol seen.destination.number list))
 found_by timers now list address seen made (Some protocol) (ends.Dropped cause) =
     Dropped (record { protocol = protocol; host = seen.source.address; cause = cause })
 found_by timers now list address seen made (Some protocol) _ =
-    gone_by Outgoing made (option_map (timed_row timers) (by_inside timers address now protocol seen.source list))
+    passage_through Outgoing made
+    (option_map (timed_row timers) (by_inside timers address now protocol seen.source list))
 
 abbrev pub passage_seen : ℕ → PacketTuple → Bool → End → TranslatorModel → Passage
 passage_seen now seen made end state = found_by state.rules.timers (max now state.table.at) state.table.list

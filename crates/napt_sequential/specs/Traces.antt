@@ -16,10 +16,10 @@ use Rattle.napt_sequential.specs.declared.passage.{Passage.{Passage, TheVariants
 
 -- The passage in this direction through a binding, which was so after the leg, and which the leg may have made on its
 -- way out.
-abbrev pub gone_through : Way → Bool → TimedRow → Passage
-gone_through Outgoing true row = Made row
-gone_through Outgoing false row = Out row
-gone_through Incoming made row = In row
+abbrev pub passage_of_row : Way → Bool → TimedRow → Passage
+passage_of_row Outgoing true row = Made row
+passage_of_row Outgoing false row = Out row
+passage_of_row Incoming made row = In row
 
 -- The passage of a leg that used no binding: a dropped packet other than an ICMP error, or nothing.
 abbrev pub loss_of : Option Protocol → ℕ → End → Passage
@@ -27,7 +27,7 @@ loss_of (Some protocol) host (ends.Dropped cause) = Dropped (record { protocol =
 loss_of _ host _ = Nothing
 
 abbrev pub passage_by : Timers → Way → Option Protocol → ℕ → End → Option BindingUse → Passage
-passage_by timers way protocol host end (Some went) = gone_through way went.made (timed_row timers went.binding)
+passage_by timers way protocol host end (Some went) = passage_of_row way went.made (timed_row timers went.binding)
 passage_by timers way protocol host end None = loss_of protocol host end
 
 abbrev pub passage_of : Timers → LegAct → Passage

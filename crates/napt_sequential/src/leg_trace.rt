@@ -5,7 +5,7 @@ ghost use Rattle.napt_sequential.specs.{CountedTranslators.{traced_answer, passa
 ghost use Rattle.napt_sequential.specs.declared.passage.Passage.TheVariants.{Nothing as NoPassage};
 ghost use Rattle.napt_translate.specs.Translators.{translator_after};
 
-use crate::passage::{DroppedPacket, PacketTuple, Passage, gone_by};
+use crate::passage::{DroppedPacket, PacketTuple, Passage, passage_through};
 use napt_rules::{Answer, End, Leg};
 use napt_translate::Translator;
 use napt_wire::Way;
@@ -100,11 +100,11 @@ fn passage(translator: &Translator, now: u64, seen: PacketTuple, made: bool, end
         End::ToOutside(packet) | End::Onward(_, packet) => {
             let number = packet.source().number;
             let row = translator.timed_by_inside(now, protocol, seen.source, number);
-            gone_by(Way::Outgoing, made, row)
+            passage_through(Way::Outgoing, made, row)
         }
         End::ToInside(_) => {
             let row = translator.timed_by_number(now, protocol, seen.destination.number);
-            gone_by(Way::Incoming, made, row)
+            passage_through(Way::Incoming, made, row)
         }
         End::Dropped(cause) => Passage::Dropped(DroppedPacket {
             protocol,

@@ -72,8 +72,8 @@ impl PacketTuple {
 
 /// Returns the passage in direction `way` through the binding found, or `Nothing` without one. `made` says whether the
 /// leg made the binding of an outgoing packet.
-pub(crate) fn gone_by(way: Way, made: bool, found: Option<TimedRow>) -> Passage
-    ensures { result ≡ lookups.gone_by way made found }
+pub(crate) fn passage_through(way: Way, made: bool, found: Option<TimedRow>) -> Passage
+    ensures { result ≡ lookups.passage_through way made found }
 {
     let Some(row) = found else {
         return Passage::Nothing;

@@ -40,7 +40,7 @@ impl CountedTranslator {
             return Some(number);
         }
         let translator = &mut self.translator;
-        translator.spare(now, protocol)
+        translator.free_number(now, protocol)
     }
 }
 

@@ -9,7 +9,7 @@ ghost use Rattle.napt_sequential.specs.Faults.{IsOneThreadFault};
 
 use crate::counted_translator::CountedTranslator;
 use crate::outcome::StepResult;
-use crate::run::{begin, bindings, left, legs, resume, step};
+use crate::run::{begin, bindings, final_bindings, legs, resume, step};
 use crate::{Input, MOST_INPUTS, RunFault};
 use napt_config::Config;
 use napt_rules::{Row, State};
@@ -149,7 +149,7 @@ impl SequentialRun {
             SequentialRunInvariant rules state inputs self.now →
             IfOk result (IsStateInOrder rules (model.next_state rules state inputs)) }
     {
-        let list = left(alloc, &self.translators, self.clock)?;
+        let list = final_bindings(alloc, &self.translators, self.clock)?;
         Ok(State {
             clock: self.clock,
             list,

@@ -37,17 +37,17 @@ fitting_in rules clock list =
 -- WHAT ENDS
 
 -- A binding that ended long ago: of TCP it has no flow.
-abbrev pub given_up : Binding → Binding
-given_up b = record b { last = 0; flows = [] }
+abbrev pub ended_long_ago : Binding → Binding
+ended_long_ago b = record b { last = 0; flows = [] }
 
-abbrev pub given_up_if : Option Misfit → Binding → Binding
-given_up_if None b = b
-given_up_if (Some why) b = given_up b
+abbrev pub ended_long_ago_if : Option Misfit → Binding → Binding
+ended_long_ago_if None b = b
+ended_long_ago_if (Some why) b = ended_long_ago b
 
 abbrev pub ended_misfits : Rules → ℕ → List Binding → List Binding
 ended_misfits rules clock [] = []
 ended_misfits rules clock (b ∷ rest) =
-    given_up_if (why_ended rules clock b (fitting_in rules clock rest)) b ∷ ended_misfits rules clock rest
+    ended_long_ago_if (why_ended rules clock b (fitting_in rules clock rest)) b ∷ ended_misfits rules clock rest
 
 abbrev pub one_if : Option Misfit → ℕ
 one_if None = 0
@@ -80,7 +80,7 @@ pub record EndsMisfits (rules : Rules) (state : State) : Type 0 where
       ≡ fitting_in rules state.clock state.list
   pub fits : misfit rules (without_misfits rules state) ≡ None
   pub told : (b : Binding) → b.row.fixed ≡ false → (account : Account) →
-      is_open state.clock (resumed_entry rules state.clock (given_up b, account)) ≡ false
+      is_open state.clock (resumed_entry rules state.clock (ended_long_ago b, account)) ≡ false
 
 abbrev pub MisfitsEnd : Type 0
 MisfitsEnd = (rules : Rules) → AreTimers rules.timers → (state : State) → IsLate rules.timers state.clock →

@@ -51,7 +51,7 @@ pub enum StateField {
     /// A time in ns or a count, below 2^64.
     Count,
     /// The number of entries of a log or of packets, at most 2^61.
-    Few,
+    BoundedCount,
     /// The end of an entry, in ns and below 2^128, or `never`.
     End,
     /// `binding` or `redirect`.
@@ -88,7 +88,7 @@ impl fmt::Display for StateField {
             StateField::Kind => "first word",
             StateField::Protocol => "protocol",
             StateField::Address => "address",
-            StateField::Number | StateField::Count | StateField::Few => "number",
+            StateField::Number | StateField::Count | StateField::BoundedCount => "number",
             StateField::End => "end",
             StateField::Row => "kind",
             StateField::Mark => "mark",

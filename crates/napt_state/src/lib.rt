@@ -11,7 +11,7 @@ mod liveness;
 mod saved_bindings;
 mod state_checks;
 mod state_contents;
-mod state_writer;
+mod state_reader;
 mod text;
 mod wrong_words;
 

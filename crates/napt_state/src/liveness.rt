@@ -32,7 +32,7 @@ pub(crate) fn is_live(binding: &StateBinding, config: &Config, now: u64) -> bool
 }
 
 /// Whether a flow of a binding stands at a time, in ns: a TCP flow if it is live, and any other as long as its binding.
-pub(crate) fn stands(flow: &Flow, protocol: Protocol, config: &Config, now: u64) -> bool
+pub(crate) fn is_standing(flow: &Flow, protocol: Protocol, config: &Config, now: u64) -> bool
     ensures { result ≡ (not (is_tcp protocol) || life.is_live_flow config.now.timers now flow.now) }
 {
     match protocol {

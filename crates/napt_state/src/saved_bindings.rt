@@ -53,7 +53,7 @@ impl SavedBinding {
 impl StateFileContents {
     /// Returns what a run under a configuration saves: its state and, if it has a log, what the state keeps of the log
     /// and where the log's text ends. Takes linear time. Fails only if memory is refused.
-    pub fn of(
+    pub fn from_state(
         alloc: Global,
         config: &Config,
         state: State,
@@ -77,7 +77,11 @@ impl StateFileContents {
 
     /// Gives each binding the account of its entry in a log of which no file is known, and returns whether each entry
     /// is that of a binding. Fails only if memory is refused.
-    pub(crate) fn join(&mut self, alloc: Global, log: &OpenLog) -> Result<bool, AllocError> {
+    pub(crate) fn assign_accounts(
+        &mut self,
+        alloc: Global,
+        log: &OpenLog,
+    ) -> Result<bool, AllocError> {
         let mut accounts: HashMap<EndpointKey, Account> = HashMap::new(alloc);
         for numbered in &log.entries {
             let key = external_key(&numbered.entry.binding);

@@ -7,7 +7,7 @@ ghost use Rattle.napt_state.specs.EndedMisfits as ending;
 ghost use Rattle.napt_state.specs.StateReaders.{AreOf};
 
 use crate::endpoints::Endpoints;
-use crate::liveness::{is_live, stands};
+use crate::liveness::{is_live, is_standing};
 use napt_account::redirected;
 use napt_binding::IdleTimers;
 use napt_config::Config;
@@ -87,7 +87,7 @@ fn flows_share(
     while left > 0 {
         left -= 1;
         let flow = flows[left];
-        if stands(&flow, protocol, config, now) {
+        if is_standing(&flow, protocol, config, now) {
             let remote = flow.remote;
             if !remotes.insert((remote.address, remote.number))? {
                 return Ok(true);
@@ -242,7 +242,7 @@ fn end_misfits_in(
                 return Err(AllocError);
             };
             many = more;
-            give_up(binding);
+            end_long_ago(binding);
         } else if goes_on(binding, config, held_at(config, clock)) {
             behind.insert(&binding.row)?;
         }
@@ -272,8 +272,8 @@ fn why_ended(
 }
 
 /// Makes a binding one that ended long ago.
-fn give_up(binding: &mut StateBinding)
-    ensures { binding.new ≡ ending.given_up binding.old }
+fn end_long_ago(binding: &mut StateBinding)
+    ensures { binding.new ≡ ending.ended_long_ago binding.old }
 {
     binding.last = 0;
     binding.flows.clear();

@@ -82,7 +82,7 @@ impl StateFileContents {
     /// entries end there. Otherwise returns the first one, and why, as it does of a clock that is no later than a timer and the
     /// hold. What does not go on need not fit: redirects, and what has gone at the clock. In linear time. Fails only if memory runs
     /// out.
-    pub fn take_up(
+    pub fn restore(
         self,
         alloc: Global,
         config: &Config,
@@ -178,7 +178,7 @@ fn add_flow(list: &mut Vec<SavedBinding>, flow: Flow) -> Result<bool, AllocError
 
 impl LineCounts {
     /// Returns the number of bindings and that of flows. Fails only if there are 2^64 flows or more.
-    pub(crate) fn of(saved: &StateFileContents) -> Result<LineCounts, AllocError>
+    pub(crate) fn from_contents(saved: &StateFileContents) -> Result<LineCounts, AllocError>
         ensures { IfOk result (λ counts. counts ≡ texts.counts_of saved.now) }
     {
         let mut flows = 0_u64;

@@ -8,7 +8,7 @@ use crate::fault::StateFault;
 use crate::line::{LineCounts, LogPosition, StateLine};
 use crate::saved_bindings::SavedBinding;
 use crate::state_contents::StateFileContents;
-use crate::state_writer::SavedState;
+use crate::state_reader::StateReader;
 use napt_account::Account;
 use napt_rules::StateBinding;
 use std::alloc::Global;
@@ -16,7 +16,7 @@ use std::io;
 use std::io::{BufRead, Write};
 
 /// Writes a line, in the memory of the line before it.
-fn put_line<W: Write>(writer: &mut W, line: &mut String, entry: &StateLine) -> io::Result<()>
+fn write_line<W: Write>(writer: &mut W, line: &mut String, entry: &StateLine) -> io::Result<()>
     ensures { OnOk result (Appends (W.contents writer.old) (W.contents writer.new)
         (texts.line_text entry.now)) }
 {
@@ -32,7 +32,7 @@ fn push_binding<W: Write>(writer: &mut W, line: &mut String, saved: &SavedBindin
 {
     match saved {
         SavedBinding::Live(binding, account) => push_live(writer, line, binding, *account),
-        SavedBinding::Ended(row, end) => put_line(writer, line, &StateLine::Held(*row, *end)),
+        SavedBinding::Ended(row, end) => write_line(writer, line, &StateLine::Held(*row, *end)),
     }
 }
 
@@ -47,9 +47,9 @@ fn push_live<W: Write>(
         (flat_map texts.line_text (texts.live_lines binding.now account))) }
 {
     let first = StateLine::Binding(binding.row, binding.last, account);
-    put_line(writer, line, &first)?;
+    write_line(writer, line, &first)?;
     for flow in &binding.flows {
-        put_line(writer, line, &StateLine::Flow(*flow))?;
+        write_line(writer, line, &StateLine::Flow(*flow))?;
     }
     Ok(())
 }
@@ -60,7 +60,7 @@ fn push_log<W: Write>(writer: &mut W, line: &mut String, log: Option<LogPosition
         (flat_map texts.line_text (texts.log_lines log))) }
 {
     match log {
-        Some(position) => put_line(writer, line, &StateLine::Log(position)),
+        Some(position) => write_line(writer, line, &StateLine::Log(position)),
         None => Ok(()),
     }
 }
@@ -76,13 +76,13 @@ pub fn write_state<W: Write>(
         (texts.saved_text saved.now)) }
 {
     let mut line = String::new(alloc);
-    put_line(writer, &mut line, &StateLine::Clock(saved.clock))?;
+    write_line(writer, &mut line, &StateLine::Clock(saved.clock))?;
     push_log(writer, &mut line, saved.log)?;
     for binding in &saved.bindings {
         push_binding(writer, &mut line, binding)?;
     }
-    let counts = LineCounts::of(saved)?;
-    put_line(writer, &mut line, &StateLine::End(counts))?;
+    let counts = LineCounts::from_contents(saved)?;
+    write_line(writer, &mut line, &StateLine::End(counts))?;
     writer.flush()
 }
 
@@ -101,7 +101,7 @@ pub fn read_state<R: BufRead + Drop>(
         IfOk result (IsReadAs text) }
     ensures accounts { IfOk result HasAccounts }
 {
-    let mut text = SavedState::new(alloc, reader);
+    let mut text = StateReader::new(alloc, reader);
     match text.saved() {
         Ok(saved) => Ok(saved),
         Err(reason) => Err(StateFault {

@@ -10,17 +10,39 @@ const SHOWN: usize = 40;
 
 /// Returns the words after the first one of a line.
 fn words_after(kind: &str) -> &'static [StateField] {
-    use StateField::{Address, Count, End, Few, Mark, Number, Protocol, Row};
+    use StateField::{Address, Count, End, BoundedCount, Mark, Number, Protocol, Row};
     match kind {
         "clock" => &[Count],
-        "log" => &[Few, Count, Count, Count],
+        "log" => &[BoundedCount, Count, Count, Count],
         "binding" | "redirect" => &[
-            Protocol, Address, Number, Address, Number, Count, Count, Count, Few, Few, Count, Count,
+            Protocol,
+            Address,
+            Number,
+            Address,
+            Number,
+            Count,
+            Count,
+            Count,
+            BoundedCount,
+            BoundedCount,
+            Count,
+            Count,
         ],
         "held" => &[Protocol, Address, Number, Address, Number, Count],
         "flow" => &[Address, Number, Count, Mark, Mark, Mark, Mark, Mark],
         "entry" => &[
-            Count, Row, Protocol, Address, Number, Address, Number, Count, End, Few, Few, Count,
+            Count,
+            Row,
+            Protocol,
+            Address,
+            Number,
+            Address,
+            Number,
+            Count,
+            End,
+            BoundedCount,
+            BoundedCount,
+            Count,
             Count,
         ],
         "end" => &[Count, Count, Count],
@@ -52,7 +74,7 @@ fn is_right(kind: StateField, line: &str, place: usize) -> bool {
         StateField::Address => word.parse::<Address>().is_ok() && word.split('.').all(is_plain),
         StateField::Number => word.parse::<u16>().is_ok() && is_plain(word),
         StateField::Count => word.parse::<u64>().is_ok() && is_plain(word),
-        StateField::Few => fields::count(line, place).is_some() && is_plain(word),
+        StateField::BoundedCount => fields::count(line, place).is_some() && is_plain(word),
         StateField::End => word == "never" || word.parse::<u128>().is_ok() && is_plain(word),
         StateField::Row => word == "binding" || word == "redirect",
         StateField::Mark => word == "0" || word == "1",

@@ -53,10 +53,10 @@ module _ (p : ℕ → Bool) where
 -- THE FIRST FREE NUMBER OF A CLASS at adjacent places, from a place on
 
 module _ (used : ℕ → Bool) (place : ℕ → ℕ) (class : CandidateClass)
-    (place_is : (q : ℕ) → q < class.many → place (class.least + class.apart * q) ≡ place class.least + q) (k : ℕ)
-    (within : k ≤ class.many) where
+    (place_is : (q : ℕ) → q < class.count → place (class.least + class.step * q) ≡ place class.least + q) (k : ℕ)
+    (within : k ≤ class.count) where
   abbrev end : ℕ
-  end = place class.least + class.many
+  end = place class.least + class.count
 
   abbrev first : ℕ
   first = place class.least + k
@@ -66,15 +66,15 @@ module _ (used : ℕ → Bool) (place : ℕ → ℕ) (class : CandidateClass)
 
   -- The numbers of the class from the place on; then those before it.
   abbrev upper : List ℕ
-  upper = map (member class) (range_with_len k (class.many - k))
+  upper = map (member class) (range_with_len k (class.count - k))
 
   abbrev lower : List ℕ
   lower = map (member class) (range_with_len 0 k)
 
-  free_at : (q : ℕ) → q < class.many → free (member class q) ≡ not (used (place class.least + q))
+  free_at : (q : ℕ) → q < class.count → free (member class q) ≡ not (used (place class.least + q))
   free_at q lt = ap (λ (n : ℕ). not (used n)) (place_is q lt)
 
-  found_among : (from many a b x : ℕ) → from + many ≤ class.many → a ≡ place class.least + from → b ≡ a + many →
+  found_among : (from many a b x : ℕ) → from + many ≤ class.count → a ≡ place class.least + from → b ≡ a + many →
       IsFirstAbsent used a b (Some x) → find free (map (member class) (range_with_len from many))
       ≡ Some (member class (x - place class.least))
   found_among from many a b x fits a_is b_is h =
@@ -86,7 +86,7 @@ module _ (used : ℕ → Bool) (place : ℕ → ℕ) (class : CandidateClass)
       ∙ ap not (h.3 (place class.least + (from + i)) (omega arith) (omega arith)))
       ∙ (let q : from + j ≡ x - place class.least = omega arith in ap (λ (n : ℕ). Some (member class n)) q)
 
-  none_among : (from many a b : ℕ) → from + many ≤ class.many → a ≡ place class.least + from → b ≡ a + many →
+  none_among : (from many a b : ℕ) → from + many ≤ class.count → a ≡ place class.least + from → b ≡ a + many →
       IsFirstAbsent used a b None → find free (map (member class) (range_with_len from many)) ≡ None
   none_among from many a b fits a_is b_is none =
       find_no_counted free (member class) from many (λ i less. free_at (from + i) (omega arith)
@@ -94,14 +94,14 @@ module _ (used : ℕ → Bool) (place : ℕ → ℕ) (class : CandidateClass)
 
   none_near : IsFirstAbsent used first end None → find free upper ≡ None
   none_near none =
-      none_among k (class.many - k) first end (omega arith) refl (omega arith) none
+      none_among k (class.count - k) first end (omega arith) refl (omega arith) none
 
   -- A free number is found from the place on.
   pub found_near : (x : ℕ) → IsFirstAbsent used first end (Some x) →
       find free (upper ++ lower) ≡ Some (member class (x - place class.least))
   found_near x h =
       find_front free upper lower (member class (x - place class.least))
-      (found_among k (class.many - k) first end x (omega arith) refl (omega arith) h)
+      (found_among k (class.count - k) first end x (omega arith) refl (omega arith) h)
 
   -- A free number is found before the place, and none from it on.
   pub found_far : (x : ℕ) → IsFirstAbsent used first end None → IsFirstAbsent used (place class.least) first (Some x) →
@@ -117,17 +117,17 @@ module _ (used : ℕ → Bool) (place : ℕ → ℕ) (class : CandidateClass)
       ∙ none_among 0 k (place class.least) first (omega arith) (omega arith) refl before
 
 -- A class of numbers with a step of 2 is at adjacent places of the bitmap.
-pub two_apart : (class : CandidateClass) → class.apart ≡ 2 → (q : ℕ) →
-    number_place_in_map (class.least + class.apart * q) ≡ number_place_in_map class.least + q
+pub two_apart : (class : CandidateClass) → class.step ≡ 2 → (q : ℕ) →
+    number_place_in_map (class.least + class.step * q) ≡ number_place_in_map class.least + q
 two_apart class apart q =
-    let twice : class.apart * q ≡ 2 * q = ap (λ (n : ℕ). n * q) apart in
+    let twice : class.step * q ≡ 2 * q = ap (λ (n : ℕ). n * q) apart in
     ap (λ (n : ℕ). number_place_in_map (class.least + n)) twice ∙ omega arith
 
 -- The same, where the search starts at the place of the least number.
-module _ (used : ℕ → Bool) (class : CandidateClass) (apart : class.apart ≡ 2) (k : ℕ) (within : k ≤ class.many)
+module _ (used : ℕ → Bool) (class : CandidateClass) (apart : class.step ≡ 2) (k : ℕ) (within : k ≤ class.count)
     (start : ℕ)
     (starts : start ≡ number_place_in_map class.least) where
-  abbrev run_is : (q : ℕ) → q < class.many → number_place_in_map (class.least + class.apart * q)
+  abbrev run_is : (q : ℕ) → q < class.count → number_place_in_map (class.least + class.step * q)
       ≡ number_place_in_map class.least + q
   run_is = λ q lt. two_apart class apart q
 
@@ -146,43 +146,43 @@ module _ (used : ℕ → Bool) (class : CandidateClass) (apart : class.apart ≡
   number_is x = ap (λ (s : ℕ). Some (class.least + 2 * (x - s))) starts
       ∙ ap (λ (n : ℕ). Some (class.least + n * (x - number_place_in_map class.least))) (sym apart)
 
-  pub near_choice : (x : ℕ) → IsFirstAbsent used (start + k) (start + class.many) (Some x) →
+  pub near_choice : (x : ℕ) → IsFirstAbsent used (start + k) (start + class.count) (Some x) →
       Some (class.least + 2 * (x - start)) ≡ find free_number (from_place class k)
   near_choice x h =
-      number_is x ∙ sym (found_near used number_place_in_map class run_is k within x (moved k class.many (Some x) h))
+      number_is x ∙ sym (found_near used number_place_in_map class run_is k within x (moved k class.count (Some x) h))
 
-  pub far_choice : IsFirstAbsent used (start + k) (start + class.many) None → (x : ℕ) →
+  pub far_choice : IsFirstAbsent used (start + k) (start + class.count) None → (x : ℕ) →
       IsFirstAbsent used start (start + k) (Some x) →
       Some (class.least + 2 * (x - start)) ≡ find free_number (from_place class k)
   far_choice none x h =
       number_is x
-      ∙ sym (found_far used number_place_in_map class run_is k within x (moved k class.many None none)
+      ∙ sym (found_far used number_place_in_map class run_is k within x (moved k class.count None none)
       (moved_first (Some x) h))
 
-  pub no_choice : IsFirstAbsent used (start + k) (start + class.many) None →
+  pub no_choice : IsFirstAbsent used (start + k) (start + class.count) None →
       IsFirstAbsent used start (start + k) None → None ≡ find free_number (from_place class k)
   no_choice none h =
-      sym (found_nowhere used number_place_in_map class run_is k within (moved k class.many None none)
+      sym (found_nowhere used number_place_in_map class run_is k within (moved k class.count None none)
       (moved_first None h))
 
 -- A CLASS WITHOUT GAPS
 
-module _ (used : ℕ → Bool) (class : CandidateClass) (apart : class.apart ≡ 1) (p : ℕ) (small : p ≤ class.many) where
-  all_is : (q : ℕ) → q < class.many → class.least + class.apart * q ≡ class.least + q
+module _ (used : ℕ → Bool) (class : CandidateClass) (apart : class.step ≡ 1) (p : ℕ) (small : p ≤ class.count) where
+  all_is : (q : ℕ) → q < class.count → class.least + class.step * q ≡ class.least + q
   all_is q lt = ap (λ n. class.least + n * q) apart ∙ omega arith
 
   number_at : (x : ℕ) → class.least ≤ x → x ≡ member class (x - class.least)
   number_at x le =
-      let one : 1 * (x - class.least) ≡ class.apart * (x - class.least) = ap (λ n. n * (x - class.least)) (sym apart) in
+      let one : 1 * (x - class.least) ≡ class.step * (x - class.least) = ap (λ n. n * (x - class.least)) (sym apart) in
       omega (arith, le, one)
 
-  pub near_number : (x : ℕ) → IsFirstAbsent used (class.least + p) (class.least + class.many) (Some x) →
+  pub near_number : (x : ℕ) → IsFirstAbsent used (class.least + p) (class.least + class.count) (Some x) →
       Some x ≡ find (λ n. not (used n)) (from_place class p)
   near_number x h =
       ap (λ (n : ℕ). Some n) (number_at x (omega (arith, h.0)))
       ∙ sym (found_near used (λ n. n) class all_is p small x h)
 
-  pub far_number : IsFirstAbsent used (class.least + p) (class.least + class.many) None → (o : Option ℕ) →
+  pub far_number : IsFirstAbsent used (class.least + p) (class.least + class.count) None → (o : Option ℕ) →
       IsFirstAbsent used class.least (class.least + p) o → o ≡ find (λ n. not (used n)) (from_place class p)
   far_number none (Some x) h =
       ap (λ (n : ℕ). Some n) (number_at x (omega (arith, h.0)))

@@ -81,11 +81,11 @@ filter_both p q (x ∷ xs) = grind (arith, filter_both p q xs)
 -- A CLASS WITH THE CANDIDATES OF A NUMBER, the first of which is at a place
 
 record IsClassOf (fits : ℕ → Bool) (number place : ℕ) (class : CandidateClass) : Type 0 where
-  some : 0 < class.many
+  some : 0 < class.count
   rises : (i j : ℕ) → i < j → member class i < member class j
-  sound : (j : ℕ) → j < class.many → (member class j < 65536) × (fits (member class j) ≡ true)
-  whole : (x : ℕ) → x < 65536 → fits x ≡ true → (j : ℕ) × (j < class.many) × (x ≡ member class j)
-  within : place ≤ class.many
+  sound : (j : ℕ) → j < class.count → (member class j < 65536) × (fits (member class j) ≡ true)
+  whole : (x : ℕ) → x < 65536 → fits x ≡ true → (j : ℕ) × (j < class.count) × (x ≡ member class j)
+  within : place ≤ class.count
   from_it : (j : ℕ) → place ≤ j → number ≤ member class j
   before_it : (j : ℕ) → j < place → member class j < number
 
@@ -103,9 +103,9 @@ module _ (fits : ℕ → Bool) (number place : ℕ) (class : CandidateClass) (s 
   ]
 
   upper : filter (nat_le number) (filter fits (numbers_below 65536))
-      ≡ map (member class) (range_with_len place (class.many - place))
+      ≡ map (member class) (range_with_len place (class.count - place))
   upper = filter_both fits (nat_le number) (numbers_below 65536)
-      ∙ kept_below (λ x. fits x && nat_le number x) (member class) s.rises 65536 place (class.many - place) (record {
+      ∙ kept_below (λ x. fits x && nat_le number x) (member class) s.rises 65536 place (class.count - place) (record {
         sound = λ j from to.
             let within = s.within in
             let (small, passes) = s.sound j (omega (arith, from, to, within)) in (
@@ -145,10 +145,10 @@ module _ (fits : ℕ → Bool) (number place : ℕ) (class : CandidateClass) (s 
   both_parts : upwards number (filter fits (numbers_below 65536)) ≡ from_place class place
   both_parts =
       ap (λ (l : List ℕ). l ++ filter (λ other. nat_lt other number) (filter fits (numbers_below 65536))) upper
-      ∙ ap (λ (l : List ℕ). map (member class) (range_with_len place (class.many - place)) ++ l) lower
+      ∙ ap (λ (l : List ℕ). map (member class) (range_with_len place (class.count - place)) ++ l) lower
 
-  whole_is : filter fits (numbers_below 65536) ≡ map (member class) (range_with_len 0 class.many)
-  whole_is = kept_below fits (member class) s.rises 65536 0 class.many (record {
+  whole_is : filter fits (numbers_below 65536) ≡ map (member class) (range_with_len 0 class.count)
+  whole_is = kept_below fits (member class) s.rises 65536 0 class.count (record {
     sound = λ j from to.
         let (small, passes) = s.sound j (omega (arith, to)) in (omega arith, omega (arith, small), passes);
     whole = λ x from to e.
@@ -156,7 +156,7 @@ module _ (fits : ℕ → Bool) (number place : ℕ) (class : CandidateClass) (s 
   })
 
   -- The same class, from another of its numbers on.
-  from_other : (k : ℕ) → k < class.many → IsClassOf fits (member class k) k class
+  from_other : (k : ℕ) → k < class.count → IsClassOf fits (member class k) k class
   from_other k within = record {
     some = s.some;
     rises = s.rises;
@@ -174,13 +174,13 @@ module _ (fits : ℕ → Bool) (number place : ℕ) (class : CandidateClass) (s 
   }
 
   -- The element at a place of the filtered range.
-  at_place : (k d : ℕ) → k < class.many → slice_index_or (filter fits (numbers_below 65536)) k d ≡ member class k
+  at_place : (k d : ℕ) → k < class.count → slice_index_or (filter fits (numbers_below 65536)) k d ≡ member class k
   at_place k d within =
       ap (λ (l : List ℕ). slice_index_or l k d) whole_is
-      ∙ get_or-map-range_with_len (member class) 0 class.many k k d within (omega arith)
+      ∙ get_or-map-range_with_len (member class) 0 class.count k k d within (omega arith)
 
-  count_is : length (filter fits (numbers_below 65536)) ≡ class.many
-  count_is = ap length whole_is ∙ length-map-range_with_len (member class) 0 class.many
+  count_is : length (filter fits (numbers_below 65536)) ≡ class.count
+  count_is = ap length whole_is ∙ length-map-range_with_len (member class) 0 class.count
 
 -- THE CLASSES
 
@@ -191,7 +191,7 @@ ports_of : (least many : ℕ) (low : Bool) (port : ℕ) → port < 65536 → 0 <
     ((n : ℕ) → least ≤ n → n + 1 < least + 2 * many → nat_lt n 1024 ≡ low) →
     ((n : ℕ) → 0 < n → n < 65536 → n % 2 ≡ least % 2 → nat_lt n 1024 ≡ low →
     (least ≤ n) × (n < least + 2 * many)) →
-    IsClassOf (is_port_for true port) port ((port - least) / 2) (record { least = least; many = many; apart = 2 })
+    IsClassOf (is_port_for true port) port ((port - least) / 2) (record { least = least; count = many; step = 2 })
 ports_of least many low port number_small some side parity positive small fits within between = record {
   some = some;
   rises = λ i j less. omega arith;
@@ -228,7 +228,7 @@ high_between least many n high small parity h end =
 
 module _ (port : ℕ) (small : port < 65536) where
   low_odd : nat_lt port 1024 ≡ true → port % 2 ≡ 1 →
-      IsClassOf (is_port_for true port) port ((port - 1) / 2) (record { least = 1; many = 512; apart = 2 })
+      IsClassOf (is_port_for true port) port ((port - 1) / 2) (record { least = 1; count = 512; step = 2 })
   low_odd low odd =
       let below : port < 1024 = ltb-true port 1024 low in
       ports_of 1 512 true port small (omega arith) low odd (omega arith) (omega arith) (omega arith)
@@ -236,7 +236,7 @@ module _ (port : ℕ) (small : port < 65536) where
       (λ n h _ _ side. low_between 1 512 n side (omega (arith, h)) (omega arith))
 
   low_even : nat_lt port 1024 ≡ true → port % 2 ≡ 0 →
-      IsClassOf (is_port_for true port) port ((port - 2) / 2) (record { least = 2; many = 511; apart = 2 })
+      IsClassOf (is_port_for true port) port ((port - 2) / 2) (record { least = 2; count = 511; step = 2 })
   low_even low even =
       let below : port < 1024 = ltb-true port 1024 low in
       ports_of 2 511 true port small (omega arith) low even (omega arith) (omega arith) (omega arith)
@@ -244,23 +244,23 @@ module _ (port : ℕ) (small : port < 65536) where
       (λ n h _ parity side. low_between 2 511 n side (omega (arith, h, parity)) (omega arith))
 
   high_odd : nat_lt port 1024 ≡ false → port % 2 ≡ 1 →
-      IsClassOf (is_port_for true port) port ((port - 1025) / 2) (record { least = 1025; many = 32256; apart = 2 })
+      IsClassOf (is_port_for true port) port ((port - 1025) / 2) (record { least = 1025; count = 32256; step = 2 })
   high_odd high odd =
       ports_of 1025 32256 false port small (omega arith) high odd (omega arith) (omega arith) (omega arith)
       (λ n h _. le-ltb n 1024 (omega (arith, h)))
       (λ n _ small parity side. high_between 1025 32256 n side small parity (omega arith) refl)
 
   high_even : nat_lt port 1024 ≡ false → port % 2 ≡ 0 →
-      IsClassOf (is_port_for true port) port ((port - 1024) / 2) (record { least = 1024; many = 32256; apart = 2 })
+      IsClassOf (is_port_for true port) port ((port - 1024) / 2) (record { least = 1024; count = 32256; step = 2 })
   high_even high even =
       ports_of 1024 32256 false port small (omega arith) high even (omega arith) (omega arith) (omega arith)
       (λ n h _. le-ltb n 1024 (omega (arith, h)))
       (λ n _ small parity side. high_between 1024 32256 n side small parity (omega arith) refl)
 
   kept_class : IsClassOf (is_port_for true port) port
-      ((port - (port_class true port).least) / (port_class true port).apart) (port_class true port)
+      ((port - (port_class true port).least) / (port_class true port).step) (port_class true port)
   kept_class =
-      by_class (λ class. IsClassOf (is_port_for true port) port ((port - class.least) / class.apart) class) port
+      by_class (λ class. IsClassOf (is_port_for true port) port ((port - class.least) / class.step) class) port
       low_odd low_even high_odd high_even
 
   -- All numbers on one side of 1024.
@@ -268,7 +268,7 @@ module _ (port : ℕ) (small : port < 65536) where
       (port - least) / 1 ≤ many → ((n : ℕ) → least ≤ n → n < least + many → nat_lt n 1024 ≡ low) →
       ((n : ℕ) → 0 < n → n < 65536 → nat_lt n 1024 ≡ low → (least ≤ n) × (n < least + many)) →
       (port < least → port ≡ 0) →
-      IsClassOf (is_port_for false port) port ((port - least) / 1) (record { least = least; many = many; apart = 1 })
+      IsClassOf (is_port_for false port) port ((port - least) / 1) (record { least = least; count = many; step = 1 })
   free_side least many low side some positive fits near within between below = record {
     some = some;
     rises = λ i j less. omega (arith, less);
@@ -291,13 +291,13 @@ module _ (port : ℕ) (small : port < 65536) where
   }
 
   free_class : IsClassOf (is_port_for false port) port
-      ((port - (port_class false port).least) / (port_class false port).apart) (port_class false port)
+      ((port - (port_class false port).least) / (port_class false port).step) (port_class false port)
   free_class = elim (nat_lt port 1024) as (λ v. nat_lt port 1024 ≡ v →
-      (let class : CandidateClass = cond v (record { least = 1; many = 1023; apart = 1 }) (record {
+      (let class : CandidateClass = cond v (record { least = 1; count = 1023; step = 1 }) (record {
         least = 1024;
-        many = 64512;
-        apart = 1;
-      }) in IsClassOf (is_port_for false port) port ((port - class.least) / class.apart) class)) [
+        count = 64512;
+        step = 1;
+      }) in IsClassOf (is_port_for false port) port ((port - class.least) / class.step) class)) [
         | true ↦ λ low.
             let below : port < 1024 = ltb-true port 1024 low in
             free_side 1 1023 true low (omega arith) (omega arith) (omega arith) (omega arith)
@@ -313,15 +313,15 @@ module _ (port : ℕ) (small : port < 65536) where
       ] refl
 
   is_port_class : (keeps : Bool) → IsClassOf (is_port_for keeps port) port
-      ((port - (port_class keeps port).least) / (port_class keeps port).apart) (port_class keeps port)
+      ((port - (port_class keeps port).least) / (port_class keeps port).step) (port_class keeps port)
   is_port_class true = kept_class
   is_port_class false = free_class
 
 is_identifier_class : (keeps : Bool) (number : ℕ) → number < 65536 →
     IsClassOf (is_number_for keeps Icmp number) number ((number - 0) / 1) (record {
       least = 0;
-      many = 65536;
-      apart = 1;
+      count = 65536;
+      step = 1;
     })
 is_identifier_class keeps number small = record {
   some = omega arith;
@@ -335,7 +335,7 @@ is_identifier_class keeps number small = record {
 
 is_class_of : (keeps : Bool) (protocol : Protocol) (number : ℕ) → number < 65536 →
     IsClassOf (is_number_for keeps protocol number) number
-    ((number - (class_of keeps protocol number).least) / (class_of keeps protocol number).apart)
+    ((number - (class_of keeps protocol number).least) / (class_of keeps protocol number).step)
     (class_of keeps protocol number)
 is_class_of keeps Icmp number small = is_identifier_class keeps number small
 is_class_of keeps Tcp number small = is_port_class number small keeps
@@ -354,7 +354,7 @@ module _ (keeps : Bool) (protocol : Protocol) (inside : Endpoint) (small : insid
   fits = is_number_for keeps protocol inside.number
 
   abbrev own : ℕ
-  own = (inside.number - class.least) / class.apart
+  own = (inside.number - class.least) / class.step
 
   is_own : IsClassOf fits inside.number own class
   is_own = is_class_of keeps protocol inside.number small
@@ -364,9 +364,9 @@ module _ (keeps : Bool) (protocol : Protocol) (inside : Endpoint) (small : insid
   from_start None = both_parts fits inside.number own class is_own
   from_start (Some seed) =
       let hash : ℕ = mixed seed protocol inside in
-      let many : 0 < class.many = is_own.some in
-      let place : ℕ = hash % class.many in
-      let within : place < class.many = mod_below hash class.many many in
+      let many : 0 < class.count = is_own.some in
+      let place : ℕ = hash % class.count in
+      let within : place < class.count = mod_below hash class.count many in
       let first : start_of (Some seed) numbers protocol inside ≡ member class place =
       ap (λ n. slice_index_or numbers (hash % n) inside.number) (count_is fits inside.number own class is_own)
       ∙ at_place fits inside.number own class is_own place inside.number within in

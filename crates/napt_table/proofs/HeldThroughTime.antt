@@ -7,7 +7,7 @@ use Rattle.napt_rules.specs.declared.{AssignmentRules.AssignmentRules, InboundRu
 use Rattle.napt_rules.specs.Prelude.{Binding, Each, change_first, same_protocol, has_number, is_live, with_live_flows, purge, hold_ago, live_and_held, is_of_source, is_of_live_source, binding_after_out, live_binding_after_out, other_bindings, new_binding, granted_again, out_taken, is_of_live_destination, live_binding_after_in, in_taken, row, AreBindingsApart}
 use Rattle.napt_rules.proofs.Life.{lived}
 use Rattle.napt_laws.proofs.{Lists.{find_passes, find_none, any_none, each_weaker, each_true}, Finds.{Once, find_pushed, find_passed_over}}
-use Rattle.napt_laws.proofs.{Purges.purge_purge, SeenElements.{ago_before, ago_later, purge_taken}, Passes.{of_out, of_in}, StepRows.{purge_keeps, rows_change}}
+use Rattle.napt_laws.proofs.{Purges.purge_purge, SeenElements.{ago_before, ago_later, purge_taken}, StepCases.{of_out, of_in}, StepRows.{purge_keeps, rows_change}}
 use Rattle.napt_laws.proofs.{StepsLive.{sent_is_fresh, made_is_fresh, received_is_fresh}, StepsSound.apart_kept, Endpoints.{inside_parts, once_number, once_inside}}
 use Rattle.napt_table.specs.{declared.bindings.keys.ExternalNumberKey.ExternalNumberKey, Keys.external_key, HeldLists.{seen_binding, LivesInBoth}, BindingIndexes.{BindingIndexModel, held_binding, held_at}, Bindings.{AllShow, AllKeep, KeepsUnseen}}
 use Rattle.napt_table.proofs.{SeenBindings.{seen_is, find_purged, seen_seen, shows_later}, InboundSteps.fresh_seen, TableBuilders.none_earlier}

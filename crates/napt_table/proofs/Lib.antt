@@ -9,7 +9,7 @@ pub mod NewTables
 pub mod SeenBindings
 pub mod Hosts
 pub mod Keys
-pub mod Ends
+pub mod IndexConsistency
 pub mod Queues
 pub mod Steps
 mod LastUses
@@ -20,7 +20,7 @@ pub mod TableSteps
 pub mod ListedRows
 pub mod TableBuilders
 pub mod ResumedTables
-pub mod Alike
+pub mod AlikeLists
 pub mod LeftBindings
 pub mod HeldThroughTime
 pub mod AssignedNumbers

@@ -11,17 +11,17 @@ even p e = let differs : p % 2 ≢ 1 = grind (arith, nat_tests, e) in
     omega (arith, differs, small)
 
 abbrev low_class : Bool → CandidateClass
-low_class v = cond v (record { least = 1; many = 512; apart = 2 }) (record { least = 2; many = 511; apart = 2 })
+low_class v = cond v (record { least = 1; count = 512; step = 2 }) (record { least = 2; count = 511; step = 2 })
 
 abbrev high_class : Bool → CandidateClass
 high_class v =
-    cond v (record { least = 1025; many = 32256; apart = 2 }) (record { least = 1024; many = 32256; apart = 2 })
+    cond v (record { least = 1025; count = 32256; step = 2 }) (record { least = 1024; count = 32256; step = 2 })
 
 pub by_class : (P : CandidateClass → Type 0) (p : ℕ) →
-    (nat_lt p 1024 ≡ true → p % 2 ≡ 1 → P (record { least = 1; many = 512; apart = 2 })) →
-    (nat_lt p 1024 ≡ true → p % 2 ≡ 0 → P (record { least = 2; many = 511; apart = 2 })) →
-    (nat_lt p 1024 ≡ false → p % 2 ≡ 1 → P (record { least = 1025; many = 32256; apart = 2 })) →
-    (nat_lt p 1024 ≡ false → p % 2 ≡ 0 → P (record { least = 1024; many = 32256; apart = 2 })) → P (port_class true p)
+    (nat_lt p 1024 ≡ true → p % 2 ≡ 1 → P (record { least = 1; count = 512; step = 2 })) →
+    (nat_lt p 1024 ≡ true → p % 2 ≡ 0 → P (record { least = 2; count = 511; step = 2 })) →
+    (nat_lt p 1024 ≡ false → p % 2 ≡ 1 → P (record { least = 1025; count = 32256; step = 2 })) →
+    (nat_lt p 1024 ≡ false → p % 2 ≡ 0 → P (record { least = 1024; count = 32256; step = 2 })) → P (port_class true p)
 by_class P p low_odd low_even high_odd high_even =
     elim (nat_lt p 1024) as (λ v. nat_lt p 1024 ≡ v → P (cond v (low_class (p % 2 == 1)) (high_class (p % 2 == 1)))) [
       | true ↦ λ e. elim (p % 2 == 1) as (λ v. (p % 2 == 1) ≡ v → P (low_class v))

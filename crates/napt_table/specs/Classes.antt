@@ -11,46 +11,46 @@ use Rattle.napt_table.specs.declared.candidate_class.CandidateClass.{CandidateCl
 abbrev pub port_class : Bool → ℕ → CandidateClass
 port_class true port =
     cond (nat_lt port 1024)
-    (cond (port % 2 == 1) (record { least = 1; many = 512; apart = 2 }) (record { least = 2; many = 511; apart = 2 }))
-    (cond (port % 2 == 1) (record { least = 1025; many = 32256; apart = 2 }) (record {
+    (cond (port % 2 == 1) (record { least = 1; count = 512; step = 2 }) (record { least = 2; count = 511; step = 2 }))
+    (cond (port % 2 == 1) (record { least = 1025; count = 32256; step = 2 }) (record {
       least = 1024;
-      many = 32256;
-      apart = 2;
+      count = 32256;
+      step = 2;
     }))
 port_class false port =
-    cond (nat_lt port 1024) (record { least = 1; many = 1023; apart = 1 }) (record {
+    cond (nat_lt port 1024) (record { least = 1; count = 1023; step = 1 }) (record {
       least = 1024;
-      many = 64512;
-      apart = 1;
+      count = 64512;
+      step = 1;
     })
 
 abbrev pub class_of : Bool → Protocol → ℕ → CandidateClass
-class_of keeps_parity Icmp identifier = record { least = 0; many = 65536; apart = 1 }
+class_of keeps_parity Icmp identifier = record { least = 0; count = 65536; step = 1 }
 class_of keeps_parity _ port = port_class keeps_parity port
 
 -- A class that can be searched: it has each number of a range, or every other one.
 abbrev pub IsSearched : CandidateClass → Type 0
-IsSearched class = ((class.apart ≡ 1) × (class.least + class.many ≤ 65536))
-    ⊎ ((class.apart ≡ 2) × (class.least + 2 * class.many ≤ 65537))
+IsSearched class = ((class.step ≡ 1) × (class.least + class.count ≤ 65536))
+    ⊎ ((class.step ≡ 2) × (class.least + 2 * class.count ≤ 65537))
 
 -- The number at a place of the class, from 0.
 abbrev pub member : CandidateClass → ℕ → ℕ
-member class place = class.least + class.apart * place
+member class place = class.least + class.step * place
 
 -- The numbers of a class from a place on, then those before it.
 abbrev pub from_place : CandidateClass → ℕ → List ℕ
 from_place class place =
-    map (member class) (range_with_len place (class.many - place)) ++ map (member class) (range_with_len 0 place)
+    map (member class) (range_with_len place (class.count - place)) ++ map (member class) (range_with_len 0 place)
 
 -- The place of the first candidate: that of the number itself, or with a seed that of the hash.
 abbrev pub place_of_class : Option Seed → CandidateClass → Protocol → Endpoint → ℕ
-place_of_class None class protocol inside = (inside.number - class.least) / class.apart
-place_of_class (Some seed) class protocol inside = mixed seed protocol inside % class.many
+place_of_class None class protocol inside = (inside.number - class.least) / class.step
+place_of_class (Some seed) class protocol inside = mixed seed protocol inside % class.count
 
 -- The numbers of a port block that have a parity, 0 or 1.
 abbrev pub class_in_block : PortBlock → ℕ → CandidateClass
-class_in_block block parity = record { least = block.first + parity; many = block.size / 2; apart = 2 }
+class_in_block block parity = record { least = block.first + parity; count = block.size / 2; step = 2 }
 
 -- All numbers of a port block.
 abbrev pub class_of_block : PortBlock → CandidateClass
-class_of_block block = record { least = block.first; many = block.size; apart = 1 }
+class_of_block block = record { least = block.first; count = block.size; step = 1 }

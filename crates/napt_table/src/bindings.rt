@@ -260,7 +260,7 @@ impl Bindings {
 
     /// Returns the least number from 1 on that no binding has, live or held, at `now`, which becomes the time. Bindings
     /// whose hold time is over are removed first, each once, so a search of the numbers in use reads a few words.
-    pub(crate) fn spare(&mut self, now: u64, protocol: Protocol) -> Option<u16>
+    pub(crate) fn free_number(&mut self, now: u64, protocol: Protocol) -> Option<u16>
         requires later { self.old.at ≤ now }
         ensures purged { IsPurged now self.old self.new }
         ensures spare { IsFirstAbsent (λ n.

@@ -12,19 +12,19 @@ use napt_wire::Protocol;
 #[derive(Clone, Copy)]
 pub struct CandidateClass {
     pub least: u32,
-    pub many: u32,
-    pub apart: u32,
+    pub count: u32,
+    pub step: u32,
 }
 
 /// Returns a number's class: a port keeps its side of 1024 and, with `keeps_parity`, its parity.
 pub(crate) fn class_of(keeps_parity: bool, protocol: Protocol, number: u16) -> CandidateClass
     ensures value { result ≡ class_of keeps_parity protocol number }
     ensures small { number < 2 ^ 16 }
-    ensures some { 0 < result.many }
+    ensures some { 0 < result.count }
     ensures searched { IsSearched result }
-    ensures within { (number - result.least) / result.apart ≤ result.many }
+    ensures within { (number - result.least) / result.step ≤ result.count }
 {
-    let (least, many, apart) = match (protocol, keeps_parity, number < 1024, number % 2 == 1) {
+    let (least, count, step) = match (protocol, keeps_parity, number < 1024, number % 2 == 1) {
         (Protocol::Icmp, _, _, _) => (0, 65_536, 1),
         (_, true, true, true) => (1, 512, 2),
         (_, true, true, false) => (2, 511, 2),
@@ -33,7 +33,7 @@ pub(crate) fn class_of(keeps_parity: bool, protocol: Protocol, number: u16) -> C
         (_, false, true, _) => (1, 1023, 1),
         (_, false, false, _) => (1024, 64_512, 1),
     };
-    CandidateClass { least, many, apart }
+    CandidateClass { least, count, step }
 }
 
 /// Returns the numbers of a port block that have a parity, 0 or 1.
@@ -44,8 +44,8 @@ pub(crate) fn class_in_block(block: PortBlock, parity: u16) -> CandidateClass
 {
     CandidateClass {
         least: u32::from(block.first) + u32::from(parity),
-        many: u32::from(block.size / 2),
-        apart: 2,
+        count: u32::from(block.size / 2),
+        step: 2,
     }
 }
 
@@ -55,7 +55,7 @@ pub(crate) fn class_of_block(block: PortBlock) -> CandidateClass
 {
     CandidateClass {
         least: u32::from(block.first),
-        many: u32::from(block.size),
-        apart: 1,
+        count: u32::from(block.size),
+        step: 1,
     }
 }

@@ -39,15 +39,15 @@ pub(crate) fn place_in_class(
     protocol: Protocol,
     inside: Endpoint,
 ) -> u32
-    requires apart { 0 < class.apart }
-    requires some { 0 < class.many }
-    requires own { (inside.number - class.least) / class.apart ≤ class.many }
+    requires apart { 0 < class.step }
+    requires some { 0 < class.count }
+    requires own { (inside.number - class.least) / class.step ≤ class.count }
     ensures place { result ≡ place_of_class seed class protocol inside }
-    ensures within { result ≤ class.many }
+    ensures within { result ≤ class.count }
 {
     match seed {
-        None => u32::from(inside.number).saturating_sub(class.least) / class.apart,
-        Some(seed) => (mixed(seed, protocol, inside) % u64::from(class.many)) as u32,
+        None => u32::from(inside.number).saturating_sub(class.least) / class.step,
+        Some(seed) => (mixed(seed, protocol, inside) % u64::from(class.count)) as u32,
     }
 }
 

@@ -143,11 +143,11 @@ impl Numbers {
     /// Returns the first free number of a class, from a place on and then before it.
     fn first_of(&self, class: CandidateClass, place: u32) -> Option<u16>
         requires searched { IsSearched class }
-        requires some { 0 < class.many }
-        requires within { place ≤ class.many }
+        requires some { 0 < class.count }
+        requires within { place ≤ class.count }
         ensures { result ≡ find (λ n. not (is_used self.now n)) (from_place class place) }
     {
-        if class.apart == 2 {
+        if class.step == 2 {
             self.first_of_parity(class, place)
         } else {
             self.first_of_all(class, place)
@@ -156,15 +156,15 @@ impl Numbers {
 
     /// Does what `first_of` does for a class of every other number.
     fn first_of_parity(&self, class: CandidateClass, place: u32) -> Option<u16>
-        requires apart { class.apart ≡ 2 }
-        requires some { 0 < class.many }
-        requires fits { class.least + 2 * class.many ≤ 65537 }
-        requires within { place ≤ class.many }
+        requires apart { class.step ≡ 2 }
+        requires some { 0 < class.count }
+        requires fits { class.least + 2 * class.count ≤ 65537 }
+        requires within { place ≤ class.count }
         ensures { result ≡ find (λ n. not (is_used self.now n)) (from_place class place) }
     {
         let start = u32::from(place_of(class.least as u16));
         let places = &self.places;
-        if let Some(found) = places.first_absent(start + place, start + class.many) {
+        if let Some(found) = places.first_absent(start + place, start + class.count) {
             return Some((class.least + 2 * (found - start)) as u16);
         }
         let found = places.first_absent(start, start + place)?;
@@ -173,13 +173,13 @@ impl Numbers {
 
     /// Does what `first_of` does for a class without gaps.
     fn first_of_all(&self, class: CandidateClass, place: u32) -> Option<u16>
-        requires apart { class.apart ≡ 1 }
-        requires fits { class.least + class.many ≤ 65536 }
-        requires within { place ≤ class.many }
+        requires apart { class.step ≡ 1 }
+        requires fits { class.least + class.count ≤ 65536 }
+        requires within { place ≤ class.count }
         ensures { result ≡ find (λ n. not (is_used self.now n)) (from_place class place) }
     {
         let from = class.least + place;
-        match self.first_from(from, class.least + class.many) {
+        match self.first_from(from, class.least + class.count) {
             Some(found) => Some(found),
             None => self.first_from(class.least, from),
         }

@@ -165,7 +165,7 @@ impl TableBuilder {
 
     /// Creates a builder with the configuration's redirects at the address, and then the state's
     /// other bindings there that are live or held at its clock.
-    pub(crate) fn resumed(
+    pub(crate) fn from_state(
         alloc: Global,
         address: u32,
         config: &Config,

@@ -64,7 +64,8 @@ inbound_at state now protocol flags packet = step_in state.rules.timers (inbound
     (inbound_packet protocol flags now packet) state.table.list
 
 -- A packet went out under the port block of its host: the table's answer, and the translator after it.
-pub record TranslateOut (packet : OutboundPacket) (old new : TranslatorModel) (answer : Result ℕ Cause) : Type 0 where
+pub record TranslateOutboundPost (packet : OutboundPacket) (old new : TranslatorModel) (answer : Result ℕ Cause)
+    : Type 0 where
   pub answered : answer ≡ (step_out old.rules.timers (assignment_rules old.rules) old.table.address
       (record packet { block = block_of old.rules packet.inside.address }) old.table.list).number
   pub left : new ≡ with_local_state old (record {

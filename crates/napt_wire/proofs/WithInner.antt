@@ -7,7 +7,7 @@ use Rattle.napt_wire.proofs.Checksums.{sum-append, sum-cons}
 use Rattle.napt_wire.proofs.EndReplacement.{address-edits, address-within, end-edits, there-of_within, other_clear, end-clear, end_address, address_stands, address_same}
 use Rattle.napt_wire.proofs.ReadingChecks.{AllPass, Passes, room_of, passes_of_read}
 use Rattle.napt_wire.proofs.WithEnd.{Carries, KeepsBody, KeepsHeader, written_keeps_body, header_keeps, end_keeps_header, first_byte, same_form, same_start, passes_kept, residue_zero, zero_residue}
-use Rattle.napt_wire.specs.Prelude.{word_at, double_word_at, words, canon, address, header_length, transport_start, form_at, inner_datagram_start, inner, kind, kind_of, is_error, CanCarry, reading, message_checks, error_checks, has_bad_inner, is_quotable, has_zero_port, word_change, with_changes, old_words, new_words, address_changes, end_changes, reverted_changes, inner_end, outer_end, BodyIsFound, body_of, quoted_of, HasHeaders, AreWordsThere, Body, Quoted, Side, Way, Outgoing, Incoming, Endpoint, Change, TransportForm, Source, Destination}
+use Rattle.napt_wire.specs.Prelude.{word_at, double_word_at, words, canon, address, header_length, transport_start, form_at, inner_datagram_start, inner, kind, kind_of, is_error, CanCarry, reading, message_checks, error_checks, has_bad_inner, is_quotable, has_zero_port, word_change, with_changes, old_words, new_words, address_changes, end_changes, reverted_changes, inner_end, outer_end, BodyIsFound, body_of, quoted_of, HasHeaders, AreWordsThere, Body, QuotedHeader, Side, Way, Outgoing, Incoming, Endpoint, Change, TransportForm, Source, Destination}
 use Rattle.napt_wire.specs.declared.transport_form.TransportForm.TheVariants.{Error}
 use Rattle.napt_wire.specs.declared.packet.Body.TheVariants as bodies
 
@@ -299,16 +299,17 @@ unfolding kind inner
 carries_inner bytes number e h = rw e at h
 
 -- The body of an error has the form and the offset of the transport header that it quotes.
-body_error : (form : TransportForm) (bytes : List ℕ) (quoted : Quoted) → body_of form bytes ≡ bodies.Error quoted →
+body_error : (form : TransportForm) (bytes : List ℕ) (quoted : QuotedHeader) →
+    body_of form bytes ≡ bodies.Error quoted →
     (form ≡ Error) × (quoted ≡ quoted_of bytes)
 body_error form bytes quoted h = grind (arith, common_steps, nat_tests)
 
-pub quoted_form : (bytes : List ℕ) (start : ℕ) (body : Body) (quoted : Quoted) → BodyIsFound bytes start body →
+pub quoted_form : (bytes : List ℕ) (start : ℕ) (body : Body) (quoted : QuotedHeader) → BodyIsFound bytes start body →
     body ≡ bodies.Error quoted → (form_at 0 bytes ≡ Error) × (quoted ≡ quoted_of bytes)
 quoted_form bytes start body quoted found h = body_error (form_at 0 bytes) bytes quoted (sym found.body_is ∙ h)
 
 pub not_error : (bytes : List ℕ) (start : ℕ) (body : Body) → BodyIsFound bytes start body → form_at 0 bytes ≡ Error →
-    ((quoted : Quoted) → body ≡ bodies.Error quoted → ⊥) → ⊥
+    ((quoted : QuotedHeader) → body ≡ bodies.Error quoted → ⊥) → ⊥
 not_error bytes start body found e h = h (quoted_of bytes)
     (found.body_is ∙ ap (λ (f : TransportForm). body_of f bytes) e)
 

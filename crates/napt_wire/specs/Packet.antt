@@ -1,7 +1,7 @@
 -- What a `Packet` remembers about its bytes.
 use Rattle.std.specs.Prelude.{◌≡◌, ℕ, List, Ok}
 use Rattle.napt_wire.specs.{Fields.{transport_start, form_at, flags, inner_datagram_start}, Reading.reading, declared.{Side.Side, transport_form.TransportForm.TransportForm}}
-use Rattle.napt_wire.specs.declared.{transport_form.TransportForm.TheVariants.{Udp, Tcp, Request, Reply, Error}, packet.{Body.Body, Quoted.Quoted}}
+use Rattle.napt_wire.specs.declared.{transport_form.TransportForm.TheVariants.{Udp, Tcp, Request, Reply, Error}, packet.{Body.Body, QuotedHeader.QuotedHeader}}
 use Rattle.napt_wire.specs.declared.packet.Body.TheVariants as bodies
 
 -- The bytes are a packet: they read as themselves on arrival from one of the two sides.
@@ -9,7 +9,7 @@ abbrev pub IsPacket : List ℕ → Type 0
 IsPacket bytes = (side : Side) × (reading side bytes ≡ Ok bytes)
 
 -- The form and the offset of the transport header that an ICMP error quotes.
-abbrev pub quoted_of : List ℕ → Quoted
+abbrev pub quoted_of : List ℕ → QuotedHeader
 quoted_of bytes = record {
   form = form_at (inner_datagram_start bytes) bytes;
   start = transport_start (inner_datagram_start bytes) bytes;

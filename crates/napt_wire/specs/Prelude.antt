@@ -8,7 +8,7 @@ pub use Rattle.napt_wire.specs.{HeaderRewrite.{address_changes_of, changes_of, A
 pub use Rattle.napt_wire.specs.Rewriting.{word_change, with_changes, end_words, address_changes, inner_end, old_words, new_words, outer_end, address_words, number_changes, checksum_changes}
 pub use Rattle.napt_wire.specs.{TransportChecksum.{pseudo_words, message_length, checksummed_words}, declared.Endpoint.Endpoint}
 pub use Rattle.napt_wire.specs.declared.{Kind.TheVariants.ErrorOf, Side.TheVariants.Outside, transport_form.{DatagramEnd.DatagramEnd, TransportForm.TransportForm}}
-pub use Rattle.napt_wire.specs.declared.{Way.TheVariants.{Outgoing, Incoming}, packet.{Body.Body, Quoted.Quoted}}
+pub use Rattle.napt_wire.specs.declared.{Way.TheVariants.{Outgoing, Incoming}, packet.{Body.Body, QuotedHeader.QuotedHeader}}
 pub use Rattle.napt_wire.specs.declared.{transport_form.DatagramEnd.TheVariants.{Source, Destination}, header_rewrite.Change.Change}
 unfoldable pub use Rattle.napt_wire.specs.{Checksum.{canon, canon_udp}, Reading.{reading, has_bad_inner}}
 unfoldable pub use Rattle.napt_wire.specs.Fields.{source, destination, kind, form_at, inner, local_end, flags}

@@ -6,7 +6,7 @@ ghost use Rattle.napt_wire.specs.Bytes.{word_at, double_word_at, with_word_at};
 use byteorder::{BigEndian, ByteOrder};
 
 /// Returns the 16-bit number at an offset.
-pub(crate) fn read_word(bytes: &[u8], place: usize) -> u16
+pub(crate) fn read_u16(bytes: &[u8], place: usize) -> u16
     requires { place + 2 ≤ length bytes.now }
     ensures { result ≡ word_at place bytes.now }
 {
@@ -14,7 +14,7 @@ pub(crate) fn read_word(bytes: &[u8], place: usize) -> u16
 }
 
 /// Returns the 32-bit number at an offset.
-pub(crate) fn read_long(bytes: &[u8], place: usize) -> u32
+pub(crate) fn read_u32(bytes: &[u8], place: usize) -> u32
     requires { place + 4 ≤ length bytes.now }
     ensures { result ≡ double_word_at place bytes.now }
 {
@@ -22,7 +22,7 @@ pub(crate) fn read_long(bytes: &[u8], place: usize) -> u32
 }
 
 /// Writes a 16-bit number at an offset.
-pub(crate) fn write_word(bytes: &mut [u8], place: usize, word: u16)
+pub(crate) fn write_u16(bytes: &mut [u8], place: usize, word: u16)
     requires { place + 2 ≤ length bytes.old }
     ensures { bytes.new ≡ with_word_at place word bytes.old }
 {

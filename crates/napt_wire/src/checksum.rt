@@ -4,7 +4,7 @@ ghost use Rattle.std.specs.Prelude.{◌≡◌, ◌≤◌, ◌==◌, [], ◌∷�
 ghost use Rattle.napt_wire.specs.{Checksum.{canon, canon_udp, is_right}, Bytes.words, Rewriting.{address_words, end_words}};
 
 use crate::Endpoint;
-use crate::bytes::{read_long, read_word};
+use crate::bytes::{read_u16, read_u32};
 
 /// Returns the checksum after a 16-bit word that it covers changes from `old` to `new`, all in host
 /// order. The result is never 0xFFFF: where RFC 1624 equation 3 gives 0xFFFF, this returns 0, which
@@ -31,11 +31,11 @@ pub fn fix_check_udp(check: u16, old: u16, new: u16) -> u16
     if check == 0 {
         return 0;
     }
-    sent(fix_check(check, old, new))
+    udp_check_as_sent(fix_check(check, old, new))
 }
 
 /// Returns a UDP checksum as it is sent: 0xFFFF for 0, which would mean that there is none.
-fn sent(check: u16) -> u16
+fn udp_check_as_sent(check: u16) -> u16
     ensures { result ≡ (if check == 0 then 65535 else check) }
 {
     if check == 0 { 0xffff } else { check }
@@ -66,7 +66,7 @@ pub(crate) fn fix_end_udp(check: u16, old: Endpoint, new: Endpoint) -> u16
         return 0;
     }
     let fixed = fix_address(check, old.address, new.address);
-    sent(fix_check(fixed, old.number, new.number))
+    udp_check_as_sent(fix_check(fixed, old.number, new.number))
 }
 
 /// Returns whether the sum of the 16-bit words is a multiple of 65535 (RFC 1071), a zero byte
@@ -78,11 +78,11 @@ pub(crate) fn is_right(bytes: &[u8]) -> bool
     let mut sum = 0u64;
     let mut rest = bytes;
     while let [_, _, _, _, tail @ ..] = rest {
-        sum += u64::from(read_long(rest, 0));
+        sum += u64::from(read_u32(rest, 0));
         rest = tail;
     }
     if let [_, _, tail @ ..] = rest {
-        sum += u64::from(read_word(rest, 0));
+        sum += u64::from(read_u16(rest, 0));
         rest = tail;
     }
     if let [last] = rest {

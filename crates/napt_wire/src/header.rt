@@ -3,7 +3,7 @@
 ghost use Rattle.std.specs.Prelude.{◌≡◌, ◌+◌, ◌≤◌, ◌<◌, ◌^◌, IfSome, option_map};
 ghost use Rattle.napt_wire.specs.{Fields.{address_place, end_at, inner_of, number_place}, Header.IsHeader};
 
-use crate::bytes::{read_long, read_word};
+use crate::bytes::{read_u16, read_u32};
 use crate::transport_form::{DatagramEnd, TransportForm};
 use crate::{Endpoint, Inner};
 
@@ -46,9 +46,9 @@ impl Header {
         requires { IsHeader self.at self bytes.now }
         ensures { result ≡ end_at self.at end bytes.now }
     {
-        let address = read_long(bytes, self.address_place(end));
+        let address = read_u32(bytes, self.address_place(end));
         let number = match self.number_place(end) {
-            Some(place) => read_word(bytes, place),
+            Some(place) => read_u16(bytes, place),
             None => 0,
         };
         Endpoint { address, number }

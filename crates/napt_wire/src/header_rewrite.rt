@@ -5,7 +5,7 @@ ghost use Rattle.napt_wire.specs.{Bytes.with_word_at, Fields.inner_datagram_star
 ghost use Rattle.napt_wire.specs.Rewriting.{address_changes, word_change, with_changes, checksum_changes, end_changes, inner_end, outer_end, reverted_changes, old_words, new_words, address_words, end_words};
 ghost use Rattle.napt_wire.specs.Checksum.{canon, canon_udp};
 
-use crate::bytes::{read_long, read_word, write_word};
+use crate::bytes::{read_u16, read_u32, write_u16};
 use crate::checksum::{fix_address, fix_check, fix_end, fix_end_udp};
 use crate::header::Header;
 use crate::transport_form::{DatagramEnd, TransportForm};
@@ -27,7 +27,7 @@ impl Change {
     {
         Change {
             place,
-            old: read_word(bytes, place),
+            old: read_u16(bytes, place),
             new,
         }
     }
@@ -44,7 +44,7 @@ impl Change {
         requires { self.place + 2 ≤ length bytes.old }
         ensures { bytes.new ≡ with_word_at self.place self.new bytes.old }
     {
-        write_word(bytes, self.place, self.new);
+        write_u16(bytes, self.place, self.new);
     }
 }
 
@@ -116,8 +116,8 @@ impl Header {
         ensures { address_changes_of result ≡ address_changes self.at end new bytes.now }
     {
         let place = self.address_place(end);
-        let old = read_long(bytes, place);
-        let check = read_word(bytes, self.at + 10);
+        let old = read_u32(bytes, place);
+        let check = read_u16(bytes, self.at + 10);
         AddressRewrite {
             header_check: Change::from_words(bytes, self.at + 10, fix_address(check, old, new)),
             high: Change::from_words(bytes, place, (new >> 16) as u16),
@@ -134,18 +134,18 @@ impl Header {
         let start = self.start;
         match self.form {
             TransportForm::Udp => {
-                let check = read_word(bytes, start + 6);
+                let check = read_u16(bytes, start + 6);
                 Some(Change::from_words(bytes, start + 6, fix_end_udp(check, old, new)))
             }
             TransportForm::Tcp => {
                 if bytes.len() < start + 18 {
                     return None;
                 }
-                let check = read_word(bytes, start + 16);
+                let check = read_u16(bytes, start + 16);
                 Some(Change::from_words(bytes, start + 16, fix_end(check, old, new)))
             }
             TransportForm::Request | TransportForm::Reply => {
-                let check = read_word(bytes, start + 2);
+                let check = read_u16(bytes, start + 2);
                 Some(Change::from_words(bytes, start + 2, fix_check(check, old.number, new.number)))
             }
             TransportForm::Error => None,
@@ -216,7 +216,7 @@ impl ErrorRewrite {
         ensures { error_changes_of result ≡ reverted_changes way end bytes.now }
     {
         let quoted = inner.rewrite_end(bytes, inner_end(way), end);
-        let check = quoted.fix(read_word(bytes, error.start + 2));
+        let check = quoted.fix(read_u16(bytes, error.start + 2));
         ErrorRewrite {
             quoted,
             check: Change::from_words(bytes, error.start + 2, check),

@@ -19,12 +19,12 @@ pub(crate) enum Body {
     Tcp(Flags),
     Request,
     Reply,
-    Error(Quoted),
+    Error(QuotedHeader),
 }
 
 /// The form and the offset in the error of the transport header that an ICMP error quotes.
 #[derive(Clone, Copy)]
-pub(crate) struct Quoted {
+pub(crate) struct QuotedHeader {
     pub(crate) form: TransportForm,
     pub(crate) start: u16,
 }
@@ -215,7 +215,7 @@ impl Packet {
     }
 
     /// Returns the headers of the datagram that an ICMP error quotes.
-    fn quoted_header(&self, quoted: Quoted) -> Header
+    fn quoted_header(&self, quoted: QuotedHeader) -> Header
         requires error { is_error (kind self.now) ≡ true }
         requires quoted { quoted ≡ quoted_of self.now }
         ensures { IsHeader (inner_datagram_start self.now) result self.now }

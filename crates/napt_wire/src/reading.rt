@@ -7,16 +7,16 @@ ghost use Rattle.napt_wire.specs.Packet.{BodyIsFound, body_of, quoted_of};
 ghost use Rattle.napt_wire.specs.Reading.{body_checks, error_checks, has_bad_inner, has_bad_transport, has_zero_port, header_checks, is_known_protocol, is_quotable, is_translated_message, length_checks, reading, refusal};
 ghost use Rattle.napt_wire.specs.Header.{IsHeader};
 
-use crate::bytes::{read_long, read_word};
+use crate::bytes::{read_u16, read_u32};
 use crate::checksum::is_right;
 use crate::header::Header;
-use crate::packet::{Body, Quoted};
+use crate::packet::{Body, QuotedHeader};
 use crate::transport_form::TransportForm;
 use crate::{Cause, Flags, Side};
 
 /// The parts of a datagram that passed the checks.
 #[derive(Clone, Copy)]
-pub(crate) struct Found {
+pub(crate) struct DatagramParts {
     /// The total length of the datagram, in bytes.
     pub(crate) length: usize,
     /// The offset of its transport header.
@@ -25,7 +25,7 @@ pub(crate) struct Found {
 }
 
 /// Returns the parts of the datagram at the front, or the cause of the first check that fails.
-pub(crate) fn read_datagram(side: Side, bytes: &[u8]) -> Result<Found, Cause>
+pub(crate) fn read_datagram(side: Side, bytes: &[u8]) -> Result<DatagramParts, Cause>
     ensures ok { IfOk result (λ found. reading side bytes.now ≡ Ok (take found.length bytes.now)) }
     ensures length { IfOk result (λ found. found.length ≡ total_length 0 bytes.now) }
     ensures found { IfOk result (λ found.
@@ -36,7 +36,7 @@ pub(crate) fn read_datagram(side: Side, bytes: &[u8]) -> Result<Found, Cause>
     let datagram = &bytes[..length];
     let start = read_header(datagram)?;
     let body = read_body(side, datagram, start.into())?;
-    Ok(Found {
+    Ok(DatagramParts {
         length,
         start,
         body,
@@ -58,7 +58,7 @@ fn read_length(bytes: &[u8]) -> Result<usize, Cause>
         return Err(Cause::NotIpv4);
     }
     let header = usize::from(read_header_length(bytes, 0));
-    let total = usize::from(read_word(bytes, 2));
+    let total = usize::from(read_u16(bytes, 2));
     if header < 20 || total < header {
         return Err(Cause::BadHeader);
     }
@@ -103,7 +103,7 @@ fn is_fragment(bytes: &[u8]) -> bool
     requires { 20 ≤ length bytes.now }
     ensures { result ≡ (has_more_fragments 0 bytes.now || not (fragment_offset 0 bytes.now == 0)) }
 {
-    let word = read_word(bytes, 6);
+    let word = read_u16(bytes, 6);
     word & 0x2000 != 0 || word & 0x1fff != 0
 }
 
@@ -156,7 +156,7 @@ fn has_bad_transport(form: TransportForm, payload: &[u8]) -> bool
 {
     match form {
         TransportForm::Udp => {
-            let length = usize::from(read_word(payload, 4));
+            let length = usize::from(read_u16(payload, 4));
             length < 8 || payload.len() < length
         }
         TransportForm::Tcp => {
@@ -188,8 +188,8 @@ fn has_zero_port(bytes: &[u8], start: usize, form: TransportForm) -> bool
     ensures { result ≡ has_zero_port form start bytes.now }
 {
     match form {
-        TransportForm::Udp | TransportForm::Tcp => read_word(bytes, start) == 0
-            || read_word(bytes, start + 2) == 0,
+        TransportForm::Udp | TransportForm::Tcp => read_u16(bytes, start) == 0
+            || read_u16(bytes, start + 2) == 0,
         TransportForm::Request | TransportForm::Reply | TransportForm::Error => false,
     }
 }
@@ -207,7 +207,7 @@ fn read_flags(bits: u8) -> Flags
 }
 
 /// Checks an ICMP error whose message begins at `start`, and returns what it quotes.
-fn read_quoted(side: Side, bytes: &[u8], start: usize) -> Result<Quoted, Cause>
+fn read_quoted(side: Side, bytes: &[u8], start: usize) -> Result<QuotedHeader, Cause>
     requires long { 20 ≤ start }
     requires there { start + 8 ≤ length bytes.now }
     requires small { length bytes.now ≤ 65535 }
@@ -225,7 +225,7 @@ fn read_quoted(side: Side, bytes: &[u8], start: usize) -> Result<Quoted, Cause>
     if has_zero_port(bytes, inner.start, inner.form) {
         return Err(Cause::BadPort);
     }
-    Ok(Quoted {
+    Ok(QuotedHeader {
         form: inner.form,
         start: inner.start as u16,
     })
@@ -249,11 +249,11 @@ fn read_inner(side: Side, bytes: &[u8], at: usize) -> Option<Header>
     if header < 20 || bytes.len() < start + 8 || !is_right(&bytes[at..start]) {
         return None;
     }
-    if read_word(bytes, at + 6) & 0x1fff != 0 || !is_known(bytes[at + 9]) {
+    if read_u16(bytes, at + 6) & 0x1fff != 0 || !is_known(bytes[at + 9]) {
         return None;
     }
     let form = TransportForm::from_protocol(bytes, at, start);
-    if !is_quoted(side, form) || read_long(bytes, at + 12) != read_long(bytes, 16) {
+    if !is_quoted(side, form) || read_u32(bytes, at + 12) != read_u32(bytes, 16) {
         return None;
     }
     Some(Header { at, start, form })

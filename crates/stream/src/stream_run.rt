@@ -322,8 +322,8 @@ fn saved_contents(
         return Ok(None);
     };
     let Some((log, end)) = log else {
-        return Ok(Some(StateFileContents::of(alloc, config, state, None)?));
+        return Ok(Some(StateFileContents::from_state(alloc, config, state, None)?));
     };
     let saved = log.saved(alloc, &state)?;
-    Ok(Some(StateFileContents::of(alloc, config, state, Some((saved, end)))?))
+    Ok(Some(StateFileContents::from_state(alloc, config, state, Some((saved, end)))?))
 }

@@ -9,7 +9,7 @@ ghost use Rattle.napt_binding.specs.OutboundFlows as packets;
 ghost use Rattle.napt_rules.specs.FlowUpdates as traffic;
 
 use crate::idle_timers::IdleTimers;
-use crate::life::{flow_end, flow_moment, is_live_flow, is_standing};
+use crate::lifetime::{flow_end, flow_moment, is_live_flow, is_standing};
 use crate::outbound::{flow_after, new_flow};
 use crate::traffic::{is_flow_of, used};
 use napt_rules::{Flow, OutboundPacket};

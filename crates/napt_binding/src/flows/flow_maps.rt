@@ -11,7 +11,7 @@ ghost use Rattle.napt_rules.specs.FlowUpdates as traffic;
 use super::slots::FlowSlots;
 use crate::address_counts::AddressCounts;
 use crate::idle_timers::IdleTimers;
-use crate::life::is_standing;
+use crate::lifetime::is_standing;
 use crate::outbound::{flow_after, new_flow};
 use crate::traffic::used;
 use napt_rules::{Flow, OutboundPacket};
@@ -125,7 +125,7 @@ impl FlowMaps {
     }
 
     /// Removes an expired TCP flow, and returns whether there was one.
-    fn drop_dead(&mut self, timers: IdleTimers, now: u64) -> bool
+    fn remove_expired(&mut self, timers: IdleTimers, now: u64) -> bool
         requires many { FlowMapsInvariant self.old }
         ensures many { FlowMapsInvariant self.new }
         ensures kept { filter (life.is_live_flow timers now) (standing_flows self.new.slots.slots)
@@ -137,7 +137,7 @@ impl FlowMaps {
         ensures none { result ≡ false → standing_flows self.new.slots.slots
             ≡ filter (life.is_live_flow timers now) (standing_flows self.old.slots.slots) }
     {
-        let Some(place) = self.slots.dead_place(timers, now) else {
+        let Some(place) = self.slots.expired_place(timers, now) else {
             return false;
         };
         self.remove(place);
@@ -153,7 +153,7 @@ impl FlowMaps {
         ensures room { FlowMapsHaveRoom self.old → FlowMapsHaveRoom self.new }
         ensures as_long { length self.new.slots.slots ≡ length self.old.slots.slots }
     {
-        while self.drop_dead(timers, now) {}
+        while self.remove_expired(timers, now) {}
     }
 
     /// Removes the flows that have expired at `now` (ns) if they are of TCP.

@@ -8,7 +8,7 @@ ghost use Rattle.napt_binding.specs.{Ends.last_end, Slots.{standing_flows, IsInS
 ghost use Rattle.napt_binding.specs.Slots as slots;
 
 use crate::idle_timers::IdleTimers;
-use crate::life::{end_after, is_recent, last_moment};
+use crate::lifetime::{end_after, is_recent, last_moment};
 use crate::session::is_established;
 use napt_collections::{Links, link_before, unlink};
 use napt_rules::Flow;
@@ -229,7 +229,7 @@ impl FlowSlots {
     }
 
     /// Returns the place of a flow of the row that was not used in the last `seconds` seconds.
-    fn outlived_place(&self, row: u32, now: u64, seconds: u64) -> Option<usize>
+    fn expired_place_in_row(&self, row: u32, now: u64, seconds: u64) -> Option<usize>
         requires row { row < 2 }
         requires few { seconds ≤ 1_000_000_000 }
         ensures some { IfSome result (λ place. (flow : Flow) × IsInSlot self.now.slots place flow
@@ -246,16 +246,16 @@ impl FlowSlots {
     }
 
     /// Returns the place of an expired TCP flow, if there is one. Looks at two flows at most.
-    pub(crate) fn dead_place(&self, timers: IdleTimers, now: u64) -> Option<usize>
+    pub(crate) fn expired_place(&self, timers: IdleTimers, now: u64) -> Option<usize>
         ensures some { IfSome result (λ place. (flow : Flow) × IsInSlot self.now.slots place flow
             × (life.is_live_flow timers now flow ≡ false)) }
         ensures none { IfNone result ((place : ℕ) (flow : Flow) →
             IsInSlot self.now.slots place flow →
             life.is_live_flow timers now flow ≡ true) }
     {
-        match self.outlived_place(ESTABLISHED, now, timers.seconds.established) {
+        match self.expired_place_in_row(ESTABLISHED, now, timers.seconds.established) {
             Some(place) => Some(place),
-            None => self.outlived_place(OTHERS, now, timers.seconds.transitory),
+            None => self.expired_place_in_row(OTHERS, now, timers.seconds.transitory),
         }
     }
 

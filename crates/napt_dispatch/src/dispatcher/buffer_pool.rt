@@ -44,7 +44,7 @@ impl BufferPool {
     }
 
     /// Adds a buffer, if there is one. It is freed if it does not fit or if memory is refused.
-    pub(crate) fn give_back(&mut self, vector: Option<Vec<u8>>)
+    pub(crate) fn recycle(&mut self, vector: Option<Vec<u8>>)
         ensures { MatchOption vector (self.new ≡ self.old) (λ v. (self.new ≡ self.old)
             ⊎ ((self.new ≡ self.old ++ v ∷ []) × (length self.old < MOST_SPARES)
             × (vec_capacity v ≤ MOST_ROOM))) }

@@ -43,7 +43,7 @@ impl<P: LegTrace> Dispatcher<P> {
             ⊎ (most ≤ length (queue_of self.new.queues w).ready)) }
     {
         self.queues.ready_legs(w, most)?;
-        while self.queues.many_ready(w) < most {
+        while self.queues.ready_count(w) < most {
             if !self.ready_next(w)? {
                 return Ok(());
             }
@@ -67,7 +67,7 @@ impl<P: LegTrace> Dispatcher<P> {
     {
         let most = pool.room(w);
         self.ready_all(w, most)?;
-        let count = self.queues.many_ready(w).min(most);
+        let count = self.queues.ready_count(w).min(most);
         if count == 0 {
             return Ok(());
         }

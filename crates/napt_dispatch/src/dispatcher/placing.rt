@@ -5,7 +5,7 @@ ghost use Rattle.napt_wire.specs.{declared.Side.TheVariants.Inside as InsideSide
 ghost use Rattle.napt_config.specs.Rules.{RulesInvariant, pool_place};
 ghost use Rattle.napt_rules.specs.Prelude.{way_from, served_at, admission_as};
 ghost use Rattle.napt_dispatch.specs.{declared.dispatcher.holding.PendingLeg.TheVariants.Ready, Dispatch.IsDispatchFault};
-ghost use Rattle.napt_dispatch.specs.{WorkerQueues.{AllHold, many_held, only_at, lane_at}, RunProgresses.{progress_in, progress_refused, IsUnmarked, ProgressIsWritten}};
+ghost use Rattle.napt_dispatch.specs.{WorkerQueues.{AllHold, held_count, only_at, lane_at}, RunProgresses.{progress_in, progress_refused, IsUnmarked, ProgressIsWritten}};
 ghost use Rattle.napt_dispatch.specs.DispatcherInvariants.{journal_of, Admits};
 ghost use Rattle.napt_sequential.specs.declared.passage.Passage.TheVariants.{Nothing as NoPassage};
 
@@ -23,7 +23,7 @@ impl<P: LegTrace> Dispatcher<P> {
     /// Queues a placeholder for the second leg of input `number` at worker `to`, if there is one.
     fn hold_place(&mut self, to: Option<u32>, number: u64) -> Result<(), AllocError>
         requires to { IfSome to (λ v. v < length self.old.queues) }
-        requires room { many_held self.old.queues < 65536 }
+        requires room { held_count self.old.queues < 65536 }
         requires open { IsUnmarked number self.old.progress }
         ensures many { length self.new.queues ≡ length self.old.queues }
         ensures placed { OnOk result (AllHold (lane_at number to)
@@ -45,7 +45,7 @@ impl<P: LegTrace> Dispatcher<P> {
     fn hold_first(&mut self, w: u32, leg: Leg, to: Option<u32>) -> Result<(), AllocError>
         requires place { w < length self.old.queues }
         requires to { IfSome to (λ v. v < length self.old.queues) }
-        requires room { many_held self.old.queues + 2 ≤ 65536 }
+        requires room { held_count self.old.queues + 2 ≤ 65536 }
         requires open { IsUnmarked leg.number self.old.progress }
         ensures many { length self.new.queues ≡ length self.old.queues }
         ensures placed { OnOk result (AllHold (λ v. only_at w (Ready leg ∷ []) v
@@ -84,7 +84,7 @@ impl<P: LegTrace> Dispatcher<P> {
     ) -> Result<Option<u32>, RunFault>
         requires keeps { RulesInvariant config.now }
         requires sized { length self.old.queues ≡ length config.now.pool }
-        requires room { many_held self.old.queues + 2 ≤ 65536 }
+        requires room { held_count self.old.queues + 2 ≤ 65536 }
         requires open { IsUnmarked number self.old.progress }
         ensures many { length self.new.queues ≡ length self.old.queues }
         ensures place { IfOk result (λ place. IfSome place (λ w. w < length config.now.pool)) }

@@ -4,7 +4,7 @@ ghost use Rattle.std.specs.Prelude.{◌≡◌, ◌<◌, ◌≤◌, ◌/◌, ◌%
 ghost use Rattle.napt_config.specs.Rules.{RulesInvariant};
 ghost use Rattle.napt_pool.specs.Pools.{initial_machines};
 ghost use Rattle.napt_sequential.specs.Inputs.{NextInputPost};
-ghost use Rattle.napt_dispatch.specs.RunsThrough.{LetsGoUnlessFault, ReadInputPost, RunThroughStart, ReadsToEnd, ReadsAll, ReadsHalted};
+ghost use Rattle.napt_dispatch.specs.RunsThrough.{OutcomesLeaveUnlessFault, ReadInputPost, RunThroughStart, ReadsToEnd, ReadsAll, ReadsHalted};
 ghost use Rattle.napt_dispatch.specs.DispatcherInvariants.{IsSizedFor, ContinuesOr, DispatcherHasRoom, DispatcherHalts};
 
 use crate::Worker;
@@ -37,7 +37,7 @@ impl<P: LegTrace> Dispatcher<P> {
 
     /// Takes answers from a worker and offers it legs, if there is one.
     #[inline(always)]
-    fn look_if<R: Wait, G: Gate>(
+    fn take_and_offer_if_some<R: Wait, G: Gate>(
         &mut self,
         rt: &R,
         pool: &mut Pool<Worker<P>, G>,
@@ -49,7 +49,7 @@ impl<P: LegTrace> Dispatcher<P> {
     {
         match worker {
             None => Ok(()),
-            Some(w) => self.look_at(rt, pool, w),
+            Some(w) => self.take_and_offer(rt, pool, w),
         }
     }
 
@@ -74,15 +74,15 @@ impl<P: LegTrace> Dispatcher<P> {
         let number = self.progress.expect(input.time, way_from(input.side))?;
         let place = self.admit(config, number, now, input)?;
         let due = self.due(place);
-        self.look_if(rt, pool, due)?;
+        self.take_and_offer_if_some(rt, pool, due)?;
         let turn = turn_after(number, self.queues.count());
-        self.look_if(rt, pool, turn)?;
+        self.take_and_offer_if_some(rt, pool, turn)?;
         Ok(())
     }
 
     /// Makes room for one more input. Before a device is read, writes and flushes every outcome.
     #[inline(always)]
-    fn make_ready<R: Wait, G: Gate, D: OutcomeSink<Told = P>>(
+    fn make_ready<R: Wait, G: Gate, D: OutcomeSink<Trace = P>>(
         &mut self,
         rt: &R,
         pool: &mut Pool<Worker<P>, G>,
@@ -90,7 +90,7 @@ impl<P: LegTrace> Dispatcher<P> {
         asks_device: bool,
     ) -> Result<(), DispatchFault<D::Fault>>
         requires sized { IsSizedFor pool.old self.old }
-        ensures state { LetsGoUnlessFault P.tells G.is_open D.takes D.fails
+        ensures state { OutcomesLeaveUnlessFault P.tells G.is_open D.takes D.fails
             pool.old self.old departures.old pool.new self.new departures.new result }
         ensures room { OnOk result (DispatcherHasRoom self.new) }
         ensures left { asks_device ≡ true → OnOk result ((self.new.progress.under_way ≡ [])
@@ -99,7 +99,7 @@ impl<P: LegTrace> Dispatcher<P> {
         if asks_device {
             return self.settle(rt, pool, departures);
         }
-        if !self.progress.take_told() && self.has_room() {
+        if !self.progress.take_outcome_flag() && self.has_room() {
             return Ok(());
         }
         self.advance_until(rt, pool, departures, StopCondition::Room)
@@ -108,7 +108,7 @@ impl<P: LegTrace> Dispatcher<P> {
     /// Returns the next input, which may use a pooled buffer. A device is read only if every
     /// outcome has been written and flushed; `_departures` is passed for that clause alone.
     #[inline(always)]
-    fn next_input<A: InputSource, D: OutcomeSink<Told = P>>(
+    fn next_input<A: InputSource, D: OutcomeSink<Trace = P>>(
         &mut self,
         arrivals: &mut A,
         _departures: &D,
@@ -123,7 +123,7 @@ impl<P: LegTrace> Dispatcher<P> {
     }
 
     /// Reads the inputs until their end or a fault and takes answers in between. Moves their bytes.
-    fn read_all<R: Wait, G: Gate, A: InputSource, D: OutcomeSink<Told = P>>(
+    fn read_all<R: Wait, G: Gate, A: InputSource, D: OutcomeSink<Trace = P>>(
         &mut self,
         rt: &R,
         pool: &mut Pool<Worker<P>, G>,
@@ -156,7 +156,7 @@ impl<P: LegTrace> Dispatcher<P> {
     }
 
     /// Reads the inputs until their end or a fault, and writes and flushes every outcome.
-    pub(super) fn pass_all<R: Wait, G: Gate, A: InputSource, D: OutcomeSink<Told = P>>(
+    pub(super) fn pass_all<R: Wait, G: Gate, A: InputSource, D: OutcomeSink<Trace = P>>(
         &mut self,
         rt: &R,
         pool: &mut Pool<Worker<P>, G>,

@@ -3,7 +3,7 @@
 ghost use Rattle.std.specs.Prelude.{◌≡◌, ◌↔◌, ◌⊎◌, ◌+◌, ◌^◌, ◌<◌, ◌≤◌, Bool, [], length, slice_get, true, false, IfOk, IfErr, IfSome, OnOk, OnErr, MatchOption, MatchResult};
 ghost use Rattle.napt_sequential.specs.declared.{fault.RunFault.TheVariants.Memory, passage.Passage.TheVariants.Nothing as NoPassage};
 ghost use Rattle.napt_dispatch.specs.Dispatch.{IsDispatchFault};
-ghost use Rattle.napt_dispatch.specs.RunProgresses.{progress_in, marks_in, progress_expecting, is_unknown, FirstMayLeave, ProgressIsWritten, InputIsMarked, FirstInputLeaves};
+ghost use Rattle.napt_dispatch.specs.RunProgresses.{progress_in, marks_in, progress_expecting, is_unknown, FirstIsComplete, ProgressIsWritten, InputIsMarked, FirstInputLeaves};
 ghost use Rattle.napt_dispatch.specs.{RunsThrough.{HandOverOk, HandOverErr}, DispatcherInvariants.{IsSecond, AnswersTo}};
 
 use crate::dispatcher::buffer_pool::BufferPool;
@@ -36,7 +36,7 @@ pub(crate) struct RunProgress<P> {
     /// Whether there is new progress of an input for whose second leg a placeholder is held.
     is_freed: bool,
     /// Whether an outcome may have become ready to be written.
-    is_told: bool,
+    may_have_outcome: bool,
 }
 
 impl<P> Model for RunProgress<P> {
@@ -67,7 +67,7 @@ impl<P: LegTrace> RunProgress<P> {
             past: Log::new(),
             spares: BufferPool::new(alloc),
             is_freed: false,
-            is_told: false,
+            may_have_outcome: false,
         }
     }
 
@@ -79,10 +79,10 @@ impl<P: LegTrace> RunProgress<P> {
     }
 
     /// Adds the buffer of a packet that has been written to the pool, if there is one.
-    fn keep_spare(&mut self, vector: Option<Vec<u8>>)
+    fn store_spare(&mut self, vector: Option<Vec<u8>>)
         ensures { self.new ≡ self.old }
     {
-        self.spares.give_back(vector);
+        self.spares.recycle(vector);
     }
 
     /// Returns a buffer for a later input.
@@ -165,7 +165,7 @@ impl<P: LegTrace> RunProgress<P> {
         let input = &mut self.under_way[place];
         self.is_freed = self.is_freed || input.has_place;
         input.progress = progress;
-        self.is_told = true;
+        self.may_have_outcome = true;
         Ok(())
     }
 
@@ -190,10 +190,10 @@ impl<P: LegTrace> RunProgress<P> {
     }
 
     /// Returns whether an outcome may have become ready to be written since the last call.
-    pub(crate) fn take_told(&mut self) -> bool
+    pub(crate) fn take_outcome_flag(&mut self) -> bool
         ensures { self.new ≡ self.old }
     {
-        mem::replace(&mut self.is_told, false)
+        mem::replace(&mut self.may_have_outcome, false)
     }
 
     /// Records that a placeholder is held for the second leg of input `number`.
@@ -224,13 +224,13 @@ impl<P: LegTrace> RunProgress<P> {
         let Some(place) = self.place_of(number) else {
             unreachable!();
         };
-        self.is_told = true;
+        self.may_have_outcome = true;
         self.under_way[place].second_leg(number)
     }
 
     /// Returns whether the first open input has ended and has no placeholder for a second leg.
-    fn may_leave(&self) -> bool
-        ensures { (result ≡ true) ↔ FirstMayLeave self.now.under_way }
+    fn is_first_complete(&self) -> bool
+        ensures { (result ≡ true) ↔ FirstIsComplete self.now.under_way }
     {
         match self.under_way.front() {
             Some(input) => input.progress.has_ended() && !input.has_place,
@@ -241,7 +241,7 @@ impl<P: LegTrace> RunProgress<P> {
     /// Removes the first open input, which may leave. Returns its arrival time, in ns, and result.
     #[inline(always)]
     fn pop(&mut self) -> (u64, InputResult<P>)
-        requires { FirstMayLeave self.old.under_way }
+        requires { FirstIsComplete self.old.under_way }
         ensures { FirstInputLeaves result self.old self.new }
     {
         let Some(OpenInput { time, progress, .. }) = self.under_way.pop_front() else {
@@ -254,19 +254,19 @@ impl<P: LegTrace> RunProgress<P> {
     }
 
     /// Writes the results of the first open inputs, up to the first that may not leave yet.
-    pub(crate) fn hand_over<D: OutcomeSink<Told = P>>(
+    pub(crate) fn hand_over<D: OutcomeSink<Trace = P>>(
         &mut self,
         departures: &mut D,
     ) -> Result<(), D::Fault>
-        ensures all { OnOk result (¬ FirstMayLeave self.new.under_way) }
+        ensures all { OnOk result (¬ FirstIsComplete self.new.under_way) }
         ensures handed { MatchResult result
             (λ _. HandOverOk D.takes departures.old self.old departures.new self.new)
             (HandOverErr D.takes D.fails departures.old self.old departures.new self.new) }
     {
-        while self.may_leave() {
+        while self.is_first_complete() {
             let (time, departed) = self.pop();
             match departures.write(time, departed) {
-                Ok(vector) => self.keep_spare(vector),
+                Ok(vector) => self.store_spare(vector),
                 Err(fault) => return Err(fault),
             }
         }

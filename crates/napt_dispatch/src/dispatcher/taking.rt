@@ -2,7 +2,7 @@
 
 ghost use Rattle.std.specs.Prelude.{◌≡◌, ◌↔◌, ◌+◌, ◌⊎◌, ◌^◌, ◌<◌, [], length, true, IfOk, IfSome, OnOk};
 ghost use Rattle.napt_pool.specs.Pools.{initial_machines};
-ghost use Rattle.napt_dispatch.specs.{RunsThrough.LetsGoUnlessFault, WorkerQueues.many_owed};
+ghost use Rattle.napt_dispatch.specs.{RunsThrough.OutcomesLeaveUnlessFault, WorkerQueues.owed_count};
 ghost use Rattle.napt_dispatch.specs.DispatcherInvariants.{IsSizedFor, ContinuesOr, NoteAnswersPost, HasTaken, HasOffered, HasOfferedAll, DispatcherHasRoom, HasReached, DispatcherIsDone};
 
 use crate::Worker;
@@ -33,8 +33,8 @@ impl<P: LegTrace> Dispatcher<P> {
         requires { w < length self.old.queues }
         ensures many { OnOk result (length self.new.queues ≡ length self.old.queues) }
         ensures noted { OnOk result (NoteAnswersPost P.tells w answers.old.items self.old self.new) }
-        ensures fewer { OnOk result (many_owed self.new.queues + length answers.old.items
-            ≡ many_owed self.old.queues) }
+        ensures fewer { OnOk result (owed_count self.new.queues + length answers.old.items
+            ≡ owed_count self.old.queues) }
     {
         for answer in answers.drain(..) {
             self.note(w, answer)?;
@@ -59,7 +59,7 @@ impl<P: LegTrace> Dispatcher<P> {
             return Ok(false);
         }
         self.note_each(w, &mut answered.answers)?;
-        self.vectors.give_back(answered);
+        self.vectors.recycle(answered);
         Ok(true)
     }
 
@@ -86,7 +86,7 @@ impl<P: LegTrace> Dispatcher<P> {
     }
 
     /// Takes and records all available answers of worker `w`. Returns whether there were any.
-    fn take_there<R: Wait, G: Gate>(
+    fn take_available<R: Wait, G: Gate>(
         &mut self,
         rt: &R,
         pool: &mut Pool<Worker<P>, G>,
@@ -97,7 +97,7 @@ impl<P: LegTrace> Dispatcher<P> {
         ensures state { ContinuesOr P.tells G.is_open pool.old self.old pool.new self.new result }
         ensures told { IfOk result (HasTaken self.old self.new) }
     {
-        let many = self.queues.many_owed(w);
+        let many = self.queues.owed_count(w);
         let mut any = false;
         for _ in 0..many {
             if !self.take_reply(rt, pool, w)? {
@@ -109,7 +109,7 @@ impl<P: LegTrace> Dispatcher<P> {
     }
 
     /// Takes and records all available answers of all workers. Returns whether there were any.
-    fn take_all_there<R: Wait, G: Gate>(
+    fn take_all_available<R: Wait, G: Gate>(
         &mut self,
         rt: &R,
         pool: &mut Pool<Worker<P>, G>,
@@ -121,7 +121,7 @@ impl<P: LegTrace> Dispatcher<P> {
         let mut any = false;
         let workers = self.queues.count();
         for w in 0..workers {
-            if self.take_there(rt, pool, w)? {
+            if self.take_available(rt, pool, w)? {
                 any = true;
             }
         }
@@ -130,7 +130,7 @@ impl<P: LegTrace> Dispatcher<P> {
 
     /// Waits for an answer and takes all that are available. Every leg that could be offered must
     /// have been offered. Fails if no worker owes an answer.
-    fn take_some<R: Wait, G: Gate>(
+    fn wait_and_take<R: Wait, G: Gate>(
         &mut self,
         rt: &R,
         pool: &mut Pool<Worker<P>, G>,
@@ -145,7 +145,7 @@ impl<P: LegTrace> Dispatcher<P> {
         }
         let mut backoff = Backoff::new();
         for _ in rt.forever() {
-            if self.take_all_there(rt, pool)? {
+            if self.take_all_available(rt, pool)? {
                 return Ok(());
             }
             backoff.pause(rt);
@@ -165,18 +165,18 @@ impl<P: LegTrace> Dispatcher<P> {
         ensures offered { OnOk result (HasOfferedAll pool.new self.new) }
     {
         self.offer_all(pool)?;
-        self.take_some(rt, pool)?;
+        self.wait_and_take(rt, pool)?;
         self.offer_all(pool)
     }
 
     /// Writes the outcomes of the first inputs, up to one not ready. Only the contract uses `pool`.
-    fn hand_over<G: Gate, D: OutcomeSink<Told = P>>(
+    fn hand_over<G: Gate, D: OutcomeSink<Trace = P>>(
         &mut self,
         pool: &Pool<Worker<P>, G>,
         departures: &mut D,
     ) -> Result<(), DispatchFault<D::Fault>>
         requires sized { IsSizedFor pool.now self.old }
-        ensures { LetsGoUnlessFault P.tells G.is_open D.takes D.fails
+        ensures { OutcomesLeaveUnlessFault P.tells G.is_open D.takes D.fails
             pool.now self.old departures.old pool.now self.new departures.new result }
     {
         match self.progress.hand_over(departures) {
@@ -203,7 +203,7 @@ impl<P: LegTrace> Dispatcher<P> {
     }
 
     /// Takes answers, offers legs and writes outcomes until a stop condition holds.
-    pub(super) fn advance_until<R: Wait, G: Gate, D: OutcomeSink<Told = P>>(
+    pub(super) fn advance_until<R: Wait, G: Gate, D: OutcomeSink<Trace = P>>(
         &mut self,
         rt: &R,
         pool: &mut Pool<Worker<P>, G>,
@@ -211,7 +211,7 @@ impl<P: LegTrace> Dispatcher<P> {
         until: StopCondition,
     ) -> Result<(), DispatchFault<D::Fault>>
         requires sized { IsSizedFor pool.old self.old }
-        ensures state { LetsGoUnlessFault P.tells G.is_open D.takes D.fails
+        ensures state { OutcomesLeaveUnlessFault P.tells G.is_open D.takes D.fails
             pool.old self.old departures.old pool.new self.new departures.new result }
         ensures reached { OnOk result (HasReached until self.new) }
     {
@@ -226,14 +226,14 @@ impl<P: LegTrace> Dispatcher<P> {
     }
 
     /// Continues until every outcome has been written, and flushes the sink.
-    pub(super) fn settle<R: Wait, G: Gate, D: OutcomeSink<Told = P>>(
+    pub(super) fn settle<R: Wait, G: Gate, D: OutcomeSink<Trace = P>>(
         &mut self,
         rt: &R,
         pool: &mut Pool<Worker<P>, G>,
         departures: &mut D,
     ) -> Result<(), DispatchFault<D::Fault>>
         requires sized { IsSizedFor pool.old self.old }
-        ensures state { LetsGoUnlessFault P.tells G.is_open D.takes D.fails
+        ensures state { OutcomesLeaveUnlessFault P.tells G.is_open D.takes D.fails
             pool.old self.old departures.old pool.new self.new departures.new result }
         ensures done { OnOk result (DispatcherIsDone self.new) }
         ensures left { OnOk result (self.new.progress.under_way ≡ []) }
@@ -252,7 +252,7 @@ impl<P: LegTrace> Dispatcher<P> {
     /// Takes the available answers of worker `w`, and offers it the legs that can then be offered.
     /// If a placeholder waited for one of the answers, offers legs to all workers.
     #[inline(never)]
-    pub(super) fn look_at<R: Wait, G: Gate>(
+    pub(super) fn take_and_offer<R: Wait, G: Gate>(
         &mut self,
         rt: &R,
         pool: &mut Pool<Worker<P>, G>,
@@ -263,7 +263,7 @@ impl<P: LegTrace> Dispatcher<P> {
         ensures state { ContinuesOr P.tells G.is_open pool.old self.old pool.new self.new result }
         ensures offered { OnOk result (HasOffered pool.new self.new w) }
     {
-        self.take_there(rt, pool, w)?;
+        self.take_available(rt, pool, w)?;
         if self.progress.take_freed() {
             return self.offer_all(pool);
         }

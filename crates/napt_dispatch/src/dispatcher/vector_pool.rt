@@ -24,7 +24,7 @@ impl<P: LegTrace> VectorPool<P> {
     }
 
     /// Adds the vectors of a batch. They are freed if memory is refused.
-    pub(crate) fn give_back(&mut self, answered: AnsweredBatch<Leg, TracedAnswer<P>>) {
+    pub(crate) fn recycle(&mut self, answered: AnsweredBatch<Leg, TracedAnswer<P>>) {
         let _ = self.free.push(answered);
     }
 

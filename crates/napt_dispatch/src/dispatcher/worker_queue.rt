@@ -129,7 +129,7 @@ impl WorkerQueue {
     }
 
     /// Returns the number of legs of the next message.
-    pub(crate) fn many_ready(&self) -> usize
+    pub(crate) fn ready_count(&self) -> usize
         ensures { result ≡ length self.now.ready }
     {
         self.ready.len()
@@ -178,7 +178,7 @@ impl WorkerQueue {
     }
 
     /// Returns the number of legs that are not answered yet.
-    pub(crate) fn many_owed(&self) -> usize
+    pub(crate) fn owed_count(&self) -> usize
         ensures { result ≡ length self.now.owed }
     {
         self.owed.len()

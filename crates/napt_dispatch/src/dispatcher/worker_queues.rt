@@ -2,7 +2,7 @@
 
 ghost use Rattle.std.specs.Prelude.{◌≡◌, ◌↔◌, ◌+◌, ◌<◌, ◌≤◌, ℕ, Bool, [], ◌∷◌, length, replicate, take, true, vec_len, IfOk, IfErr, OnOk, MatchOption};
 ghost use Rattle.napt_dispatch.specs.{Dispatch.IsDispatchFault, DispatcherInvariants.MovesLegsAt};
-ghost use Rattle.napt_dispatch.specs.WorkerQueues.{AllHold, AnswersAt, held_legs_count, counts_in, front_of, many_held, only_at, queue_of, queue_readied, unused_queue, with_offers, with_queue};
+ghost use Rattle.napt_dispatch.specs.WorkerQueues.{AllHold, AnswersAt, held_legs_count, counts_in, front_of, held_count, only_at, queue_of, queue_readied, unused_queue, with_offers, with_queue};
 
 use crate::dispatcher::holding::{AwaitedLeg, PendingLeg, QueueHead};
 use crate::dispatcher::worker_queue::WorkerQueue;
@@ -57,7 +57,7 @@ impl WorkerQueues {
 
     /// Returns whether there is room for two more legs or placeholders.
     pub(crate) fn has_room(&self) -> bool
-        ensures { (result ≡ true) ↔ (many_held self.now + 2 ≤ 65536) }
+        ensures { (result ≡ true) ↔ (held_count self.now + 2 ≤ 65536) }
     {
         self.many + 2 <= MOST_HELD
     }
@@ -66,10 +66,10 @@ impl WorkerQueues {
     #[inline(always)]
     pub(crate) fn push(&mut self, w: u32, held: PendingLeg) -> Result<(), AllocError>
         requires place { w < length self.old }
-        requires room { many_held self.old < 65536 }
+        requires room { held_count self.old < 65536 }
         ensures many { length self.new ≡ length self.old }
         ensures holds { OnOk result (AllHold (only_at w (held ∷ [])) self.old self.new) }
-        ensures counted { OnOk result (many_held self.new ≡ many_held self.old + 1) }
+        ensures counted { OnOk result (held_count self.new ≡ held_count self.old + 1) }
     {
         let queue = &mut self.queues[w as usize];
         queue.push(held)?;
@@ -111,11 +111,11 @@ impl WorkerQueues {
     }
 
     /// Returns the number of legs of the next message of worker `w`.
-    pub(crate) fn many_ready(&self, w: u32) -> usize
+    pub(crate) fn ready_count(&self, w: u32) -> usize
         requires { w < length self.now }
         ensures { result ≡ length (queue_of self.now w).ready }
     {
-        self.queues[w as usize].many_ready()
+        self.queues[w as usize].ready_count()
     }
 
     /// Removes and returns the first `count` legs of worker `w`'s next message, and records them as
@@ -170,11 +170,11 @@ impl WorkerQueues {
     }
 
     /// Returns the number of legs that worker `w` has not answered yet.
-    pub(crate) fn many_owed(&self, w: u32) -> usize
+    pub(crate) fn owed_count(&self, w: u32) -> usize
         requires { w < length self.now }
         ensures { result ≡ length (queue_of self.now w).owed }
     {
-        self.queues[w as usize].many_owed()
+        self.queues[w as usize].owed_count()
     }
 
     /// Returns whether every worker has answered every leg offered to it.
@@ -197,7 +197,7 @@ fn none_owed(queues: &[WorkerQueue]) -> bool
     ensures { (result ≡ true) ↔ ((w : ℕ) → (queue_of queues.now w).owed ≡ []) }
 {
     for queue in queues {
-        if queue.many_owed() > 0 {
+        if queue.owed_count() > 0 {
             return false;
         }
     }

@@ -155,7 +155,7 @@ impl BindingIndex {
     }
 
     /// Returns whether the host has all the bindings that the quota allows.
-    pub(crate) fn reaches(&self, host: u32) -> bool
+    pub(crate) fn is_at_quota(&self, host: u32) -> bool
         ensures { result ≡ reaches_quota self.now.granting.quota (count_all self.now host) }
     {
         let Some(quota) = self.granting.quota else {

@@ -242,7 +242,7 @@ impl Bindings {
             self.renew(packet, number, flows);
             return Ok(Ok(number));
         }
-        if self.held.reaches(packet.inside.address) {
+        if self.held.is_at_quota(packet.inside.address) {
             return Ok(Err(Cause::OverQuota));
         }
         Ok(self.insert_new(packet, flows))

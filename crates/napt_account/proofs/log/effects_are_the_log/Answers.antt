@@ -1,5 +1,5 @@
 -- effects_are_the_log: the two laws, of which the second rests on the sound states of a run.
-use Rattle.napt_account.proofs.{Comes.effects_come, Effects.effects_are_the_log}
+use Rattle.napt_account.proofs.{InputEffects.effects_come, Effects.effects_are_the_log}
 use Rattle.napt_account.proofs.log.effects_are_the_log.Goals as goal
 
 pub returns-clause-log : goal.returns-clause-log

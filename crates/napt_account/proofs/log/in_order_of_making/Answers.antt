@@ -1,6 +1,6 @@
 -- in_order_of_making: sorted by number, the entries are those of the log, whose numbers ascend.
 use Rattle.std.proofs.{Common.{rules, map, ◌∙◌, ap}, lemmas.List.Sorted.{answers_always}}
-use Rattle.napt_account.{specs.{declared.log.LogEntry.LogEntry, Log.log_of}, proofs.Numbers.{log_rises, sorted_entries}}
+use Rattle.napt_account.{specs.{declared.log.LogEntry.LogEntry, Log.log_of}, proofs.EntryNumbers.{log_rises, sorted_entries}}
 use Rattle.napt_account.proofs.log.in_order_of_making.Goals as goal
 
 pub returns : goal.returns

@@ -7,7 +7,7 @@ use Rattle.napt_table.specs.declared.TimedRow.{TimedRow}
 use Rattle.napt_rules.specs.{declared.Row.Row, Prelude.Each}
 use Rattle.napt_laws.proofs.Lists.{each_pushed}
 use Rattle.napt_account.specs.{declared.log.{Entry.Entry, LogEntry.LogEntry}, Log.unused_entry, LogStarts.has_entry, OpenEntries.{IsNumberedRow, external_eq}}
-use Rattle.napt_account.proofs.{Few.keyed_few, Lists.map_joined, NewEntries.{HasRows, begun_more, begun_same, begun_to, has_rows}}
+use Rattle.napt_account.proofs.{ExternalEndpointBound.keyed_few, Lists.map_joined, NewEntries.{HasRows, begun_more, begun_same, begun_to, has_rows}}
 use Rattle.napt_account.proofs.log_start.new_entries.Goals as goal
 
 abbrev none : TimedRow

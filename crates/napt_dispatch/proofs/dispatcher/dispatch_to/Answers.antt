@@ -8,7 +8,7 @@ use Rattle.napt_dispatch.proofs.dispatcher.dispatch_to.Goals as goal
 pub pass_all-requires : goal.pass_all-requires
 pass_all-requires g c =
     let workers : length (initial_machines c.args.pool.now) ≡ length c.args.config.now.pool = c.requires.workers in (
-      c.type_bounds.static-D-Told,
+      c.type_bounds.static-D-Trace,
       (
         search rules,
         record {

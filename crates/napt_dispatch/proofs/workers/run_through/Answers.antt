@@ -26,7 +26,7 @@ returns-in_err-dispatched-clause-passes g c =
     let p = err_from_is_err_and c.from_residual-in_err-dispatched.result c.from_residual-in_err-dispatched.ensures.1 in
     rw (p.1, p.2)
     (passes_closed pool
-    (right_begin g.D.Told.LegTrace.tells c.args.config.now start (initial_machines pool) (accepted_items pool)
+    (right_begin g.D.Trace.LegTrace.tells c.args.config.now start (initial_machines pool) (accepted_items pool)
     (taken_answers pool)
     (c.dispatch_to-dispatched.ensures.starts ∙ c.in_ok-pool.ensures.started) c.in_err-dispatched.ensures.taken
     (λ s leg. refl) (λ s leg. refl)) c.state.inside.clock (sym (ap (λ (s : State). s.clock) c.state.view_is))
@@ -37,7 +37,7 @@ returns-in-Err-clause-passes g c =
     let start : State = with_redirects c.args.config.now c.args.state.now in
     let pool = c.dispatch_to-dispatched.new.pool in
     passes_ended pool
-    (right_begin g.D.Told.LegTrace.tells c.args.config.now start (initial_machines pool) (accepted_items pool)
+    (right_begin g.D.Trace.LegTrace.tells c.args.config.now start (initial_machines pool) (accepted_items pool)
     (taken_answers pool)
     (c.dispatch_to-dispatched.ensures.starts ∙ c.in_ok-pool.ensures.started) c.in_ok-dispatched.ensures.taken
     (λ s leg. refl) (λ s leg. refl)) c.in_ok-dispatched.dispatched c.in_ok-dispatched.dispatched.ending
@@ -50,11 +50,11 @@ returns-in-Ok-clause-passes g c =
     let rules : Rules = c.args.config.now in
     let pool = c.dispatch_to-dispatched.new.pool in
     let closed = c.in_ok-dispatched.ensures in
-    let e : DispatchOk g.D.Told.LegTrace.tells c.args.config.now start g.A.InputSource.hands g.A.InputSource.ends
+    let e : DispatchOk g.D.Trace.LegTrace.tells c.args.config.now start g.A.InputSource.hands g.A.InputSource.ends
     g.D.OutcomeSink.takes g.D.OutcomeSink.fails g.D.OutcomeSink.is_settled c.args.arrivals.now c.args.departures.now
     pool
     c.dispatch_to-dispatched.new.arrivals c.dispatch_to-dispatched.new.departures None c.in_ok-dispatched.dispatched =
-    subst (λ ending. DispatchPost g.D.Told.LegTrace.tells c.args.config.now start g.A.InputSource.hands
+    subst (λ ending. DispatchPost g.D.Trace.LegTrace.tells c.args.config.now start g.A.InputSource.hands
     g.A.InputSource.ends
     g.D.OutcomeSink.takes g.D.OutcomeSink.fails g.D.OutcomeSink.is_settled c.args.arrivals.now c.args.departures.now
     pool
@@ -63,7 +63,7 @@ returns-in-Ok-clause-passes g c =
     (sym (ap (λ (s : State). s.clock) c.state.view_is))) in
     let began : initial_machines pool ≡ started_from rules start (length rules.pool) =
     c.dispatch_to-dispatched.ensures.starts ∙ c.in_ok-pool.ensures.started in
-    let right = right_begin g.D.Told.LegTrace.tells rules start (initial_machines pool) (accepted_items pool)
+    let right = right_begin g.D.Trace.LegTrace.tells rules start (initial_machines pool) (accepted_items pool)
     (taken_answers pool) began closed.taken (λ s leg. refl) (λ s leg. refl) in
     let done = (e.right (right e.offered_many)).1 in
     let machines = map (λ e. e.machine) c.in_ok-dispatched.ended.items in
@@ -85,12 +85,12 @@ returns-in-Arrival-clause-passes g c =
     let start : State = with_redirects c.args.config.now c.args.state.now in
     let pool = c.dispatch_to-dispatched.new.pool in
     let closed = c.in_ok-dispatched.ensures in
-    let e : DispatchOk g.D.Told.LegTrace.tells c.args.config.now start g.A.InputSource.hands g.A.InputSource.ends
+    let e : DispatchOk g.D.Trace.LegTrace.tells c.args.config.now start g.A.InputSource.hands g.A.InputSource.ends
     g.D.OutcomeSink.takes g.D.OutcomeSink.fails g.D.OutcomeSink.is_settled c.args.arrivals.now c.args.departures.now
     pool
     c.dispatch_to-dispatched.new.arrivals c.dispatch_to-dispatched.new.departures (Some c.in-Arrival.fault)
     c.in_ok-dispatched.dispatched =
-    subst (λ ending. DispatchPost g.D.Told.LegTrace.tells c.args.config.now start g.A.InputSource.hands
+    subst (λ ending. DispatchPost g.D.Trace.LegTrace.tells c.args.config.now start g.A.InputSource.hands
     g.A.InputSource.ends
     g.D.OutcomeSink.takes g.D.OutcomeSink.fails g.D.OutcomeSink.is_settled c.args.arrivals.now c.args.departures.now
     pool
@@ -98,7 +98,7 @@ returns-in-Arrival-clause-passes g c =
     c.in-Arrival.is (IfOk-at_ok _ closed.given c.dispatch_to-dispatched.ensures.ends start
     (sym (ap (λ (s : State). s.clock) c.state.view_is))) in
     passes_to pool
-    (right_begin g.D.Told.LegTrace.tells c.args.config.now start (initial_machines pool) (accepted_items pool)
+    (right_begin g.D.Trace.LegTrace.tells c.args.config.now start (initial_machines pool) (accepted_items pool)
     (taken_answers pool)
     (c.dispatch_to-dispatched.ensures.starts ∙ c.in_ok-pool.ensures.started) closed.taken (λ s leg. refl)
     (λ s leg. refl)) (Some c.in-Arrival.fault) c.in_ok-dispatched.dispatched e
@@ -109,7 +109,7 @@ returns-in-Departure-clause-passes g c =
     let pool = c.dispatch_to-dispatched.new.pool in
     let closed = c.in_ok-dispatched.ensures in
     passes_early pool
-    (right_begin g.D.Told.LegTrace.tells c.args.config.now start (initial_machines pool) (accepted_items pool)
+    (right_begin g.D.Trace.LegTrace.tells c.args.config.now start (initial_machines pool) (accepted_items pool)
     (taken_answers pool)
     (c.dispatch_to-dispatched.ensures.starts ∙ c.in_ok-pool.ensures.started) closed.taken (λ s leg. refl)
     (λ s leg. refl))

@@ -8,19 +8,22 @@ use Rattle.napt_sequential.proofs.StepTraceSteps.{goes_onward, steps_once, steps
 use Rattle.napt_laws.proofs.{Pools.stands_at, OnwardLegs.onward_place}
 use Rattle.napt_sequential.proofs.run.follow.Goals as goal
 
-pub take-requires-in-Onward-clause-within : goal.take-requires-in-Onward-clause-within
-take-requires-in-Onward-clause-within c =
-    let goes = goes_onward c.args.config.now c.args.place c.args.leg c.args.translators.now c.take.new.translators
+pub translate_leg-requires-in-Onward-clause-within : goal.translate_leg-requires-in-Onward-clause-within
+translate_leg-requires-in-Onward-clause-within c =
+    let goes = goes_onward c.args.config.now c.args.place c.args.leg c.args.translators.now
+    c.translate_leg.new.translators
     c.in_ok-end.field-0 c.requires.within c.requires.can_take c.in_ok-end.ensures c.in-Onward.to c.in-Onward.packet
     c.in-Onward.is in
     slice_get_within c.args.config.now.pool c.in-Onward.to (destination c.in-Onward.packet).address goes.1
 
-pub take-requires-in-Onward-clause-can_take : goal.take-requires-in-Onward-clause-can_take
-take-requires-in-Onward-clause-can_take c =
-    let goes = goes_onward c.args.config.now c.args.place c.args.leg c.args.translators.now c.take.new.translators
+pub translate_leg-requires-in-Onward-clause-can_take : goal.translate_leg-requires-in-Onward-clause-can_take
+translate_leg-requires-in-Onward-clause-can_take c =
+    let goes = goes_onward c.args.config.now c.args.place c.args.leg c.args.translators.now
+    c.translate_leg.new.translators
     c.in_ok-end.field-0 c.requires.within c.requires.can_take c.in_ok-end.ensures c.in-Onward.to c.in-Onward.packet
     c.in-Onward.is in
-    subst (λ (l : Leg). CanTake c.args.config.now l.now 1 c.take.new.translators) (sym c.second_leg-next.ensures) goes.0
+    subst (λ (l : Leg). CanTake c.args.config.now l.now 1 c.translate_leg.new.translators)
+    (sym c.second_leg-next.ensures) goes.0
 
 pub returns-in_ok-second-in-Onward : goal.returns-in_ok-second-in-Onward
 returns-in_ok-second-in-Onward c = λ state address are later at.
@@ -34,30 +37,31 @@ returns-in_ok-second-in-Onward c = λ state address are later at.
     let there : slice_get rules.pool c.in-Onward.to ≡ Some to =
     stands_at rules.pool to c.in-Onward.to
     (onward_place rules address leg state.list c.in-Onward.to packet ends) in
-    let takes = subst (λ (l : Leg). TracesLeg rules c.in-Onward.to l c.take.new.translators
-    c.take-in-Onward.new.translators c.in_ok-second-in-Onward.second) c.second_leg-next.ensures
+    let takes = subst (λ (l : Leg). TracesLeg rules c.in-Onward.to l c.translate_leg.new.translators
+    c.translate_leg-in-Onward.new.translators c.in_ok-second-in-Onward.second) c.second_leg-next.ensures
     c.in_ok-second-in-Onward.ensures in
     let second = takes (state_after rules address leg state) to first.1 (omega arith) there in
-    steps_twice rules address leg state c.take-in-Onward.new.translators c.in-Onward.to packet c.in_ok-end.field-0
+    steps_twice rules address leg state c.translate_leg-in-Onward.new.translators c.in-Onward.to packet
+    c.in_ok-end.field-0
     first.0 c.in-Onward.is second.1 c.in_ok-second-in-Onward.second second.0 c.outcome_of.result c.outcome_of.ensures
 
 pub returns-in-ToOutside : goal.returns-in-ToOutside
 returns-in-ToOutside c = λ state address are later at.
     let first = c.in_ok-end.ensures state address are later at in
-    steps_once c.args.config.now address c.args.leg state c.take.new.translators c.in_ok-end.field-0
-    (ToOutside c.in-ToOutside.packet) first.0 c.in-ToOutside.is refl first.1 c.stepped.result
-    c.stepped.ensures.outcome c.stepped.ensures.trace
+    steps_once c.args.config.now address c.args.leg state c.translate_leg.new.translators c.in_ok-end.field-0
+    (ToOutside c.in-ToOutside.packet) first.0 c.in-ToOutside.is refl first.1 c.step_result.result
+    c.step_result.ensures.outcome c.step_result.ensures.trace
 
 pub returns-in-ToInside : goal.returns-in-ToInside
 returns-in-ToInside c = λ state address are later at.
     let first = c.in_ok-end.ensures state address are later at in
-    steps_once c.args.config.now address c.args.leg state c.take.new.translators c.in_ok-end.field-0
-    (ToInside c.in-ToInside.packet) first.0 c.in-ToInside.is refl first.1 c.stepped-in-ToInside.result
-    c.stepped-in-ToInside.ensures.outcome c.stepped-in-ToInside.ensures.trace
+    steps_once c.args.config.now address c.args.leg state c.translate_leg.new.translators c.in_ok-end.field-0
+    (ToInside c.in-ToInside.packet) first.0 c.in-ToInside.is refl first.1 c.step_result-in-ToInside.result
+    c.step_result-in-ToInside.ensures.outcome c.step_result-in-ToInside.ensures.trace
 
 pub returns-in-Dropped : goal.returns-in-Dropped
 returns-in-Dropped c = λ state address are later at.
     let first = c.in_ok-end.ensures state address are later at in
-    steps_once c.args.config.now address c.args.leg state c.take.new.translators c.in_ok-end.field-0
-    (Dropped c.in-Dropped.cause) first.0 c.in-Dropped.is refl first.1 c.stepped-in-Dropped.result
-    c.stepped-in-Dropped.ensures.outcome c.stepped-in-Dropped.ensures.trace
+    steps_once c.args.config.now address c.args.leg state c.translate_leg.new.translators c.in_ok-end.field-0
+    (Dropped c.in-Dropped.cause) first.0 c.in-Dropped.is refl first.1 c.step_result-in-Dropped.result
+    c.step_result-in-Dropped.ensures.outcome c.step_result-in-Dropped.ensures.trace

@@ -16,10 +16,11 @@ returns-in-Err c = λ state are later.
     let is : step c.args.config.now c.args.number c.args.now input state.list
     ≡ refused_effect c.in-Err.cause state.list =
     step_unread c.args.config.now c.args.number c.args.now input state.list c.in-Err.cause reads in
-    subst (λ (s : RunEffect). StepTraces c.args.config.now c.args.now s state c.args.translators.now c.stepped.result)
+    subst (λ (s : RunEffect). StepTraces c.args.config.now c.args.now s state c.args.translators.now
+    c.step_result.result)
     (sym is)
-    (steps_none c.args.config.now c.args.now state c.args.translators.now later are c.in-Err.cause c.stepped.result
-    c.stepped.ensures.outcome c.stepped.ensures.trace)
+    (steps_none c.args.config.now c.args.now state c.args.translators.now later are c.in-Err.cause c.step_result.result
+    c.step_result.ensures.outcome c.step_result.ensures.trace)
 
 pub returns-in-Err-route : goal.returns-in-Err-route
 returns-in-Err-route c = λ state are later.
@@ -37,9 +38,10 @@ returns-in-Err-route c = λ state are later.
     step_refused c.args.config.now c.args.number c.args.now input state.list packet reads c.in-Err-route.cause
     against in
     subst (λ (s : RunEffect). StepTraces c.args.config.now c.args.now s state c.args.translators.now
-    c.stepped-in-Err-route.result) (sym is)
+    c.step_result-in-Err-route.result) (sym is)
     (steps_none c.args.config.now c.args.now state c.args.translators.now later are c.in-Err-route.cause
-    c.stepped-in-Err-route.result c.stepped-in-Err-route.ensures.outcome c.stepped-in-Err-route.ensures.trace)
+    c.step_result-in-Err-route.result c.step_result-in-Err-route.ensures.outcome
+    c.step_result-in-Err-route.ensures.trace)
 
 pub follow-requires-clause-within : goal.follow-requires-clause-within
 follow-requires-clause-within c =

@@ -3,7 +3,7 @@ use Rattle.std.proofs.Common.{◌≡◌, ℕ, [], ◌∷◌, ◌++◌, ◌∙◌
 use Rattle.napt_account.specs.declared.account.Account.{Account}
 use Rattle.napt_rules.specs.declared.Row.{Row}
 use Rattle.napt_state.specs.StateText.{StateTextBytes, account_words, row_words, spaced, words_text}
-use Rattle.napt_state.proofs.Written.{words_behind}
+use Rattle.napt_state.proofs.WrittenTexts.{words_behind}
 use Rattle.napt_state.proofs.line.add_accounted.Goals as goal
 
 accounted_text : (old : StateTextBytes) (row : Row) (last : ℕ) (a : Account) →

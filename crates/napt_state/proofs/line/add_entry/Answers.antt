@@ -2,7 +2,7 @@
 use Rattle.std.proofs.Common.{◌≡◌, [], ◌∷◌, ◌++◌, ◌∙◌, codes, decimal, string_bytes, ap, arith}
 use Rattle.napt_account.specs.declared.log.LogEntry.{LogEntry}
 use Rattle.napt_state.specs.StateText.{StateTextBytes, spaced, words_text, row_words, use_words, entry_words}
-use Rattle.napt_state.proofs.Written.{words_behind}
+use Rattle.napt_state.proofs.WrittenTexts.{words_behind}
 use Rattle.napt_state.proofs.line.add_entry.Goals as goal
 
 entry_text : (old : StateTextBytes) (l : LogEntry) →

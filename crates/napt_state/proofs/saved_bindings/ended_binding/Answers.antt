@@ -1,6 +1,6 @@
 -- ended_binding: a binding that ends at a time was last used one timer before it.
 use Rattle.std.proofs.Common.{◌∙◌, sym}
-use Rattle.napt_state.proofs.Standing.{ended_is}
+use Rattle.napt_state.proofs.StandingBindings.{ended_is}
 use Rattle.napt_state.proofs.saved_bindings.ended_binding.Goals as goal
 
 pub returns : goal.returns

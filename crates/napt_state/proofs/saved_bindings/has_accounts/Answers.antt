@@ -10,7 +10,7 @@ use Rattle.napt_state.specs.Saved.{accounted_in, made_so_far}
 use Rattle.napt_state.specs.StateReaders.{state_external_key, state_key_eq}
 use Rattle.napt_state.specs.declared.saved_bindings.SavedBinding.{SavedBinding}
 use Rattle.napt_state.specs.declared.saved_bindings.SavedBinding.TheVariants as bindings
-use Rattle.napt_state.proofs.Accounting.{HasKeys, fits, has_not, keys_more, le_by, late, looked_ended, looked_none, looked_some, misplaced, or_false, or_true, seen, seen_next, seen_same}
+use Rattle.napt_state.proofs.SavedAccounts.{HasKeys, fits, has_not, keys_more, le_by, late, looked_ended, looked_none, looked_some, misplaced, or_false, or_true, seen, seen_next, seen_same}
 use Rattle.napt_state.proofs.saved_bindings.has_accounts.Goals as goal
 use Rattle.napt_state.proofs.saved_bindings.has_accounts.Goals.{then-not-is_within-via-then-not-is_within, then-not-is_within-via-else-not-is_within+then-contains, then-not-is_within-via-else-not-is_within+else-contains+then-contains-2}
 

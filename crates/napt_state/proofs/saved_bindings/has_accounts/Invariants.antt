@@ -2,7 +2,7 @@
 use Rattle.std.proofs.Common.{◌≡◌, ◌≤◌, ◌^◌}
 use Rattle.napt_account.proofs.Accounts.{HasNumbers}
 use Rattle.napt_state.specs.Saved.{made_so_far}
-use Rattle.napt_state.proofs.Accounting.{HasKeys, IsLooked, seen}
+use Rattle.napt_state.proofs.SavedAccounts.{HasKeys, IsLooked, seen}
 use Rattle.napt_state.proofs.saved_bindings.has_accounts.Given as goal
 
 abbrev pub invariant-loop-binding : goal.invariant-loop-binding

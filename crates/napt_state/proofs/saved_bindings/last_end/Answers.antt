@@ -4,7 +4,7 @@ use Rattle.std.proofs.Math.ListN.{drop_of_length-le}
 use Rattle.napt_rules.specs.declared.Flow.{Flow}
 use Rattle.napt_rules.specs.Prelude.{idle}
 use Rattle.napt_binding.specs.Ends.{end_after, last_end}
-use Rattle.napt_state.proofs.Standing.{later_flow}
+use Rattle.napt_state.proofs.StandingBindings.{later_flow}
 use Rattle.napt_state.proofs.saved_bindings.last_end.Goals as goal
 
 pub loop-left-init : goal.loop-left-init

@@ -2,8 +2,8 @@
 use Rattle.std.proofs.Common.{◌≡◌, ◌∙◌, ◌+◌, ℕ, List, [], Option, None, is_some, true, false, drop, length, refl, subst, sym, ap, arith}
 use Rattle.std.proofs.Math.ListN.{drop_of_length-le}
 use Rattle.napt_rules.specs.{Bindings.Binding, Life.hold_ago, declared.Misfit.Misfit}
-use Rattle.napt_state.specs.{EndedMisfits.{misfits_in, ended_misfits, fitting_in, given_up_if, goes_on, one_if}, StateReaders.AreOf}
-use Rattle.napt_state.proofs.{Ended.{back_after, counted, fits_if_away, fits_if_on, fits_if_some, front_after, live, long_after, many_after, none_found, taken_out, value_of, why}, Taken.are_more}
+use Rattle.napt_state.specs.{EndedMisfits.{misfits_in, ended_misfits, fitting_in, ended_long_ago_if, goes_on, one_if}, StateReaders.AreOf}
+use Rattle.napt_state.proofs.{EndedBindings.{back_after, counted, fits_if_away, fits_if_on, fits_if_some, front_after, live, long_after, many_after, none_found, taken_out, value_of, why}, TakenBindings.are_more}
 use Rattle.napt_state.proofs.state_checks.end_misfits_in.Goals as goal
 
 pub loop-left-init : goal.loop-left-init
@@ -55,11 +55,12 @@ loop-left-preserved-then-is_some c =
           (sym is)))
           inv.behind;
       long = long_after rules clock all list left b some inv.within inv.long inv.front inv.back at
-          c.give_up.new.binding;
+          c.end_long_ago.new.binding;
       front = front_after rules clock all list left b some inv.within inv.long inv.front inv.back at
-          c.give_up.new.binding;
-      back = back_after rules clock all list left b some inv.within inv.long inv.front inv.back at c.give_up.new.binding
-          (c.give_up.ensures ∙ taken_out found b out ∙ ap (λ m. given_up_if m b) is);
+          c.end_long_ago.new.binding;
+      back = back_after rules clock all list left b some inv.within inv.long inv.front inv.back at
+          c.end_long_ago.new.binding
+          (c.end_long_ago.ensures ∙ taken_out found b out ∙ ap (λ m. ended_long_ago_if m b) is);
       many = many_after rules clock all list left b some inv.within inv.long inv.front inv.back at c.in-Some.more
           (let one : one_if (why rules clock b (drop left all)) ≡ 1 = ap one_if (sym is) ∙ counted found out in
           omega (arith, more, one, inv.many));
@@ -94,7 +95,7 @@ loop-left-preserved-in_ok-insert c =
       long = long_after rules clock all list left b some inv.within inv.long inv.front inv.back at b;
       front = front_after rules clock all list left b some inv.within inv.long inv.front inv.back at b;
       back = back_after rules clock all list left b some inv.within inv.long inv.front inv.back at b
-          (sym (ap (λ m. given_up_if m b) none));
+          (sym (ap (λ m. ended_long_ago_if m b) none));
       many = many_after rules clock all list left b some inv.within inv.long inv.front inv.back at c.loop-left.many
           (let zero : one_if (why rules clock b (drop left all)) ≡ 0 = ap one_if none in omega (arith, zero, inv.many));
     }
@@ -126,7 +127,7 @@ loop-left-preserved c =
       long = long_after rules clock all list left b some inv.within inv.long inv.front inv.back at b;
       front = front_after rules clock all list left b some inv.within inv.long inv.front inv.back at b;
       back = back_after rules clock all list left b some inv.within inv.long inv.front inv.back at b
-          (sym (ap (λ m. given_up_if m b) none));
+          (sym (ap (λ m. ended_long_ago_if m b) none));
       many = many_after rules clock all list left b some inv.within inv.long inv.front inv.back at c.loop-left.many
           (let zero : one_if (why rules clock b (drop left all)) ≡ 0 = ap one_if none in omega (arith, zero, inv.many));
     }

@@ -4,7 +4,7 @@ use Rattle.std.proofs.Math.ListN.{drop_of_length-le}
 use Rattle.napt_rules.specs.{Bindings.{Binding}, Misfits.{misfit_of, misfit_or, misfit_in}, declared.{Misfit.Misfit}}
 use Rattle.napt_rules.specs.Life.{is_live, with_live_flows, hold_ago}
 use Rattle.napt_state.specs.StateReaders.{AreOf}
-use Rattle.napt_state.proofs.{Taken.are_more, Standing.{going_on, going_before, dynamic_going}}
+use Rattle.napt_state.proofs.{TakenBindings.are_more, StandingBindings.{going_on, going_before, dynamic_going}}
 use Rattle.napt_state.proofs.state_checks.first_misfit_in.Goals as goal
 
 pub loop-left-init : goal.loop-left-init

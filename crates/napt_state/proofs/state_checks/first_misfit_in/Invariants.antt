@@ -2,7 +2,7 @@
 use Rattle.std.proofs.Common.{◌≡◌, ◌≤◌, length, drop}
 use Rattle.napt_rules.specs.{Opening.opening, Misfits.misfit_in, Life.hold_ago}
 use Rattle.napt_state.specs.StateReaders.{AreOf}
-use Rattle.napt_state.proofs.Standing.{going_on}
+use Rattle.napt_state.proofs.StandingBindings.{going_on}
 use Rattle.napt_state.proofs.state_checks.first_misfit_in.Given as goal
 
 abbrev pub invariant-loop-left : goal.invariant-loop-left

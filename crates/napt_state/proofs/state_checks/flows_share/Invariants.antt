@@ -2,7 +2,7 @@
 use Rattle.std.proofs.Common.{◌≡◌, ◌≤◌, false, length, drop}
 use Rattle.napt_rules.specs.Misfits.{flows_share}
 use Rattle.napt_state.specs.StateReaders.{AreRemotes}
-use Rattle.napt_state.proofs.Standing.{standing}
+use Rattle.napt_state.proofs.StandingBindings.{standing}
 use Rattle.napt_state.proofs.state_checks.flows_share.Given as goal
 
 abbrev pub invariant-loop-left : goal.invariant-loop-left

@@ -5,7 +5,7 @@ use Rattle.napt_config.specs.Rules.{AreTimers}
 use Rattle.napt_config.specs.declared.settings.Timers.{Timers}
 use Rattle.napt_rules.specs.declared.Flow.{Flow}
 use Rattle.napt_rules.specs.{Bindings.Binding, Life.{hold_ago, with_live_flows}, Misfits.is_used_after}
-use Rattle.napt_state.proofs.Standing.{used_else}
+use Rattle.napt_state.proofs.StandingBindings.{used_else}
 use Rattle.napt_state.proofs.state_checks.is_used_after.Goals as goal
 
 pub returns-else-clock-binding : goal.returns-else-clock-binding

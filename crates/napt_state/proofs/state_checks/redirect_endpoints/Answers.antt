@@ -3,7 +3,7 @@ use Rattle.std.proofs.Common.{◌-◌, List, get_or, drop, map, subst, sym, ap, 
 use Rattle.napt_config.specs.Rules.{pair_of}
 use Rattle.napt_rules.specs.{Bindings.Binding, Opening.redirect_binding}
 use Rattle.napt_state.specs.StateReaders.{AreOf}
-use Rattle.napt_state.proofs.Taken.{are_more, drop_before}
+use Rattle.napt_state.proofs.TakenBindings.{are_more, drop_before}
 use Rattle.napt_state.proofs.state_checks.redirect_endpoints.Goals as goal
 
 pub loop-left-preserved : goal.loop-left-preserved

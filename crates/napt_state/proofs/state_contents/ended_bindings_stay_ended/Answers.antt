@@ -1,5 +1,5 @@
 -- ended_bindings_stay_ended: the law.
-use Rattle.napt_state.proofs.TakenUp.{stays_ended}
+use Rattle.napt_state.proofs.RestoredBindings.{stays_ended}
 use Rattle.napt_state.proofs.state_contents.ended_bindings_stay_ended.Goals as goal
 
 pub returns : goal.returns

@@ -13,4 +13,4 @@ returns c =
     let all : c.fix_check.result ≡ canon c.args.check (end_words c.args.old) (end_words c.args.new) =
     unfold canon in omega (arith, c.fix_check.ensures, c.fix_address-fixed.ensures) in
     let present : (c.args.check == 0) ≡ false = grind (arith, common_steps, nat_tests) in
-    rw (c.sent.ensures, all, present) refl
+    rw (c.udp_check_as_sent.ensures, all, present) refl

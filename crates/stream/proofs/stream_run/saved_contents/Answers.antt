@@ -8,5 +8,5 @@ returns-clause-left c left order = record {
   ordered = c.in-Some.state;
   order = subst (λ state. IfSome state (IsStateInOrder c.args.config.now left)) c.in-Some.is order;
   log = Some (c.in_ok-saved.saved, c.in-Some-log.end);
-  contents = c.in_ok-of-2.ensures;
+  contents = c.in_ok-from_state-2.ensures;
 }

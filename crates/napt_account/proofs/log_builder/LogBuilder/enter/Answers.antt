@@ -2,9 +2,9 @@
 use Rattle.std.proofs.Common.{◌≡◌, ℕ, ◌+◌, ◌*◌, ◌^◌, ◌<◌, false, List, [], ◌∷◌, ◌++◌, length, drop, filter, Option, Ok, refl, sym, ◌∙◌, ap, subst, arith, append-nil, append_assoc}
 use Rattle.std.specs.Option.{IfSome}
 use Rattle.napt_sequential.specs.declared.passage.{Passage.{Passage, TheVariants.{Nothing, Made, Out, In, Dropped}}, Trace.Trace}
-use Rattle.napt_account.specs.{declared.{legs.Legs.Legs, log.{Shortage.Shortage}}, BindingTallies.use_of, Effects.{IsNext, log_after}, Log.{LogModel, after_input, after_leg, shortages_by, shortages_in}}
+use Rattle.napt_account.specs.{declared.{legs.InputTally.InputTally, log.{Shortage.Shortage}}, BindingTallies.use_of, Effects.{IsNext, log_after}, Log.{LogModel, after_input, after_leg, shortages_by, shortages_in}}
 use Rattle.napt_account.specs.{LogBuilders.{IsBuilt, LogBuilderModel, built, built_from, taken_in}, OpenEntries.OpenEntriesShow, LogParts.{LogDelta, is_after, part_between}}
-use Rattle.napt_account.proofs.{GoingOn.{few_leg, fold_joined}, Lists.map_joined, WholeLogs.drop_joined}
+use Rattle.napt_account.proofs.{ContinuedLogs.{few_leg, fold_joined}, Lists.map_joined, WholeLogs.drop_joined}
 use Rattle.napt_account.proofs.log_builder.LogBuilder.enter.Goals as goal
 
 built_more : (begun : List (ℕ × LogModel)) (past : List (ℕ × Trace)) (n : ℕ) (effects : Trace) →
@@ -71,7 +71,7 @@ invariant_of-self-2 c = λ going.
     let most : ℕ = 2 ^ 61 + 2 * it.taken in
     let shows = c.in_ok-ended.ensures.shows it.clock most log is.entries (omega (arith, late)) in
     let next : OpenEntriesShow effects.now (most + 2) (after_input log effects) c.enter.new.self =
-    subst (λ (o : Option Legs). IfSome o (λ l. OpenEntriesShow effects.now (most + 2) (after_input log effects)
+    subst (λ (o : Option InputTally). IfSome o (λ l. OpenEntriesShow effects.now (most + 2) (after_input log effects)
     c.enter.new.self))
     c.in-Some.is (c.in_ok-legs.ensures.shows most log shows) in
     let twice : most + 2 ≡ 2 ^ 61 + 2 * (it.taken + 1) = omega arith in
@@ -102,11 +102,11 @@ returns-clause-tells c = λ going.
     let shows = c.in_ok-ended.ensures.shows it.clock most log is.entries (omega (arith, late)) in
     let ended = c.in_ok-ended.ensures.ended it.clock most log is.entries in
     let made : c.in-Some.legs.made.items ≡ filter (is_after log.made) (after_input log effects).entries =
-    subst (λ (o : Option Legs). IfSome o (λ l. l.made.items ≡
+    subst (λ (o : Option InputTally). IfSome o (λ l. l.made.items ≡
     filter (is_after log.made) (after_input log effects).entries))
     c.in-Some.is (c.in_ok-legs.ensures.made most log shows) in
     let refused : c.in-Some.legs.refused.items ≡ shortages_in effects =
-    subst (λ (o : Option Legs). IfSome o (λ l. l.refused.items ≡ shortages_in effects)) c.in-Some.is
+    subst (λ (o : Option InputTally). IfSome o (λ l. l.refused.items ≡ shortages_in effects)) c.in-Some.is
     c.in_ok-legs.ensures.refused in
     let lost = refused ∙ refused_is log effects in
     let told : LogDelta = record {
@@ -128,5 +128,5 @@ returns-clause-uses c = λ going.
     let most : ℕ = 2 ^ 61 + 2 * it.taken in
     let shows = c.in_ok-ended.ensures.shows it.clock most log is.entries (omega (arith, late)) in
     subst (λ (v : LogBuilderModel). c.in-Some.legs.used ≡ use_of v.log effects) c.self.view_is
-    (subst (λ (o : Option Legs). IfSome o (λ l. l.used ≡ use_of log effects)) c.in-Some.is
+    (subst (λ (o : Option InputTally). IfSome o (λ l. l.used ≡ use_of log effects)) c.in-Some.is
     (c.in_ok-legs.ensures.uses most log shows))

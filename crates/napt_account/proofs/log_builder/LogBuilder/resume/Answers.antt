@@ -4,7 +4,7 @@ use Rattle.napt_rules.specs.Prelude.{Rules, RulesInvariant, State}
 use Rattle.napt_table.specs.declared.TimedRow.{TimedRow}
 use Rattle.napt_account.specs.declared.log.LogEntry.{LogEntry}
 use Rattle.napt_account.specs.{Log.{LogModel, numbered_from, unused_entry}, LogBuilders.{IsStart}, LogParts.{is_open}, OpenEntries.AreKeyed, LogStarts.{NumbersDiffer, SavedLogStateModel, continued_entries, entry_ended_at, has_entry, in_order_of_number, log_started, new_entries, resumed_entries}}
-use Rattle.napt_account.proofs.{InOrder.differ_filter, Keyed.live_keyed, LogStarts.{entries_numbers, is_start, live, of_differ, to_differ}}
+use Rattle.napt_account.proofs.{EndOrderings.differ_filter, DistinctKeys.live_keyed, LogStarts.{entries_numbers, is_start, live, of_differ, to_differ}}
 use Rattle.napt_account.proofs.log_builder.LogBuilder.resume.Goals as goal
 
 pub by_number-requires : goal.by_number-requires

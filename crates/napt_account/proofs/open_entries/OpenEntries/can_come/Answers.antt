@@ -2,7 +2,7 @@
 use Rattle.std.proofs.Common.{◌≡◌, true, false, not, Option, Some, None, refl, sym, ◌∙◌, ap, subst}
 use Rattle.std.specs.Option.{is_some, option_map}
 use Rattle.napt_sequential.specs.declared.passage.Passage.{TheVariants.Made}
-use Rattle.napt_account.specs.{declared.open_entries.Open.Open, Effects.CanCome}
+use Rattle.napt_account.specs.{declared.open_entries.OpenEntry.OpenEntry, Effects.CanCome}
 use Rattle.napt_account.proofs.OpenEntries.{row_free, row_none}
 use Rattle.napt_account.proofs.open_entries.OpenEntries.can_come.Goals as goal
 
@@ -13,10 +13,10 @@ returns-then-is_before-clause-yes c = λ most log shows passed.
     subst (CanCome c.args.now log) (sym is) (
       sym c.if-is_before.ensures,
       row_none c.args.now most c.args.self.now log shows c.timed-timed.result.row
-          (ap (option_map (λ (o : Open). o.numbered)) (sym c.find.ensures ∙ none)),
+          (ap (option_map (λ (o : OpenEntry). o.numbered)) (sym c.find.ensures ∙ none)),
     )
   where
-    go : (o : Option Open) → is_some o ≡ false → o ≡ None
+    go : (o : Option OpenEntry) → is_some o ≡ false → o ≡ None
     go None e = refl
     go (Some x) e = cc
 

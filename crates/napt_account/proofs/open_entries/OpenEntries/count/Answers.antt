@@ -1,6 +1,6 @@
 -- count: the entry that is found is the open entry of the row; if there is none, nothing changes.
 use Rattle.std.{proofs.Common.{◌+◌, refl, sym, ◌∙◌, ap, subst, arith}, specs.Prelude.IsSome}
-use Rattle.napt_account.specs.{declared.{binding_tally.LogNote.LogNote, open_entries.{Open.Open, OpenEntries.OpenEntries}}, BindingTallies.tally_used, Log.{LogModel, with_use}}
+use Rattle.napt_account.specs.{declared.{binding_tally.LogNote.LogNote, open_entries.{OpenEntry.OpenEntry, OpenEntries.OpenEntries}}, BindingTallies.tally_used, Log.{LogModel, with_use}}
 use Rattle.napt_account.{specs.OpenEntries.{OpenEntriesShow}}
 use Rattle.napt_account.proofs.OpenEntries.{counted_shows, counted_used, open_entry, shows_more, unused_here, unused_same}
 use Rattle.napt_account.proofs.open_entries.OpenEntries.count.Goals as goal
@@ -14,8 +14,8 @@ count-requires c =
 
 pub returns-clause-shows : goal.returns-clause-shows
 returns-clause-shows c = λ most log shows opened.
-    let o : Open = c.in-Some.open.now in
-    let next : Open = record {
+    let o : OpenEntry = c.in-Some.open.now in
+    let next : OpenEntry = record {
       numbered = record { number = o.numbered.number; entry = c.count.new.self };
       due = c.due_by-due.result;
     } in

@@ -1,17 +1,17 @@
 -- enter: both legs are recorded in turn, and the entries that they made are listed after both.
 use Rattle.std.proofs.Common.{◌≡◌, ℕ, ◌+◌, ◌++◌, List, refl, ◌∙◌, ap, subst, arith}
 use Rattle.napt_account.specs.{declared.{binding_tally.BindingTally.BindingTally, log.LogEntry.LogEntry}, BindingTallies.{both_uses, leg_use}, Log.{LogModel, after_input, after_leg}, MadeEntries.made_entry, OpenEntries.OpenEntriesShow}
-use Rattle.napt_account.proofs.{GoingOn.few_leg, MadeEntries.made_is}
+use Rattle.napt_account.proofs.{ContinuedLogs.few_leg, MadeEntries.made_is}
 use Rattle.napt_account.proofs.open_entries.OpenEntries.enter.Goals as goal
 
-pub pass-requires : goal.pass-requires
-pass-requires c =
+pub record_leg-requires : goal.record_leg-requires
+record_leg-requires c =
     let room = c.requires.3 in
     let long = c.requires.4 in
     (c.requires.0, c.requires.1, c.requires.2, omega (arith, room), omega (arith, long))
 
-pub pass-requires-2 : goal.pass-requires-2
-pass-requires-2 c =
+pub record_leg-requires-2 : goal.record_leg-requires-2
+record_leg-requires-2 c =
     let most : ℕ = c.requires.0 in
     let log : LogModel = c.requires.1 in
     let few = few_leg c.args.effects.now c.args.effects.first log in
@@ -30,7 +30,7 @@ returns-clause-shows c = λ most log shows.
     let twice : most + 1 + 1 ≡ most + 2 = omega arith in
     let between = c.in_ok-first.ensures.shows most log shows (c.if-not-can_come.ensures.yes most log shows refl) in
     let mid : LogModel = after_leg now c.args.effects.first log in
-    subst (λ (m : ℕ). OpenEntriesShow now m (after_input log c.args.effects) c.pass-2.new.self) twice
+    subst (λ (m : ℕ). OpenEntriesShow now m (after_input log c.args.effects) c.record_leg-2.new.self) twice
     (c.in_ok-second.ensures.shows (most + 1) mid between
     (c.if-not-can_come-2.ensures.yes (most + 1) mid between refl))
 

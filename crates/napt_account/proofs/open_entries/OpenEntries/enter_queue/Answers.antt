@@ -1,7 +1,7 @@
 -- enter_queue: one more endpoint is due at its time.
 use Rattle.std.proofs.Common.{◌≡◌, true, ℕ, Option, subst}
 use Rattle.napt_binding.specs.Ends.{is_before}
-use Rattle.napt_account.proofs.Queue.{within_insert}
+use Rattle.napt_account.proofs.EndQueue.{within_insert}
 use Rattle.napt_account.proofs.open_entries.OpenEntries.enter_queue.Goals as goal
 
 pub returns-in_ok-insert-clause-within : goal.returns-in_ok-insert-clause-within

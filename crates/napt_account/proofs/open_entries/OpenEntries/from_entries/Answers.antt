@@ -3,7 +3,7 @@ use Rattle.std.proofs.Common.{◌≤◌, ℕ, false, None, List, length, ◌∙�
 use Rattle.napt_wire.specs.declared.Protocol.TheVariants.{Icmp}
 use Rattle.napt_rules.specs.declared.Row.{Row}
 use Rattle.napt_account.specs.{declared.log.LogEntry.LogEntry, Log.{LogModel, unused_entry}}
-use Rattle.napt_account.proofs.Begun.{but, has_all, has_next, has_none}
+use Rattle.napt_account.proofs.SavedEntries.{but, has_all, has_next, has_none}
 use Rattle.napt_account.proofs.open_entries.OpenEntries.from_entries.Goals as goal
 
 abbrev nobodys : Row

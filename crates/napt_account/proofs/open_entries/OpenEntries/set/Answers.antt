@@ -1,6 +1,6 @@
 -- set: the endpoint has the entry, and is queued at its time.
 use Rattle.std.proofs.{Common.{ℕ, cond, Option, Some, refl, sym, ◌∙◌, ap, subst}, lemmas.Option.same_Some}
-use Rattle.napt_account.specs.declared.open_entries.{EntryKey.EntryKey, Open.Open, OpenEntries.OpenEntries}
+use Rattle.napt_account.specs.declared.open_entries.{EntryKey.EntryKey, OpenEntry.OpenEntry, OpenEntries.OpenEntries}
 use Rattle.napt_account.{specs.OpenEntries.{entry_key, external_eq, open_at, is_queued, entry_is_at, IsPlaced}, proofs.OpenEntries.{moved, queued_at}}
 use Rattle.napt_account.proofs.open_entries.OpenEntries.set.Goals as goal
 
@@ -9,7 +9,7 @@ returns-clause-indexed c = λ but.
     let key : EntryKey = entry_key c.args.numbered.entry.binding in
     let same = c.external_key-key.ensures.key in
     let due : Option ℕ = c.due_by-due.result in
-    let next : Open = record { numbered = c.args.numbered; due = due } in
+    let next : OpenEntry = record { numbered = c.args.numbered; due = due } in
     let new : OpenEntries = record {
       by_external = c.insert.new.self;
       queue = c.queue_at.new.self.queue;

@@ -1,6 +1,6 @@
 -- take_due: if nothing is returned, no time in the queue has come.
 use Rattle.std.proofs.{lemmas.{Grind.common_steps, Bool.Decides.nat_tests}, Common.arith}
-use Rattle.napt_account.proofs.{EndOrder.none_due, Queue.{not_empty, first_least}}
+use Rattle.napt_account.proofs.{EndOrder.none_due, EndQueue.{not_empty, first_least}}
 use Rattle.napt_account.proofs.open_entries.OpenEntries.take_due.Goals as goal
 
 pub returns-in_default-clause-none : goal.returns-in_default-clause-none

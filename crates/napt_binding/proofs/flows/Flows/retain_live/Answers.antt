@@ -3,5 +3,5 @@ use Rattle.std.proofs.{lemmas.{Grind.common_steps, Bool.Decides.nat_tests}, Comm
 use Rattle.napt_binding.proofs.DistinctFlows.{distinct_kept}
 use Rattle.napt_binding.proofs.flows.Flows.retain_live.Goals as goal
 
-pub invariant_of-self-in-Few : goal.invariant_of-self-in-Few
-invariant_of-self-in-Few c = grind (arith, common_steps, nat_tests, distinct_kept)
+pub invariant_of-self-in-Listed : goal.invariant_of-self-in-Listed
+invariant_of-self-in-Listed c = grind (arith, common_steps, nat_tests, distinct_kept)

@@ -2,7 +2,7 @@
 use Rattle.std.proofs.{Common.{arith, ◌∙◌, ap}, lemmas.{Grind.common_steps, Bool.Decides.nat_tests}}
 use Rattle.napt_rules.specs.declared.Flow.{Flow}
 use Rattle.napt_binding.proofs.{ListLengths.fits, DistinctFlows.{distinct_set, distinct_pushed, distinct_live}, Lists.any_nowhere}
-use Rattle.napt_binding.proofs.Standing.{flow_set, flow_begun, none_left, live_set}
+use Rattle.napt_binding.proofs.StandingFlows.{flow_set, flow_begun, none_left, live_set}
 use Rattle.napt_binding.proofs.flows.flow_list.use_flow.Goals as goal
 
 pub returns-in-Some-clause-distinct : goal.returns-in-Some-clause-distinct

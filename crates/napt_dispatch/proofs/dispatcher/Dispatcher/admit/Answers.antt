@@ -2,7 +2,7 @@
 use Rattle.std.proofs.{Common.{◌≡◌, Ok, Some, slice_get}, lemmas.Result.IfOk-at_ok}
 use Rattle.napt_config.specs.Rules.{Rules}
 use Rattle.napt_rules.specs.Prelude.{way_from, served_at, Arrival, admission}
-use Rattle.napt_dispatch.proofs.Standing.{admitted_admits, refused_admits}
+use Rattle.napt_dispatch.proofs.InvariantSteps.{admitted_admits, refused_admits}
 use Rattle.napt_dispatch.proofs.dispatcher.Dispatcher.admit.Goals as goal
 
 pub returns-in_ok-hold_first-in-Ok-clause-admits : goal.returns-in_ok-hold_first-in-Ok-clause-admits

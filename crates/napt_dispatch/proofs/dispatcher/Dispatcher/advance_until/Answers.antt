@@ -1,6 +1,6 @@
 -- advance_until: the steps so far and the next one make one step, or end with its fault.
 use Rattle.std.proofs.{Common.[], lemmas.Result.err_from_is_err_and}
-use Rattle.napt_dispatch.proofs.Passing.{goes_none, lets_more, lets_halt, lets_turn, lets_stop}
+use Rattle.napt_dispatch.proofs.RunSteps.{goes_none, lets_more, lets_halt, lets_turn, lets_stop}
 use Rattle.napt_dispatch.proofs.dispatcher.Dispatcher.advance_until.Goals as goal
 
 pub loop-init : goal.loop-init

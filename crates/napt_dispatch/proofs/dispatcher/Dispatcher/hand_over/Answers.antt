@@ -1,6 +1,6 @@
 -- hand_over: the dispatcher continues when outcomes are written, also where the sink fails.
 use Rattle.std.proofs.Common.{refl}
-use Rattle.napt_dispatch.{specs.declared.dispatcher.Dispatcher.Dispatcher, proofs.Passing.goes_over}
+use Rattle.napt_dispatch.{specs.declared.dispatcher.Dispatcher.Dispatcher, proofs.RunSteps.goes_over}
 use Rattle.napt_dispatch.proofs.dispatcher.Dispatcher.hand_over.Goals as goal
 
 pub returns-in-Ok : goal.returns-in-Ok

@@ -19,7 +19,7 @@ pub returns-then-count-eq0-clause-offered : goal.returns-then-count-eq0-clause-o
 returns-then-count-eq0-clause-offered g c =
     none_sent c.args.w c.room-most.result c.args.pool.now c.args.self.now c.ready_all.new.self
     c.in_ok-ready_all.ensures.readies c.room-most.ensures c.in_ok-ready_all.ensures.all
-    (rw c.many_ready.ensures at (sym c.if-count-eq0.true ∙ c.min-count.ensures))
+    (rw c.ready_count.ensures at (sym c.if-count-eq0.true ∙ c.min-count.ensures))
 
 pub returns-in_err-legs-clause-state : goal.returns-in_err-legs-clause-state
 returns-in_err-legs-clause-state g c =
@@ -69,7 +69,7 @@ returns-clause-offered g c =
     record c.ready_all.new.self { vectors = c.take-answers.new.self; queues = c.offer_ready.new.self } in
     let inside : c.args.w < length c.ready_all.new.self.queues =
     rw (c.in_ok-ready_all.ensures.many, c.requires.sized) c.requires.place in
-    let count = rw c.many_ready.ensures at c.min-count.ensures in
+    let count = rw c.ready_count.ensures at c.min-count.ensures in
     let long = sym c.in_ok-legs.legs.ok.0 ∙ c.in_ok-legs.ensures.len in
     sent_all c.args.w c.room-most.result c.args.pool.now c.args.self.now c.ready_all.new.self
     c.in_ok-ready_all.ensures.readies c.room-most.ensures c.in_ok-ready_all.ensures.all c.in_ok-legs.legs.items

@@ -1,6 +1,6 @@
 -- pass_all: every input is read and every outcome written, or there is a fault.
 use Rattle.std.proofs.{Common.inr, lemmas.Result.err_from_is_err_and}
-use Rattle.napt_dispatch.proofs.Passing.{reads_halt, reads_over}
+use Rattle.napt_dispatch.proofs.RunSteps.{reads_halt, reads_over}
 use Rattle.napt_dispatch.proofs.dispatcher.Dispatcher.pass_all.Goals as goal
 
 pub returns-in_err-settle : goal.returns-in_err-settle

@@ -1,7 +1,7 @@
 -- read_all: one more input is read, or the inputs end, or there is a fault.
 use Rattle.std.proofs.{Common.{◌≡◌, ◌∙◌, List, [], ◌∷◌, ◌++◌, inl, refl, sym, ap, subst}, lemmas.Result.err_from_is_err_and}
 use Rattle.napt_rules.specs.Prelude.{Arrival, last_clock}
-use Rattle.napt_dispatch.proofs.Passing.{clock_on, reads_none, reads_on, reads_more, reads_halt, reads_over}
+use Rattle.napt_dispatch.proofs.RunSteps.{clock_on, reads_none, reads_on, reads_more, reads_halt, reads_over}
 use Rattle.napt_dispatch.proofs.dispatcher.Dispatcher.read_all.Goals as goal
 
 pub loop-init : goal.loop-init

@@ -1,6 +1,6 @@
 -- settle: the steps and the flush after them make one step, and there is room once nothing is held or owed.
 use Rattle.std.proofs.{Common.refl, lemmas.Result.err_from_is_err_and}
-use Rattle.napt_dispatch.proofs.{Passing.{room_idle, lets_settle}, Lanes.grows_none}
+use Rattle.napt_dispatch.proofs.{RunSteps.{room_idle, lets_settle}, Lanes.grows_none}
 use Rattle.napt_dispatch.proofs.dispatcher.Dispatcher.settle.Goals as goal
 
 pub returns-in-Ok-clause-state : goal.returns-in-Ok-clause-state

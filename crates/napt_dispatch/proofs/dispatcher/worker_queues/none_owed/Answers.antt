@@ -5,13 +5,13 @@ use Rattle.napt_dispatch.proofs.dispatcher.worker_queues.none_owed.Goals as goal
 
 pub loop-queue-preserved : goal.loop-queue-preserved
 loop-queue-preserved c =
-    let none : length c.queue-item.result.owed ≡ 0 = omega (arith, c.many_owed.ensures, c.if-many_owed-gt0.false) in
+    let none : length c.queue-item.result.owed ≡ 0 = omega (arith, c.owed_count.ensures, c.if-owed_count-gt0.false) in
     below_more _ _ c.loop-queue.invariant
     (ap (λ (q : WorkerQueueModel). q.owed) (queue_is c.args.queues.now c.loop-queue.queue-index c.queue-item.result
     c.queue-item.result c.loop-queue-test.true c.queue-item.is) ∙ nothing c.queue-item.result.owed none)
 
-pub returns-then-many_owed-gt0 : goal.returns-then-many_owed-gt0
-returns-then-many_owed-gt0 c = (
+pub returns-then-owed_count-gt0 : goal.returns-then-owed_count-gt0
+returns-then-owed_count-gt0 c = (
   λ e. absurd (cc (e)),
   λ none.
       let own : queue_of c.args.queues.now c.loop-queue.queue-index ≡ c.queue-item.result =
@@ -19,5 +19,5 @@ returns-then-many_owed-gt0 c = (
       c.loop-queue-test.true c.queue-item.is in
       let here : length c.queue-item.result.owed ≡ 0 =
       ap length (ap (λ (q : WorkerQueueModel). q.owed) (sym own) ∙ none c.loop-queue.queue-index) in
-      absurd (omega (arith, here, c.many_owed.ensures, c.if-many_owed-gt0.true)),
+      absurd (omega (arith, here, c.owed_count.ensures, c.if-owed_count-gt0.true)),
 )

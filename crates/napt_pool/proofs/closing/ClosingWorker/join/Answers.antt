@@ -1,6 +1,6 @@
 -- join: the replies left in the ring are answers that fit the buffer, and `IsEnd` holds.
-use Rattle.napt_pool.proofs.Ending.{begins_replies, known_on_ok, room_on_ok, machine_if_ok, answers_if_ok, gate_if_err, told_end, told_if_end}
-use Rattle.napt_pool.proofs.{HistoryGrowth.{messages_fifo, replies_fifo}, Ends.{has_received_on_ok, has_ended_early_if_err}}
+use Rattle.napt_pool.proofs.EndHistories.{begins_replies, known_on_ok, room_on_ok, machine_if_ok, answers_if_ok, gate_if_err, told_end, told_if_end}
+use Rattle.napt_pool.proofs.{HistoryGrowth.{messages_fifo, replies_fifo}, WorkerEnds.{has_received_on_ok, has_ended_early_if_err}}
 use Rattle.napt_pool.proofs.closing.ClosingWorker.join.Goals as goal
 
 pub settle-requires-clause-answered : goal.settle-requires-clause-answered

@@ -6,10 +6,11 @@ use Rattle.napt_records.proofs.stream_merger.StreamMergerInputSource.next.Goals 
 pub returns : goal.returns
 returns g c =
     Hands-any c.args.self.now
-    c.look.new.self c.pop.new.self c.pop.result c.look.ensures.same c.in_ok-look.ensures.looks c.pop.ensures.takes
+    c.read_ahead.new.self c.pop.new.self c.pop.result c.read_ahead.ensures.same c.in_ok-read_ahead.ensures.looks
+    c.pop.ensures.takes
     c.pop.ensures.inside c.pop.ensures.outside
 
-pub returns-in_err-look : goal.returns-in_err-look
-returns-in_err-look g c =
+pub returns-in_err-read_ahead : goal.returns-in_err-read_ahead
+returns-in_err-read_ahead g c =
     let p = err_from_is_err_and c.from_residual.result c.from_residual.ensures.1 in
-    rw (p.1, p.2) (c.look.ensures.same, c.in_err-look.ensures.looks)
+    rw (p.1, p.2) (c.read_ahead.ensures.same, c.in_err-read_ahead.ensures.looks)

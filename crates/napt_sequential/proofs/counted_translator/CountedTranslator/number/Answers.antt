@@ -14,10 +14,10 @@ returns-clause-value c =
     let now : ℕ = max c.args.now t.table.at in
     least_is (λ n. is_some (by_number t.rules.timers t.table.address (hold_ago t.rules.timers now) c.args.protocol n
     t.table.list))
-    c.spare.result c.spare.ensures.answer
+    c.free_number.result c.free_number.ensures.answer
     ∙ sym (none_by t.rules t.table.address now t.table.list c.args.protocol
     (by_inside t.rules.timers t.table.address now c.args.protocol c.args.inside t.table.list)
     (sym c.in_default.is ∙ c.by_inside.ensures.answer))
 
 pub returns-clause-left : goal.returns-clause-left
-returns-clause-left c = without_ended c.args.now c.args.self.now c.spare.new.self c.spare.ensures.left
+returns-clause-left c = without_ended c.args.now c.args.self.now c.free_number.new.self c.free_number.ensures.left

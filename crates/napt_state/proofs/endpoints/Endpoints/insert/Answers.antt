@@ -1,5 +1,5 @@
 -- insert: a row clashes with the new endpoints if it does with the old ones or with the binding that is added.
-use Rattle.napt_state.proofs.Taken.{clash_more}
+use Rattle.napt_state.proofs.TakenBindings.{clash_more}
 use Rattle.napt_state.proofs.endpoints.Endpoints.insert.Goals as goal
 
 pub returns : goal.returns

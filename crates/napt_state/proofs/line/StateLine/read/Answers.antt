@@ -3,7 +3,7 @@ use Rattle.std.proofs.Common.{◌≡◌, [], ◌∙◌, codes, true, false, ap, 
 use Rattle.napt_state.specs.declared.line.StateLine.{StateLine}
 use Rattle.napt_state.specs.declared.line.StateLine.TheVariants as lines
 use Rattle.napt_state.specs.StateText.{StateTextBytes, split_words, kind_text}
-use Rattle.napt_state.proofs.{Arms.{clock_arm, binding_arm, flow_arm, held_arm, log_arm, entry_arm, end_arm, tag_of}, Lines.words_read}
+use Rattle.napt_state.proofs.{FirstWords.{clock_arm, binding_arm, flow_arm, held_arm, log_arm, entry_arm, end_arm, tag_of}, Lines.words_read}
 use Rattle.napt_state.proofs.line.StateLine.read.Goals as goal
 
 pub returns-in-clock : goal.returns-in-clock

@@ -1,6 +1,6 @@
 -- into_state: the bindings so far and those to come are all, and those so far are taken.
 use Rattle.std.{proofs.Common.{◌≡◌, ◌++◌}, specs.Vec.Iter.into_iter_items}
-use Rattle.napt_state.proofs.TakenUp.{TakesSoFar}
+use Rattle.napt_state.proofs.RestoredBindings.{TakesSoFar}
 use Rattle.napt_state.proofs.state_contents.StateFileContents.into_state.Given as goal
 
 abbrev pub invariant-loop-binding : goal.invariant-loop-binding

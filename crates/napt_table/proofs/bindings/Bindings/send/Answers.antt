@@ -81,8 +81,8 @@ insert_new-requires-clause-absent c =
     c.self-2.view_is c.number_of.ensures) c.in_default-number_of.is in
     absent
 
-pub returns-then-reaches-clause-sends : goal.returns-then-reaches-clause-sends
-returns-then-reaches-clause-sends c list apart is_taken keeps left =
+pub returns-then-is_at_quota-clause-sends : goal.returns-then-is_at_quota-clause-sends
+returns-then-is_at_quota-clause-sends c list apart is_taken keeps left =
     let p = c.args.packet in
     let old = c.args.self.now in
     let mid = c.prepare.new.self in
@@ -102,7 +102,7 @@ returns-then-reaches-clause-sends c list apart is_taken keeps left =
     let over : reaches_quota gone.held.granting.quota (count_all gone.held p.inside.address) ≡ true =
     subst (λ (x : BindingsModel). reaches_quota x.held.granting.quota (count_all x.held p.inside.address)
     ≡ true) c.self-2.view_is
-    (sym c.reaches.ensures ∙ c.if-reaches.true) in
+    (sym c.is_at_quota.ensures ∙ c.if-is_at_quota.true) in
     over_sends old mid gone p same c.purge_at.ensures none.none c.keep_names.ensures c.keep_names-2.ensures t list apart
     is_taken keeps absent over left
 
@@ -127,7 +127,7 @@ returns-clause-sends c list apart is_taken keeps left =
     let under : reaches_quota gone.held.granting.quota (count_all gone.held p.inside.address) ≡ false =
     subst (λ (x : BindingsModel). reaches_quota x.held.granting.quota (count_all x.held p.inside.address)
     ≡ false) c.self-2.view_is
-    (sym c.reaches.ensures ∙ c.if-reaches.false) in
+    (sym c.is_at_quota.ensures ∙ c.if-is_at_quota.false) in
     begun_sends old mid gone p same c.purge_at.ensures none.none c.keep_names.ensures c.keep_names-2.ensures t list
     apart
     is_taken keeps absent under c.insert_new.new.self c.insert_new.result c.insert_new.ensures.begins left

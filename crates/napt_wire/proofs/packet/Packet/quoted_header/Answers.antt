@@ -1,6 +1,6 @@
 -- quoted_header: the quoted datagram has whole headers, at the stored offset and of the stored form.
 use Rattle.std.proofs.Common.{◌≡◌, ℕ, List, ap, ◌∙◌, refl}
-use Rattle.napt_wire.{specs.Prelude.{inner_datagram_start, quoted_of, Quoted}, proofs.{ReadingChecks.passes_of_read, WithInner.{error_of, inner_room, passes_error}}}
+use Rattle.napt_wire.{specs.Prelude.{inner_datagram_start, quoted_of, QuotedHeader}, proofs.{ReadingChecks.passes_of_read, WithInner.{error_of, inner_room, passes_error}}}
 use Rattle.napt_wire.proofs.packet.Packet.quoted_header.Goals as goal
 
 pub returns : goal.returns
@@ -14,6 +14,6 @@ returns c =
     record {
       room = inner_room side (inner_datagram_start bytes) bytes passes.inner_good;
       at_is = rw (c.from.ensures, c.self.invariant.found.start_is) refl;
-      start_is = c.into.ensures ∙ ap (λ (q : Quoted). q.start) quoted;
-      form_is = ap (λ (q : Quoted). q.form) quoted;
+      start_is = c.into.ensures ∙ ap (λ (q : QuotedHeader). q.start) quoted;
+      form_is = ap (λ (q : QuotedHeader). q.form) quoted;
     }

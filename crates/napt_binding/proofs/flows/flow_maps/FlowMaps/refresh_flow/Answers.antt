@@ -2,7 +2,7 @@
 use Rattle.std.proofs.{Common.{arith, sym, refl}, lemmas.{Grind.common_steps, Bool.Decides.nat_tests}}
 use Rattle.napt_rules.specs.Prelude.{Tcp, Incoming}
 use Rattle.napt_rules.specs.FlowUpdates as traffic
-use Rattle.napt_binding.proofs.{Lists.change_nowhere, FlowMapSteps.{one, not_found, place_of_is}, Standing.flow_refreshed}
+use Rattle.napt_binding.proofs.{Lists.change_nowhere, FlowMapSteps.{one, not_found, place_of_is}, StandingFlows.flow_refreshed}
 use Rattle.napt_binding.proofs.flows.flow_maps.FlowMaps.refresh_flow.Goals as goal
 
 pub returns-in_default-clause-flows : goal.returns-in_default-clause-flows

@@ -1,7 +1,7 @@
 -- use_flow: if no flow of the remote stands, a new one can be inserted, and gives the flows after the packet.
 use Rattle.std.{proofs.{Common.{arith, ◌≡◌, ◌∙◌, ap, refl, List, [], ◌∷◌, ◌++◌}, lemmas.{Grind.common_steps, Bool.Decides.nat_tests}}, specs.List.list_any}
 use Rattle.napt_rules.specs.{declared.Flow.Flow, Prelude.{no_marks, is_live_flow, live_flows}}
-use Rattle.napt_binding.{specs.Slots.standing_flows, proofs.{FlowMapSteps.no_place, DistinctFlows.put_next, LastUses.live_flows_used, Standing.{none_left, flow_begun, live_begun}}}
+use Rattle.napt_binding.{specs.Slots.standing_flows, proofs.{FlowMapSteps.no_place, DistinctFlows.put_next, LastUses.live_flows_used, StandingFlows.{none_left, flow_begun, live_begun}}}
 use Rattle.napt_binding.proofs.flows.flow_maps.FlowMaps.use_flow.Goals as goal
 
 pub insert-requires-clause-absent : goal.insert-requires-clause-absent

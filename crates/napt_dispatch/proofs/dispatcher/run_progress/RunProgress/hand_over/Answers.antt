@@ -1,6 +1,6 @@
 -- hand_over: each result that leaves the window is written, or the sink fails with it.
 use Rattle.std.proofs.Common.{ℕ, [], ◌∷◌, ◌++◌, refl}
-use Rattle.napt_dispatch.{specs.declared.outcome_sink.InputResult.InputResult, proofs.Windows.{over_more, leaves_over}}
+use Rattle.napt_dispatch.{specs.declared.outcome_sink.InputResult.InputResult, proofs.KnownInputs.{over_more, leaves_over}}
 use Rattle.napt_dispatch.proofs.dispatcher.run_progress.RunProgress.hand_over.Goals as goal
 
 pub loop-self-preserved : goal.loop-self-preserved
@@ -10,7 +10,7 @@ loop-self-preserved g c =
     let went = c.loop-self.invariant.went in
     record {
       went = went ++ pair ∷ [];
-      handed = rw c.keep_spare.ensures
+      handed = rw c.store_spare.ensures
           (over_more went (pair ∷ []) c.args.self.now c.loop-self.self taken.new.self
           c.loop-self.invariant.handed (leaves_over pair c.loop-self.self taken.new.self taken.ensures));
       took = g.met.D.OutcomeSink.takes_more c.args.departures.now c.loop-self.departures c.write.new.self went

@@ -1,6 +1,6 @@
 -- is_unknown: the answer is that of the open input with this number.
 use Rattle.std.proofs.Common.{sym, ap, ◌∙◌}
-use Rattle.napt_dispatch.{specs.RunProgresses.is_unknown, proofs.Windows.open_get}
+use Rattle.napt_dispatch.{specs.RunProgresses.is_unknown, proofs.KnownInputs.open_get}
 use Rattle.napt_dispatch.proofs.dispatcher.run_progress.RunProgress.is_unknown.Goals as goal
 
 pub returns-in-Some : goal.returns-in-Some

@@ -1,6 +1,6 @@
 -- note_place: the mark of one input is set, and all else stays.
 use Rattle.std.proofs.Common.{true, refl}
-use Rattle.napt_dispatch.proofs.Windows.{open_marked}
+use Rattle.napt_dispatch.proofs.KnownInputs.{open_marked}
 use Rattle.napt_dispatch.proofs.dispatcher.run_progress.RunProgress.note_place.Goals as goal
 
 pub returns-in-Some : goal.returns-in-Some

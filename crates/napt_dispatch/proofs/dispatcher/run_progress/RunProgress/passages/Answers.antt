@@ -1,5 +1,5 @@
 -- passages: the records are those of an open input that awaits such an answer.
-use Rattle.napt_dispatch.proofs.Windows.{open_answers}
+use Rattle.napt_dispatch.proofs.KnownInputs.{open_answers}
 use Rattle.napt_dispatch.proofs.dispatcher.run_progress.RunProgress.passages.Goals as goal
 
 pub returns : goal.returns

@@ -1,6 +1,6 @@
 -- place_of: the input of a number that is not open has left, or was not read.
 use Rattle.std.proofs.Common.{inl, inr, arith}
-use Rattle.napt_dispatch.proofs.Windows.{left_unknown, unread_unknown}
+use Rattle.napt_dispatch.proofs.KnownInputs.{left_unknown, unread_unknown}
 use Rattle.napt_dispatch.proofs.dispatcher.run_progress.RunProgress.place_of.Goals as goal
 
 pub returns-then-number-self : goal.returns-then-number-self

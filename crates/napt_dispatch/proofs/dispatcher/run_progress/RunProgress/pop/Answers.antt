@@ -1,6 +1,6 @@
 -- pop: the result of the first open input is appended to the results that left.
 use Rattle.std.proofs.Common.{◌++◌, [], ◌∷◌, sym, ap, ◌∙◌}
-use Rattle.napt_dispatch.{specs.RunProgresses.RunProgressModel, proofs.Windows.first_leaves}
+use Rattle.napt_dispatch.{specs.RunProgresses.RunProgressModel, proofs.KnownInputs.first_leaves}
 use Rattle.napt_dispatch.proofs.dispatcher.run_progress.RunProgress.pop.Goals as goal
 
 pub returns : goal.returns

@@ -1,6 +1,6 @@
 -- second_leg: the input is open, and its second leg is the one that its last answer asks for.
 use Rattle.std.proofs.Common.{sym, ap, ◌∙◌}
-use Rattle.napt_dispatch.{specs.RunProgresses.is_unknown, proofs.Windows.{open_get, open_second}}
+use Rattle.napt_dispatch.{specs.RunProgresses.is_unknown, proofs.KnownInputs.{open_get, open_second}}
 use Rattle.napt_dispatch.proofs.dispatcher.run_progress.RunProgress.second_leg.Goals as goal
 
 pub second_leg-requires : goal.second_leg-requires

@@ -1,6 +1,6 @@
 -- write: the progress of one open input is set, and all else stays.
 use Rattle.std.proofs.Common.{refl}
-use Rattle.napt_dispatch.proofs.Windows.{open_written, open_unmarked}
+use Rattle.napt_dispatch.proofs.KnownInputs.{open_written, open_unmarked}
 use Rattle.napt_dispatch.proofs.dispatcher.run_progress.RunProgress.write.Goals as goal
 
 pub returns-clause-ok : goal.returns-clause-ok

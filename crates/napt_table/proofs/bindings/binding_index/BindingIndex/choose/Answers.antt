@@ -1,6 +1,6 @@
 -- `choose`: the first candidate that is not in use is the first that no binding has.
 use Rattle.std.proofs.Common.{◌∙◌}
-use Rattle.napt_table.proofs.Ends.{choice_held}
+use Rattle.napt_table.proofs.IndexConsistency.{choice_held}
 use Rattle.napt_table.proofs.bindings.binding_index.BindingIndex.choose.Goals as goal
 
 pub returns : goal.returns

@@ -2,7 +2,7 @@
 use Rattle.std.proofs.{Common.{◌≡◌, Some, sym, ap, ◌∙◌}, lemmas.Map.Made.lookup_key_passes}
 use Rattle.napt_rules.specs.Prelude.{Binding}
 use Rattle.napt_table.specs.{declared.bindings.{keys.ExternalNumberKey.ExternalNumberKey, binding_index.BindingIndex.TheInside.Inside}, HeldModels.IsHeld, Keys.{key_eq, key_of}}
-use Rattle.napt_table.proofs.{Ends.held_in, Keys.key_is}
+use Rattle.napt_table.proofs.{IndexConsistency.held_in, Keys.key_is}
 use Rattle.napt_table.proofs.bindings.binding_index.BindingIndex.find.Goals as goal
 
 -- A stored binding has the protocol and number of its key.

@@ -3,7 +3,7 @@ use Rattle.std.proofs.{Common.{ℕ, ◌≡◌, ◌∙◌, ◌+◌, ◌||◌, ap,
 use Rattle.napt_wire.specs.declared.Protocol.{Protocol}
 use Rattle.napt_table.specs.{declared.bindings.keys.ExternalNumberKey.ExternalNumberKey, NumbersInUse.is_in_use, HeldModels.{holdings_of, number_of_inside}}
 use Rattle.napt_table.specs.{BindingIndexes.{BindingIndexModel, held_binding, HasNoInside}, Keys.{key_eq, key_of, inside_key, inside_eq}}
-use Rattle.napt_table.proofs.{Ends.{held_in, hosts_few, step_held, IsAt}, Keys.{key_itself, other_key}}
+use Rattle.napt_table.proofs.{IndexConsistency.{held_in, hosts_few, step_held, IsAt}, Keys.{key_itself, other_key}}
 use Rattle.napt_table.proofs.bindings.binding_index.BindingIndex.insert.Goals as goal
 
 pub increment-requires-clause-fits : goal.increment-requires-clause-fits

@@ -1,6 +1,6 @@
 -- `new`: an index without bindings satisfies its invariant.
 use Rattle.std.proofs.Common.{◌∙◌}
-use Rattle.napt_table.proofs.Ends.{none_held}
+use Rattle.napt_table.proofs.IndexConsistency.{none_held}
 use Rattle.napt_table.proofs.bindings.binding_index.BindingIndex.new.Goals as goal
 
 pub invariant_of-result : goal.invariant_of-result

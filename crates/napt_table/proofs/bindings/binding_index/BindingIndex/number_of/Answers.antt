@@ -1,6 +1,6 @@
 -- `number_of`: a look-up of an inside endpoint finds the number of its binding.
 use Rattle.std.{proofs.Common.{sym, ap, ◌∙◌, subst}, specs.Map.lookup}
-use Rattle.napt_table.{specs.{declared.bindings.keys.InsideKey.InsideKey, Keys.inside_eq, BindingIndexes.IsNumberOf, HeldModels.holdings_of}, proofs.Ends.number_found}
+use Rattle.napt_table.{specs.{declared.bindings.keys.InsideKey.InsideKey, Keys.inside_eq, BindingIndexes.IsNumberOf, HeldModels.holdings_of}, proofs.IndexConsistency.number_found}
 use Rattle.napt_table.proofs.bindings.binding_index.BindingIndex.number_of.Goals as goal
 
 pub returns-in-Some : goal.returns-in-Some

@@ -3,7 +3,7 @@ use Rattle.std.proofs.{Common.{◌≡◌, Some, None, sym, subst, ap, ◌∙◌}
 use Rattle.napt_rules.specs.Prelude.{Binding, with_live_flows, row}
 use Rattle.napt_binding.specs.Inbounds.{inbound_answer, binding_after_inbound}
 use Rattle.napt_table.specs.{BindingIndexes.AreUsedUpTo, Keys.external_key}
-use Rattle.napt_table.proofs.{Ends.{lent_at, lent_seen, lent_there, held_at_place, one_at_place, left_at_place}, InboundSteps.left_row}
+use Rattle.napt_table.proofs.{IndexConsistency.{lent_at, lent_seen, lent_there, held_at_place, one_at_place, left_at_place}, InboundSteps.left_row}
 use Rattle.napt_table.proofs.bindings.binding_index.BindingIndex.receive.Goals as goal
 
 pub returns-in_default-get_index_mut-clause-found : goal.returns-in_default-get_index_mut-clause-found

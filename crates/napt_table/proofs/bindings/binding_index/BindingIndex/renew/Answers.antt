@@ -1,7 +1,7 @@
 -- `renew`: the binding alone changes, keeps its endpoints, and the invariant is kept.
 use Rattle.std.{proofs.Common.{Some, refl, sym, ◌∙◌, ap}, proofs.lemmas.Option.same_Some}
 use Rattle.napt_rules.specs.Prelude.{Binding}
-use Rattle.napt_table.proofs.Ends.{lent_there, held_at_place, one_at_place, left_at_place}
+use Rattle.napt_table.proofs.IndexConsistency.{lent_there, held_at_place, one_at_place, left_at_place}
 use Rattle.napt_table.proofs.bindings.binding_index.BindingIndex.renew.Goals as goal
 
 pub invariant_of-self-2 : goal.invariant_of-self-2

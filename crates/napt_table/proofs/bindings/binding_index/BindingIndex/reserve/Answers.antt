@@ -1,6 +1,6 @@
 -- `reserve`: no stored binding changes and the invariant is kept, also if memory is refused.
 use Rattle.std.{proofs.Common.{refl, ap}, specs.Map.lookup}
-use Rattle.napt_table.{specs.Keys.{key_eq, inside_key}, proofs.Ends.same_held}
+use Rattle.napt_table.{specs.Keys.{key_eq, inside_key}, proofs.IndexConsistency.same_held}
 use Rattle.napt_table.proofs.bindings.binding_index.BindingIndex.reserve.Goals as goal
 
 pub invariant_of-self : goal.invariant_of-self

@@ -3,7 +3,7 @@ use Rattle.std.{proofs.{Common.{◌≡◌, Some, None, refl, sym, subst, ap, ◌
 use Rattle.napt_rules.specs.Prelude.{Binding, with_live_flows, row}
 use Rattle.napt_table.specs.{declared.bindings.keys.InsideKey.InsideKey, Keys.{external_key, inside_eq}, HeldModels.number_of_inside, HeldLists.seen_binding}
 use Rattle.napt_table.specs.BindingIndexes.{BindingIndexModel, held_at, AreUsedUpTo}
-use Rattle.napt_table.proofs.Ends.{found_there, lent_at, lent_seen, lent_there, held_at_place, one_at_place, same_at_place, left_at_place, none_seen, dead_seen}
+use Rattle.napt_table.proofs.IndexConsistency.{found_there, lent_at, lent_seen, lent_there, held_at_place, one_at_place, same_at_place, left_at_place, none_seen, dead_seen}
 use Rattle.napt_table.proofs.{SeenBindings.{seen_live, seen_dead}, Steps.on_err}
 use Rattle.napt_table.proofs.bindings.binding_index.BindingIndex.send.Goals as goal
 

@@ -1,9 +1,0 @@
--- take_there: the dispatcher continues, and `any` says whether answers were taken so far.
-use Rattle.napt_dispatch.specs.DispatcherInvariants.{DispatcherContinues, HasTaken}
-use Rattle.napt_dispatch.proofs.dispatcher.Dispatcher.take_there.Given as goal
-
-abbrev pub invariant-loop : goal.invariant-loop
-invariant-loop g l = record {
-  state : DispatcherContinues g.P.LegTrace.tells l.initial.pool l.initial.self l.pool l.self;
-  told : HasTaken l.initial.self l.self l.any;
-}

@@ -1,8 +1,0 @@
--- `resumed`: the table of a saved state satisfies the invariant of tables.
-use Rattle.std.proofs.Common.{sym, subst}
-use Rattle.napt_table.{specs.Tables.IsTable, proofs.ResumedTables.resumed_is_table}
-use Rattle.napt_table.proofs.table.Table.resumed.Goals as goal
-
-pub from_builder-requires : goal.from_builder-requires
-from_builder-requires c = subst IsTable (sym c.in_ok-resumed.ensures.shown)
-    (resumed_is_table c.args.config.now c.args.address c.args.state.now c.in_ok-resumed.ensures.rules c.requires)
