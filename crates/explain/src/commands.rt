@@ -143,7 +143,8 @@ impl CommandTexts {
     }
 }
 
-/// Whether the first word of a call names a command, or requests the help of all commands or the version.
+/// Returns whether the first word of a call names a command, or requests the help of all commands
+/// or the version.
 fn is_name(word: &str) -> bool {
     !word.starts_with('-') || matches!(word, "-h" | "--help" | "-V" | "--version")
 }
@@ -226,7 +227,7 @@ fn follow<'a>(alloc: Global) -> Result<Command<'a>, AllocError> {
         .arg(word(alloc, "file", "FILE", WRITTEN))
 }
 
-/// A command over captures under a configuration.
+/// Returns a command over captures under a configuration.
 fn configured<'a>(alloc: Global, name: &'a str, about: &'a str) -> Result<Command<'a>, AllocError> {
     let command = Command::new(alloc, name).about(about).arg(config(alloc))?;
     let command = command.arg(resume(alloc))?;
@@ -263,7 +264,7 @@ fn config<'a>(alloc: Global) -> Arg<'a> {
     value(alloc, "config", "FILE", CONFIG)
 }
 
-/// The option of a state, which is hidden in commands that refuse it.
+/// Returns the option of a state, which is hidden in commands that refuse it.
 fn resume<'a>(alloc: Global) -> Arg<'a> {
     value(alloc, "resume", "FILE", RESUMED)
 }
@@ -277,7 +278,7 @@ fn inside<'a>(alloc: Global) -> Arg<'a> {
     )
 }
 
-/// An option without a value.
+/// Returns an option without a value.
 fn flag<'a>(alloc: Global, name: &'a str, meaning: &'a str) -> Arg<'a> {
     Arg::new(alloc, name)
         .long(name)
@@ -285,12 +286,12 @@ fn flag<'a>(alloc: Global, name: &'a str, meaning: &'a str) -> Arg<'a> {
         .help(meaning)
 }
 
-/// An option with a value.
+/// Returns an option with a value.
 fn value<'a>(alloc: Global, name: &'a str, value: &'a str, meaning: &'a str) -> Arg<'a> {
     word(alloc, name, value, meaning).long(name).required(false)
 }
 
-/// A required word without an option.
+/// Returns a required word without an option.
 fn word<'a>(alloc: Global, name: &'a str, value: &'a str, meaning: &'a str) -> Arg<'a> {
     Arg::new(alloc, name)
         .action(ArgAction::Set)

@@ -85,8 +85,8 @@ fn explained<R: Env + Files + Input + Print + Eprint + AllocGlobal>(
     }
 }
 
-/// The command line's arguments, without the `--verbose` of `napt`: the reason is printed in any case. One that is not
-/// UTF-8 is a usage error.
+/// Returns the command line's arguments, without the `--verbose` of `napt`: the reason is printed
+/// in any case. One that is not UTF-8 is a usage error.
 fn arguments<R: Env + AllocGlobal>(rt: &R) -> Result<Vec<String>, Exit> {
     match env::args(rt) {
         Ok(args) => {

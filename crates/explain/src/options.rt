@@ -58,7 +58,7 @@ impl<'m> ExplainOptions<'m> {
         }
     }
 
-    /// Whether the log of `stream` would be standard output.
+    /// Returns whether the log of `stream` would be standard output.
     fn is_log_stream(&self) -> bool {
         match self.log {
             Some(path) => path == "-",
@@ -66,7 +66,7 @@ impl<'m> ExplainOptions<'m> {
         }
     }
 
-    /// Whether standard input is the configuration or one of the captures.
+    /// Returns whether standard input is the configuration or one of the captures.
     pub fn takes_input(&self) -> bool {
         let files = &self.files;
         files.is_stream(FileRole::Config)
@@ -74,12 +74,12 @@ impl<'m> ExplainOptions<'m> {
             || files.is_stream(FileRole::Outside)
     }
 
-    /// Whether there are packets from outside as the gateway received them.
+    /// Returns whether there are packets from outside as the gateway received them.
     pub fn shows_outside(&self) -> bool {
         self.outside == OutsideCapture::Packets && self.files.outside.is_some()
     }
 
-    /// Whether neither a capture nor a state is named.
+    /// Returns whether neither a capture nor a state is named.
     pub fn is_without_captures(&self) -> bool {
         let files = &self.files;
         files.inside.is_none() && files.outside.is_none() && files.resume.is_none()
@@ -95,7 +95,7 @@ impl<'m> ExplainOptions<'m> {
         }
     }
 
-    /// Whether the output is about the captured gateway: who had which numbers.
+    /// Returns whether the output is about the captured gateway: who had which numbers.
     pub fn is_of_gateway(&self) -> bool {
         let is_asked = matches!(
             self.form,
@@ -139,7 +139,7 @@ pub enum OutputForm<'m> {
 }
 
 impl<'m> OutputForm<'m> {
-    /// The name in messages of other files that are read.
+    /// Returns the name in messages of other files that are read.
     pub fn name_of_read(self) -> &'static str {
         match self {
             OutputForm::Requests(_) => "--requests",
@@ -148,7 +148,8 @@ impl<'m> OutputForm<'m> {
         }
     }
 
-    /// The name in messages of each file that `explain` alone writes, and its path, if there is one.
+    /// Returns the name in messages of each file that `explain` alone writes, and its path, if
+    /// there is one.
     pub fn written(self) -> [(&'static str, Option<&'m str>); 2] {
         match self {
             OutputForm::Log(paths) => [("--to", paths.log), ("--packets", paths.packets)],
@@ -157,7 +158,7 @@ impl<'m> OutputForm<'m> {
         }
     }
 
-    /// Whether the output contains times of packets.
+    /// Returns whether the output contains times of packets.
     pub fn has_times(self) -> bool {
         let is_shown = matches!(
             self,
@@ -166,7 +167,7 @@ impl<'m> OutputForm<'m> {
         is_shown || matches!(self, OutputForm::Holders(_) | OutputForm::Requests(_))
     }
 
-    /// Whether the output is about times that were asked for.
+    /// Returns whether the output is about times that were asked for.
     pub fn asks_times(self) -> bool {
         match self {
             OutputForm::Holders(request) => request.at.is_some(),
@@ -175,7 +176,7 @@ impl<'m> OutputForm<'m> {
         }
     }
 
-    /// Whether the output is for people. Output for programs contains nothing else.
+    /// Returns whether the output is for people. Output for programs contains nothing else.
     pub fn is_for_people(self) -> bool {
         matches!(self, OutputForm::Lines | OutputForm::Differences)
     }

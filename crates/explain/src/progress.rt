@@ -36,7 +36,7 @@ impl ExplainProgress {
     }
 }
 
-/// Whether a stream of this process is a terminal, by the name of its file in Linux.
+/// Returns whether a stream of this process is a terminal, by the name of its file in Linux.
 fn is_terminal<R: Files + AllocGlobal>(rt: &R, stream: &str) -> bool {
     let Ok(path) = fs::read_link(rt, stream) else {
         return false;

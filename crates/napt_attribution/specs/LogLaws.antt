@@ -6,7 +6,7 @@ use Rattle.napt_account.specs.{declared.log.{Entry.Entry, LogEntry.LogEntry}, Lo
 use Rattle.napt_log_text.specs.{LogReaders.log_events, Logs.log_anew, Requests.holders, declared.event.LogEvent.LogEvent}
 use Rattle.napt_attribution.specs.{SavedLogs.{asked_entries, bare_entry, entries_in}, declared.requests.HolderRequest.HolderRequest}
 
--- The events of the log of a new run, to its end.
+-- Returns the events of the log of a new run, to its end.
 abbrev pub whole_events : Rules → List Arrival → List LogEvent
 whole_events rules inputs = log_events rules (initial_state rules) (log_anew rules) false inputs
 
@@ -16,7 +16,7 @@ RowsTellTheLog = (rules : Rules) → RulesInvariant rules → (inputs : List Arr
     entries_in (whole_events rules inputs)
     ≡ map (λ listed. bare_entry listed.entry.end listed) (log_of rules inputs).entries
 
--- An entry without its counts and last uses.
+-- Returns an entry without its counts and last uses.
 abbrev pub without_counts : Entry → Entry
 without_counts entry = unused_entry entry.binding entry.made entry.end
 

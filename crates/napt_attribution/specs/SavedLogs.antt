@@ -5,7 +5,7 @@ use Rattle.napt_account.specs.{declared.log.{Entry.Entry, LogEntry.LogEntry}, Lo
 use Rattle.napt_log_text.specs.declared.event.LogEvent.{LogEvent, TheVariants.{Made, Ended, Living, Refused}}
 use Rattle.napt_attribution.specs.{RequestParties.{Wants, is_asked_about}, declared.{requests.HolderRequest.HolderRequest, kept_entries.KeptEntries.KeptEntries, saved_rows.SavedRows.SavedRows}}
 
--- The entries of the bindings that rows make, in their order.
+-- Returns the entries of the bindings that rows make, in their order.
 abbrev pub made_in : List LogEvent → List LogEntry
 made_in [] = []
 made_in (Made listed ∷ events) = listed ∷ made_in events
@@ -14,18 +14,18 @@ made_in (_ ∷ events) = made_in events
 abbrev pub end_told : LogEntry → ℕ → Option ℕ → Option ℕ
 end_told listed number later = cond (listed.number == number) (option_or listed.entry.end later) later
 
--- The first end that a row tells of a number, if one does.
+-- Returns the first end that a row records for a number, if there is one.
 abbrev pub row_end_among : List LogEvent → ℕ → Option ℕ
 row_end_among [] number = None
 row_end_among (Ended listed ∷ events) number = end_told listed number (row_end_among events number)
 row_end_among (Living listed ∷ events) number = end_told listed number (row_end_among events number)
 row_end_among (_ ∷ events) number = row_end_among events number
 
--- An entry without its counts, and with this end.
+-- Returns an entry without its counts, and with this end.
 abbrev pub bare_entry : Option ℕ → LogEntry → LogEntry
 bare_entry end listed = record listed { entry = unused_entry listed.entry.binding listed.entry.made end }
 
--- The entries that rows tell.
+-- Returns the entries that rows record.
 abbrev pub entries_in : List LogEvent → List LogEntry
 entries_in events = map (λ listed. bare_entry (row_end_among events listed.number) listed) (made_in events)
 
@@ -36,7 +36,7 @@ asked_entries asked entries =
 
 -- WHAT IS KEPT of the entries while rows are read
 
--- The entry of a number.
+-- Returns the entry of a number.
 abbrev pub entry_of : List LogEntry → ℕ → Option Entry
 entry_of [] number = None
 entry_of (listed ∷ more) number = cond (listed.number == number) (Some listed.entry) (entry_of more number)

@@ -53,7 +53,7 @@ impl KeptEntries {
         self.unended.get(&number)
     }
 
-    /// The entries without an end, by their numbers.
+    /// Returns the entries without an end, by their numbers.
     pub fn unended(&self) -> &BTreeMap<u64, Entry> {
         &self.unended
     }

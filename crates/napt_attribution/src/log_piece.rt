@@ -159,7 +159,7 @@ impl LogPiece<'_> {
         Ok(true)
     }
 
-    /// Whether a binding other than a redirect is outside its host's block in the configuration.
+    /// Returns whether a binding that is not a redirect is outside its host's configured block.
     fn is_elsewhere(self, binding: &Row) -> bool {
         let Endpoint { address, number } = binding.external;
         let config = self

@@ -89,7 +89,7 @@ fn add_redirects(
     Ok(has_one)
 }
 
-/// Whether a request names the external endpoint of a redirect.
+/// Returns whether a request names the external endpoint of a redirect.
 fn is_asked(request: &Request, config: &Config, redirect: &Redirect) -> bool {
     let party = request.party;
     config.pair(redirect.address) == party.address

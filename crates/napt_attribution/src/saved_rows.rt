@@ -152,7 +152,8 @@ impl SavedRows {
         Ok(())
     }
 
-    /// Whether the binding of a row has an entry without an end that was made at the time of the row.
+    /// Returns whether the binding of a row has an entry without an end that was made at the time
+    /// of the row.
     fn is_open_since(&self, row: &LogRow, binding: Row) -> bool {
         match self.open_entry(row.number, binding) {
             Some((_, made)) => row.time == LogField::Number(u128::from(made)),
@@ -208,7 +209,8 @@ impl SavedRows {
         Ok(())
     }
 
-    /// The number of a binding's entry and the time when it was made, if a row above made it and none ended it.
+    /// Returns the number of a binding's entry and the time when it was made, if a row above made
+    /// it and none ended it.
     fn open_entry(&self, number: LogField, binding: Row) -> Option<(u64, u64)>
         ensures { (asked : List Asked) (entries : List Listed) (listed : Listed) →
             logs.KeepsAll asked self.now entries → number ≡ LogField.Number listed.number →
@@ -230,7 +232,8 @@ impl SavedRows {
     }
 }
 
-/// Whether it is the natEvent of a packet that got no binding (RFC 8158): ports exhausted, or quota exceeded.
+/// Returns whether a number is the natEvent of a packet that got no binding (RFC 8158): ports
+/// exhausted, or quota exceeded.
 fn is_refusal(event: u128) -> bool
     ensures { result ≡ true → 12 ≤ event }
 {
@@ -249,7 +252,7 @@ fn binding_of(row: &LogRow) -> Result<Row, RowFault>
     }
 }
 
-/// The entry of a binding that was made at a time, without an end and counts.
+/// Returns the entry of a binding that was made at a time, without an end and counts.
 fn unused_entry(binding: Row, made: u64) -> Entry
     ensures { result ≡ logs.unused binding made }
 {
@@ -264,7 +267,7 @@ fn unused_entry(binding: Row, made: u64) -> Entry
     }
 }
 
-/// The protocol and the external endpoint of a binding.
+/// Returns the protocol and the external endpoint of a binding.
 fn end_of(binding: &Row) -> ExternalEnd {
     let Endpoint { address, number } = binding.external;
     (binding.protocol, address, number)

@@ -31,7 +31,7 @@ pub enum BadTime {
 }
 
 impl BadTime {
-    /// The message, if `wanted` was expected.
+    /// Returns the message, if `wanted` was expected.
     pub fn words(self, wanted: &'static str) -> &'static str {
         match self {
             BadTime::Unread => wanted,

@@ -29,7 +29,7 @@ impl WantedEndpoints {
         Ok(WantedEndpoints { parties })
     }
 
-    /// Whether a request asks about an external endpoint.
+    /// Returns whether a request asks about an external endpoint.
     pub fn has(&self, external: Endpoint) -> bool
         ensures { result ≡ is_wanted self.now external }
     {

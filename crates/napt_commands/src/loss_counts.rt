@@ -72,19 +72,19 @@ impl LossCounts {
         }
     }
 
-    /// The number of packets that found no binding or were not for the gateway.
+    /// Returns the number of packets that found no binding or were not for the gateway.
     pub fn unmet(&self) -> u64
         ensures { result ≡ min (self.now.no_binding + self.now.not_ours) (2 ^ 64 - 1) }
     {
         self.no_binding.saturating_add(self.not_ours)
     }
 
-    /// Whether more than a fifth, and more than one, found no binding or were not for the gateway.
+    /// Returns whether more than a fifth, and more than one, count as [`unmet`](Self::unmet).
     pub fn exceeds_fifth_unmet(&self) -> bool {
         self.unmet() > self.all / 5 && self.unmet() > 1
     }
 
-    /// Whether more than a fifth, and more than one, found no binding.
+    /// Returns whether more than a fifth, and more than one, found no binding.
     pub fn exceeds_fifth_unbound(&self) -> bool
         ensures { (result ≡ true)
             ↔ ((self.now.all / 5 < self.now.no_binding) × (1 < self.now.no_binding)) }
@@ -92,12 +92,13 @@ impl LossCounts {
         self.no_binding > self.all / 5 && self.no_binding > 1
     }
 
-    /// Whether no packet from inside comes from an inside address, and more than half of those from outside do.
+    /// Returns whether no packet from inside comes from an inside address, and more than half of
+    /// those from outside do.
     pub fn are_swapped(&self) -> bool {
         self.inside > 0 && self.from_hosts == 0 && self.from_inside > self.all / 2
     }
 
-    /// Whether more than half were not for the gateway.
+    /// Returns whether more than half were not for the gateway.
     pub fn exceeds_half_not_ours(&self) -> bool
         ensures { (result ≡ true) ↔ (self.now.all / 2 < self.now.not_ours) }
     {

@@ -14,7 +14,7 @@ pub enum OutsideCapture {
 }
 
 impl OutsideCapture {
-    /// The name of the capture's option, without its dashes.
+    /// Returns the name of the capture's option, without its dashes.
     pub fn name(self) -> &'static str {
         match self {
             OutsideCapture::Packets => "outside",
@@ -22,7 +22,7 @@ impl OutsideCapture {
         }
     }
 
-    /// The option of the capture.
+    /// Returns the option of the capture.
     pub fn option(self) -> &'static str {
         match self {
             OutsideCapture::Packets => "--outside",
@@ -30,7 +30,7 @@ impl OutsideCapture {
         }
     }
 
-    /// Whether the packets of the capture follow the run.
+    /// Returns whether the packets of the capture follow the run.
     pub fn follows(self) -> bool {
         self == OutsideCapture::Replies
     }

@@ -38,7 +38,7 @@ impl SortedEntries {
     }
 }
 
-/// The key by which endpoints are sorted.
+/// Returns the key by which endpoints are sorted.
 fn place_of(endpoint: Endpoint) -> (u32, u16) {
     (endpoint.address, endpoint.number)
 }

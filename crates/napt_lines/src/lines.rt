@@ -50,7 +50,7 @@ impl<'a> PacketLine<'a> {
         }
     }
 
-    /// Whether the packet is selected.
+    /// Returns whether the packet is selected.
     pub fn is_chosen(self, alloc: Global, choice: PacketSelection) -> Result<bool, AllocError> {
         let is_dropped = matches!(self.outcome(), Outcome::Dropped(_));
         match choice.host {
@@ -60,7 +60,8 @@ impl<'a> PacketLine<'a> {
         }
     }
 
-    /// Whether the packet arrives or leaves with this host or endpoint, or was sent to it as a reply.
+    /// Returns whether the packet arrives or leaves with this host or endpoint, or was sent to it
+    /// as a reply.
     pub fn has_host(self, alloc: Global, host: Party) -> Result<bool, AllocError> {
         let input = self.passing.input;
         Ok(
@@ -130,7 +131,7 @@ pub fn side_column(side: Side) -> &'static str {
     }
 }
 
-/// Whether a packet leaves with this host or endpoint.
+/// Returns whether a packet leaves with this host or endpoint.
 pub fn leaves_with(outcome: &Outcome, host: Party) -> bool {
     match outcome {
         Outcome::ToOutside(packet) | Outcome::ToInside(packet) => is_end_of(host, packet),
@@ -138,7 +139,7 @@ pub fn leaves_with(outcome: &Outcome, host: Party) -> bool {
     }
 }
 
-/// Whether a binding has the selected host or endpoint, if one is selected.
+/// Returns whether a binding has the selected host or endpoint, if one is selected.
 pub fn has_party(row: &Row, host: Option<Party>) -> bool {
     host.is_none_or(|host| host.has(row.inside) || host.has(row.external))
 }

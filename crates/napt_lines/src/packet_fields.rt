@@ -61,7 +61,8 @@ fn add_ends(
     add_endpoint(text, destination)
 }
 
-/// Whether an echo message is a reply, by its ICMP type (RFC 792), the first byte after the IP header.
+/// Returns whether an echo message is a reply, by its ICMP type (RFC 792), the first byte after the
+/// IP header.
 fn is_reply(bytes: &[u8]) -> bool {
     match bytes.first() {
         Some(first) => bytes.get((*first & 15) as usize * 4) == Some(&0),
@@ -122,8 +123,8 @@ fn add_unread(text: &mut String, bytes: &[u8]) -> Result<(), AllocError> {
     text.push_str(" bytes")
 }
 
-/// Whether bytes without an Ethernet header are ARP for IPv4 over Ethernet (RFC 826): hardware type 1, protocol type
-/// 0x0800, and address lengths 6 and 4.
+/// Returns whether bytes without an Ethernet header are ARP for IPv4 over Ethernet (RFC 826):
+/// hardware type 1, protocol type 0x0800, and address lengths 6 and 4.
 fn is_arp(bytes: &[u8]) -> bool {
     bytes.starts_with(&[0, 1, 8, 0, 6, 4])
 }
@@ -133,8 +134,8 @@ fn version(bytes: &[u8]) -> u8 {
     bytes.first().map_or(0, |byte| *byte >> 4)
 }
 
-/// Whether a host or endpoint is one of a packet. An ICMP error also has those of the packet that it quotes, and the
-/// identifier of a query belongs to both ends.
+/// Returns whether a host or endpoint is one of a packet. An ICMP error also has those of the
+/// packet that it quotes, and the identifier of a query belongs to both ends.
 pub fn is_end_of(party: Party, packet: &Packet) -> bool {
     let (source, destination) = (packet.source(), packet.destination());
     match packet.kind() {
@@ -153,13 +154,13 @@ pub fn is_end_of(party: Party, packet: &Packet) -> bool {
     }
 }
 
-/// Whether the party is the whole host with this address.
+/// Returns whether the party is the whole host with this address.
 fn is_host(party: Party, address: u32) -> bool {
     party.number.is_none() && party.address == address
 }
 
-/// Whether a host or endpoint is one of the packet that arrived with these bytes. Bytes that are not a packet have only
-/// addresses.
+/// Returns whether a host or endpoint is one of the packet that arrived with these bytes. Bytes
+/// that are not a packet have only addresses.
 pub fn is_end_of_arrival(
     party: Party,
     alloc: Global,
@@ -175,7 +176,7 @@ pub fn is_end_of_arrival(
     }
 }
 
-/// Whether an address is a source or destination of a datagram.
+/// Returns whether an address is a source or destination of a datagram.
 fn has_address(bytes: &[u8], address: u32) -> bool {
     source_of(bytes) == Some(address) || destination_of(bytes) == Some(address)
 }

@@ -16,7 +16,7 @@ pub struct PacketSelection {
 }
 
 impl PacketSelection {
-    /// Whether a packet with this number meets the conditions other than that on its hosts.
+    /// Returns whether a packet with this number meets the conditions other than that on its hosts.
     pub fn takes(self, number: u64, is_dropped: bool) -> bool
         ensures { (result ≡ true) ↔ (((self.only ≡ None) ⊎ (self.only ≡ Some number))
             × ((self.dropped ≡ false) ⊎ (is_dropped ≡ true))) }

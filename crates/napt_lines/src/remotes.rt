@@ -62,15 +62,15 @@ impl Remotes {
         }
     }
 
-    /// Whether at least half of the packets from outside that found no binding, or were not for the gateway, are
-    /// answers.
+    /// Returns whether at least half of the packets from outside that found no binding, or were not
+    /// for the gateway, are answers.
     pub fn are_answers(&self, losses: &LossCounts) -> bool {
         let others = losses.unmet().saturating_sub(self.unmet_answers);
         self.unmet_answers > 0 && self.unmet_answers >= others
     }
 
-    /// Whether more than one in a thousand answers, and more than one, go astray: the captured gateway had other
-    /// numbers.
+    /// Returns whether more than one in a thousand answers, and more than one, go astray, since the
+    /// captured gateway had other numbers.
     pub fn are_astray(&self) -> bool {
         self.astray > 1 && self.astray > self.answers / 1_000
     }
@@ -207,7 +207,7 @@ impl Remotes {
         }
     }
 
-    /// Whether a packet of the binding with a number went to a remote, or this is not known.
+    /// Returns whether a packet of the binding with a number went to a remote, or may have.
     fn has_sent(&self, number: Option<u64>, remote: Remote) -> bool {
         match number.and_then(|number| self.of_bindings.get(&number)) {
             Some(remotes) => remotes.len() >= MOST || remotes.contains(&remote),

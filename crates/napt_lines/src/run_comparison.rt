@@ -142,7 +142,7 @@ fn print_drops<R: Print>(
 }
 
 impl<'a> Pair<'a> {
-    /// Whether both outcomes are the same, byte for byte.
+    /// Returns whether both outcomes are the same, byte for byte.
     fn ends_alike(self) -> bool {
         match (self.first, self.second) {
             (Outcome::Dropped(one), Outcome::Dropped(other)) => one == other,
@@ -175,7 +175,7 @@ impl<'a> Pair<'a> {
         is_end_of_arrival(host, alloc, input.side, &input.bytes)
     }
 
-    /// Whether either configuration drops the packet.
+    /// Returns whether either configuration drops the packet.
     fn is_dropped(self) -> bool {
         matches!(self.first, Outcome::Dropped(_)) || matches!(self.second, Outcome::Dropped(_))
     }

@@ -41,7 +41,7 @@ impl<'a> PacketLines<'a> {
         }
     }
 
-    /// Whether the end of a binding is selected.
+    /// Returns whether the end of a binding is selected.
     fn has_chosen(&self, entry: &Entry) -> bool {
         !self.choice.dropped && has_party(&entry.binding, self.choice.host)
     }

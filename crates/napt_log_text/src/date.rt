@@ -27,7 +27,8 @@ impl Date {
         Date::after(year, days - days_before(year))
     }
 
-    /// Returns the day that is this number of days after January 1st of a year: few, since it goes from month to month.
+    /// Returns the day that is this number of days after January 1st of a year. It goes month by
+    /// month.
     fn after(year: u32, days: u32) -> Date
         requires { (year < 10000) × (days < 7000) }
         ensures { (begin : ℕ) → calendar.date_on begin ≡ calendar.first_of_month year 1 →
@@ -62,7 +63,7 @@ impl Date {
     }
 }
 
-/// Whether a year has a leap day.
+/// Returns whether a year has a leap day.
 fn is_leap(year: u32) -> bool
     ensures { result ≡ calendar.is_leap year }
 {

@@ -22,7 +22,7 @@ pub struct JsonObject<'a> {
     /// The packet as it arrived, or bytes that are not a packet.
     pub input: &'a Input,
     pub outcome: &'a Outcome,
-    /// What the packet did to the first binding that it used.
+    /// The effect of the packet on the first binding that it used.
     pub note: LogNote,
 }
 
@@ -124,7 +124,7 @@ fn side_text(side: Side) -> &'static str
     }
 }
 
-/// Returns what a packet that left did to the first binding that it used.
+/// Returns the effect of a packet that left on the first binding that it used.
 #[tactic(auto, unfolding(crate::specs::Objects::quoted))]
 fn binding(outcome: &Outcome, note: LogNote) -> &'static str
     ensures { result.now ≡ objects.binding_text outcome.now note }
@@ -194,7 +194,7 @@ fn add_packet(packet: &Packet, text: &mut String) -> Result<(), AllocError>
     Ok(())
 }
 
-/// Appends the member with what an ICMP error is about, with a comma before it.
+/// Appends the member with the subject of an ICMP error, with a comma before it.
 fn add_about(kind: Kind, text: &mut String) -> Result<(), AllocError>
     ensures { OnOk result (string_bytes text.new ≡ string_bytes text.old
         ++ (codes ",\"about\":" ++ objects.about_text kind)) }
@@ -324,8 +324,8 @@ fn kind_text(packet: &Packet) -> &'static str
     }
 }
 
-/// Returns the type of an ICMP message: the first byte after the IP header (RFC 792), whose length is in units of four
-/// bytes (RFC 791, section 3.1).
+/// Returns the type of an ICMP message: the first byte after the IP header (RFC 792), whose length
+/// is in units of four bytes (RFC 791, section 3.1).
 fn icmp_type(bytes: &[u8]) -> u8
     ensures { result ≡ byte_at (transport_start 0 bytes.now) bytes.now }
 {

@@ -28,12 +28,13 @@ pub enum LogField {
 pub struct LogRow {
     /// The time, in ns.
     pub time: LogField,
-    /// natEvent (RFC 8158): 8, a binding was made; 9, one ended; 12 and 13, a packet got none; empty, a binding is live
-    /// at the end of the log, and ends at the time of the row if no packet comes.
+    /// natEvent (RFC 8158): 8, a binding was made; 9, one ended; 12 and 13, a packet got none;
+    /// empty, a binding is live at the end of the log, and ends at the row's time if no packet
+    /// comes.
     pub event: LogField,
     /// The number of the protocol (IANA).
     pub protocol: LogField,
-    /// `None` also if the row has only an address.
+    /// The inside endpoint, or `None` if the row has no number for it.
     pub inside: Option<Endpoint>,
     pub external: Option<Endpoint>,
     /// The number of the binding, from 1.
@@ -43,7 +44,8 @@ pub struct LogRow {
 }
 
 impl LogRow {
-    /// Reads a row without the line feed at its end. Returns `None` if it does not have the number of fields of a row.
+    /// Reads a row without the line feed at its end. Returns `None` if the number of fields is
+    /// wrong.
     pub fn read(row: &str) -> Option<LogRow>
         ensures { (rules : Rules) (event : Told) → saved.IsEvent event →
             rows.csv_row rules event ≡ row.now ++ codes "\n" →
@@ -57,7 +59,8 @@ impl LogRow {
         }
     }
 
-    /// Returns the values of the fields in the order of [`header`](crate::header), up to the redirect, and the fields after it.
+    /// Returns the values of the fields up to the redirect, in the order of
+    /// [`header`](crate::header), and the text of the fields after it.
     fn from_fields(row: &str) -> (LogRow, &str)
         ensures binding { (time event : Option ℕ) (listed : Logged) →
             saved.IsTimeField time → saved.IsTimeField event → saved.IsEntryField listed →

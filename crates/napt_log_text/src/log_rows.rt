@@ -47,8 +47,9 @@ pub fn add_part(config: &Config, part: &InputPart, text: &mut String) -> Result<
     add_refused(config, &part.refused, text)
 }
 
-/// Whether a log in pieces of `each` seconds begins a new piece with an input: from `last` to `now`, in ns, the clock
-/// passes a multiple of them. A log in one piece begins none, nor does the first input of a run, which has no `last`.
+/// Returns whether a log in pieces of `each` seconds begins a new piece with an input: from `last`
+/// to `now`, in ns, the clock passes a multiple of them. A log in one piece begins none, nor does
+/// the first input of a run, which has no `last`.
 #[inline(always)]
 pub fn begins_piece(each: Option<NonZeroU32>, last: Option<u64>, now: u64) -> bool
     ensures { result ≡ logs.begins_piece (option_map non_zero_u32_get each) last now }
@@ -71,14 +72,15 @@ pub fn add_living(config: &Config, living: &[LogEntry], text: &mut String) -> Re
     Ok(())
 }
 
-/// The log of a longer run begins with that of a shorter one, so no row ever has to be changed.
+/// Proves that the log of a longer run begins with that of a shorter one, so that no row changes.
 pub fn log_grows()
     ensures { logs.LogGrows }
 {}
 
-/// The log of a run without its rows of live bindings, followed by the log of the run that goes on from there, is the
-/// log of the run over all inputs. The same holds if the state was saved and taken up. From where a piece begins, the
-/// log is that of the run that goes on there with a new log.
+/// Proves that the log of a run without its rows of live bindings, followed by the log of the run
+/// that continues from there, is the log of the run over all inputs, also if the state was saved
+/// and taken up. From the beginning of a piece, the log is that of a run that continues with a new
+/// log.
 pub fn logs_join()
     ensures join { logs.LogsJoin }
     ensures saved { logs.SavedLogsJoin }
@@ -87,7 +89,7 @@ pub fn logs_join()
     logs_go_on();
 }
 
-/// The rows that follow from the effects of a run's inputs are those of its log.
+/// Proves that the rows that follow from the effects of a run's inputs are those of its log.
 pub fn effects_have_the_rows()
     ensures { logs.EffectsHaveTheRows }
 {

@@ -6,27 +6,27 @@ use napt_account::{Entry, Party};
 use napt_wire::Protocol;
 use std::alloc::{AllocError, Global};
 
-/// A span of time in ns since 1970-01-01 UTC: from its first moment until the first one after it.
+/// A span of time in ns since 1970-01-01 UTC. It contains `first`, and ends before `until`.
 #[derive(Clone, Copy, Debug, PartialEq, Eq)]
 pub struct TimeSpan {
     pub first: u128,
     pub until: u128,
 }
 
-/// Who had an external endpoint, or any endpoint of an external address?
+/// Asks who had an external endpoint, or any endpoint of an external address.
 #[derive(Clone, Copy)]
 pub struct Request {
-    /// Any protocol if absent.
+    /// The protocol, or any protocol if absent.
     pub protocol: Option<Protocol>,
     pub party: Party,
-    /// At some moment of this span, or at any time if absent.
+    /// The span of time at some moment of which the endpoint was in use, or any time if absent.
     pub at: Option<TimeSpan>,
 }
 
-/// The entries of those who had the endpoint last before the span of a request, and first after it.
+/// The entries of the last holder of an endpoint before a span, and of the first holder after it.
 #[derive(Clone, Copy)]
 pub struct NearestEntries {
-    /// The entry that ended last; of several that ended then, the one that was made last.
+    /// The entry that ended last, or the one that was made last if several ended at the same time.
     pub before: Option<Entry>,
     /// The entry that was made first.
     pub after: Option<Entry>,
@@ -55,14 +55,14 @@ impl Request {
         }
     }
 
-    /// Whether the binding of an entry had the endpoint at some time.
+    /// Returns whether the binding of an entry had the endpoint at some time.
     fn is_for(&self, entry: &Entry) -> bool
         ensures { result ≡ requests.is_asked self.now entry.now }
     {
         is_of(self.protocol, entry.binding.protocol) && self.party.has(entry.binding.external)
     }
 
-    /// Whether the binding had the endpoint at some moment of the span.
+    /// Returns whether the binding had the endpoint at some moment of the span.
     fn is_answered_by(&self, entry: &Entry) -> bool
         ensures { result ≡ requests.is_holder self.now entry.now }
     {
@@ -73,7 +73,7 @@ impl Request {
             }
     }
 
-    /// Whether the binding had the endpoint and was made after the span.
+    /// Returns whether the binding had the endpoint and was made after the span.
     fn is_before(&self, entry: &Entry) -> bool
         ensures { result ≡ requests.is_next self.now entry.now }
     {
@@ -84,7 +84,7 @@ impl Request {
             }
     }
 
-    /// Whether the binding had the endpoint and had ended before the span.
+    /// Returns whether the binding had the endpoint and had ended before the span.
     fn is_behind(&self, entry: &Entry) -> bool
         ensures { result ≡ requests.is_past self.now entry.now }
     {
@@ -95,7 +95,7 @@ impl Request {
             }
     }
 
-    /// Returns the entry that ended last of those that had the endpoint and had ended before the span.
+    /// Returns the entry that ended last among the holders that had ended before the span.
     fn last_before(&self, entries: &[Entry]) -> Option<Entry>
         ensures { result ≡ requests.last_before self.now entries.now }
     {
@@ -104,7 +104,7 @@ impl Request {
             .fold(None, |last, entry| self.last_so_far(last, entry))
     }
 
-    /// Returns the same up to an entry.
+    /// Returns the last holder before the span among the entries up to this one.
     fn last_so_far(&self, last: Option<Entry>, entry: &Entry) -> Option<Entry>
         ensures { result ≡ requests.last_so_far self.now last entry.now }
     {
@@ -117,7 +117,7 @@ impl Request {
 }
 
 impl TimeSpan {
-    /// Whether the binding of an entry has a moment in common with the span.
+    /// Returns whether the binding of an entry has a moment in common with the span.
     fn meets(self, entry: &Entry) -> bool
         ensures { result ≡ requests.has_moment_of self entry.now }
     {
@@ -129,7 +129,7 @@ impl TimeSpan {
     }
 }
 
-/// Whether a protocol is the requested one, if one is requested.
+/// Returns whether a protocol is the requested one, if one is requested.
 fn is_of(wanted: Option<Protocol>, protocol: Protocol) -> bool
     ensures { result ≡ requests.holder_is_of wanted protocol }
 {
@@ -152,7 +152,7 @@ fn later(found: Option<Entry>, entry: &Entry) -> Entry
     }
 }
 
-/// Whether the first of two ends is the later one.
+/// Returns whether the first of two ends is the later one.
 fn is_later(one: Option<u128>, other: Option<u128>) -> bool
     ensures { result ≡ requests.is_later one other }
 {

@@ -25,8 +25,8 @@ abbrev pub IsOfLog : CommandLineFiles → Fault → Type 0
 IsOfLog named (Write Log fault) = is_some named.log ≡ true
 IsOfLog named other = Unit {0}
 
--- The stop after a fault of a run over these files. The device in place of an outside capture that is not named has no
--- fault of its own, so memory was refused.
+-- Returns the stop after a fault of a run over these files. The device in place of an outside capture that is not named
+-- has no fault of its own, so memory was refused.
 abbrev pub stop_after : CommandLineFiles → Fault → Stop
 stop_after named (Capture Outside fault) = if is_some named.outside then stop.Run (Capture Outside fault) else MEMORY
 stop_after named fault = stop.Run fault

@@ -27,6 +27,6 @@ IsOfKind kind (New folder name) = ⊥
 IsOfKind kind (Words words) = Unit {0}
 IsOfKind kind Aside = ¬ IsFile kind
 
--- The folder of a path, "." if the path is only a name.
+-- Returns the folder of a path, "." if the path is only a name.
 abbrev pub folder_of : List ℕ → Option (List ℕ)
 folder_of path = option_map (λ folder. if length folder == 0 then codes "." else folder) (path_parent path)

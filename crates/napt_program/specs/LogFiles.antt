@@ -14,7 +14,7 @@ is_line_feed byte = byte == 10
 abbrev pub is_torn : List ℕ → Bool
 is_torn end = nat_lt (length end) MOST_TORN && not (list_any is_line_feed end)
 
--- The bytes after the last line feed.
+-- Returns the bytes after the last line feed.
 abbrev pub last_row : List ℕ → List ℕ
 last_row text = unwrap_or (last_or None (slice_split is_line_feed text)) text
 
@@ -41,7 +41,7 @@ refusal_at told text =
     else (if not (is_last_row told.row (take before text)) then Some (refusal.Another told.length)
     else (if is_torn (drop before text) then None else Some (refusal.Longer told.length)))
 
--- The name of the piece with a number: the path of the log, a dot and the number.
+-- Returns the name of the piece with a number: the path of the log, a dot and the number.
 abbrev pub piece_name : List ℕ → ℕ → List ℕ
 piece_name log number = log ++ (codes "." ++ decimal number)
 
@@ -49,7 +49,7 @@ piece_name log number = log ++ (codes "." ++ decimal number)
 abbrev pub IsOfNoPiece : List ℕ → List ℕ → Type 0
 IsOfNoPiece log name = (number : ℕ) → 0 < number → number < 2 ^ 64 → name ≢ piece_name log number
 
--- The number of the piece that is being written.
+-- Returns the number of the piece that is being written.
 abbrev pub piece_of : {R F A : Type 0} → LogPieces R F A → ℕ
 piece_of pieces = pieces.number
 

@@ -57,7 +57,7 @@ texts_by origin (Ok captures) =
 abbrev pub texts_from : OriginModel → List ℕ → List ℕ → Result RunTexts Fault
 texts_from origin inside outside = texts_by origin (read_both inside outside)
 
--- The texts of a run from the opening list of a configuration.
+-- Returns the texts of a run from the opening list of a configuration.
 abbrev pub texts : Rules → List ℕ → List ℕ → Result RunTexts Fault
 texts rules inside outside = texts_from (initial_origin rules) inside outside
 
@@ -148,7 +148,7 @@ Explains inside outside (Run fault) = IsReadable inside × IsReadable outside
 Explains inside outside (Write Log fault) = ⊥
 Explains inside outside (Write which fault) = IsReadable inside × IsReadable outside
 
--- The number of failed reads of a side's capture, and of failed writes of an output.
+-- Returns the number of failed reads of a side's capture, and of failed writes of an output.
 abbrev pub failed_readings : {T : Type 0} → Side → Result T Fault → ℕ
 failed_readings side (Ok done) = 0
 failed_readings sides.Inside (Err (Capture sides.Inside fault)) = let answer : Result CaptureModel CaptureFault =
@@ -184,7 +184,7 @@ pub record AreOutputs (origin : OriginModel) (captures : CaptureFiles) (outputs 
   pub report : string_bytes outputs.report ≡ (texts_made origin captures).report
   pub leaves : GivesState origin (arrivals_of captures) outputs.passed
 
--- The output that goes to a side.
+-- Returns the output that goes to a side.
 abbrev pub output_to : Side → Which
 output_to sides.Inside = Inside
 output_to sides.Outside = Outside

@@ -12,7 +12,7 @@ unless_bad side (Err fault) inputs = at_fault side fault
 abbrev pub unless_refused : Side → List ℕ → MergedInputs → MergedInputs
 unless_refused side bytes inputs = unless_bad side (format_in (take 24 bytes)) inputs
 
--- The inputs of two files: both headers are read first, that of the inside capture before the other.
+-- Returns the inputs of two files: both headers are read first, that of the inside capture before the other.
 abbrev pub files_until : List ℕ → List ℕ → MergedInputs
 files_until inside outside =
     unless_refused Inside inside (unless_refused Outside outside

@@ -15,7 +15,7 @@ pub record AreCutInto (whole first rest : CaptureFiles) : Type 0 where
   pub inputs : arrivals_of whole ≡ arrivals_of first
       ++ inputs_from_clock (last_clock 0 (arrivals_of first)) (arrivals_of rest)
 
--- The records of a capture, as they are written.
+-- Returns the records of a capture, as they are written.
 abbrev pub records_in : List ℕ → List ℕ
 records_in bytes = drop (length file_header) bytes
 

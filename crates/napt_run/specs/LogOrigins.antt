@@ -11,7 +11,7 @@ pub record LogTexts : Type 0 where
   pub so_far : List Arrival → TimeText
   pub whole : List Arrival → TimeText
 
--- The texts of a run from the state before any input.
+-- Returns the texts of a run from the state before any input.
 abbrev pub texts_anew : Rules → LogTexts
 texts_anew rules = record {
   so_far = log_so_far rules (initial_state rules) (log_anew rules) None;
@@ -31,7 +31,7 @@ abbrev pub log_origin : Start → LogStart → LogOrigin
 log_origin start log_start =
     origin_saved start.config.now start.state.now log_start.saved.now log_start.is_new
 
--- The texts of a log from there.
+-- Returns the texts of a log that begins at a start.
 abbrev pub texts_from : Start → LogStart → LogTexts
 texts_from start log_start =
     let origin : OriginModel = origin_of start in
@@ -86,7 +86,7 @@ unfoldable pub text_so_far : LoggedOrigin → List Arrival → TimeText
 text_so_far from inputs =
     from.opening ++ rows_from from.origin.rules from.origin.state from.each from.log inputs
 
--- The rows of the live bindings, unless another run goes on.
+-- Returns the rows of the live bindings, unless another run continues the log.
 unfoldable pub ending : LoggedOrigin → List Arrival → TimeText
 ending from inputs = if from.goes_on then []
     else living_rows from.origin.rules

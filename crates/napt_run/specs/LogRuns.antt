@@ -17,7 +17,7 @@ Legs P = ℕ × P × P
 abbrev pub traces_by : OriginModel → List Arrival → List Trace
 traces_by origin inputs = traces_of origin.rules origin.state inputs
 
--- The traces of the legs of these inputs in a run.
+-- Returns the traces of the legs of these inputs in a run.
 abbrev pub legs_told : {P : Type 0} → (Passage → P) → OriginModel → List Arrival → List (Legs P)
 legs_told tells origin inputs =
     map (λ trace. (trace.now, tells trace.first, tells trace.second)) (traces_by origin inputs)

@@ -6,11 +6,11 @@ use Rattle.napt_run.specs.{OutputSinks.{IsOfOutput, SinkFails, IsSettled, SinkTa
 use Rattle.napt_records.specs.declared.Fault.{Fault}
 use Rattle.napt_run.specs.declared.logged_output_sinks.LeavingWithLog.{LeavingWithLog}
 
--- The outcomes of what left, with the arrival times of their inputs.
+-- Returns the outcomes of results that left, with the arrival times of their inputs.
 abbrev pub outcomes_in : {P : Type 0} → List (ℕ × InputResult P) → List TimedOutcome
 outcomes_in all = map (λ left. (left.0, left.1.outcome)) all
 
--- The traces of the legs of what left.
+-- Returns the traces of the legs of results that left.
 abbrev pub legs_in : {P : Type 0} → List (ℕ × InputResult P) → List (Legs P)
 legs_in all = map (λ left. (left.1.now, left.1.first, left.1.second)) all
 

@@ -9,7 +9,7 @@ pub record OriginModel : Type 0 where
   pub rules : Rules
   pub state : State
 
--- A configuration before any input.
+-- Returns the origin of a run of a configuration before any input.
 abbrev pub initial_origin : Rules → OriginModel
 initial_origin rules = record { rules = rules; state = initial_state rules }
 

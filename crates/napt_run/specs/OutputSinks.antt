@@ -12,7 +12,7 @@ use Rattle.napt_run.specs.{Outputs.{OutputGrows, Breaks}, declared.output_sinks.
 abbrev pub TimedOutcome : Type 0
 TimedOutcome = ℕ × Outcome
 
--- The text of the records that go to a side.
+-- Returns the text of the records that go to a side.
 abbrev pub records_text : Side → List TimedOutcome → List ℕ
 records_text side all = flat_map record_text (filter_map (λ timed. record_at timed.0 (packet_to side timed.1)) all)
 
@@ -69,7 +69,7 @@ IsOfOutput (Write Outside fault) = ⊤
 IsOfOutput (Write Inside fault) = ⊤
 IsOfOutput other = ⊥
 
--- The result of a call of an output, with the name of the output.
+-- Returns the result of a call of an output, with the name of the output.
 abbrev pub named : Which → Result (Unit {0}) WriteFault → Result (Unit {0}) Fault
 named which (Ok done) = Ok done
 named which (Err fault) = Err (Write which fault)

@@ -13,13 +13,13 @@ use Rattle.napt_run.specs.Streams.{IsStreamFaultOf, IsOfRun, IsSettledBy, captur
 
 -- THE TEXT OF AN OUTPUT
 
--- The text of a capture. It has no part that is written only at the end of a run, as the log has.
+-- Returns the text of a capture. It has no part that is written only at the end of a run, as the log has.
 abbrev pub capture_to : Which → OriginModel → LogTexts
 capture_to which origin =
     record { so_far = capture_text origin (side_of which); whole = capture_text origin (side_of which) }
 
--- Whether the part that is written at the end may have begun: not if a capture, another output, the gate or a worker
--- failed, or there were too many inputs.
+-- Returns whether the part that is written at the end may have begun: not if a capture, another output, the gate or a
+-- worker failed, or there were too many inputs.
 abbrev pub may_have_ended : Result (Unit {0}) Fault → Bool
 may_have_ended (Ok done) = true
 may_have_ended (Err (Write Report fault)) = true

@@ -20,7 +20,7 @@ pub record AreLaws (origin : OriginModel) (log : LogModel) : Type 0 where
       log_after log (traces_by origin inputs) ≡ log_on origin.rules origin.state log inputs
   pub come : EffectsComeFrom origin.rules origin.state log
 
--- The time of the last of these traces, or the given time if there are none.
+-- Returns the time of the last of these traces, or the given time if there are none.
 abbrev pub last_trace_time : ℕ → List Trace → ℕ
 last_trace_time now [] = now
 last_trace_time now (trace ∷ traces) = last_trace_time trace.now traces
@@ -34,11 +34,11 @@ last_time last (trace ∷ traces) = last_time (Some trace.now) traces
 abbrev pub FailsMore : Bool → ℕ → ℕ → Type 0
 FailsMore is_broken old new = (new ≡ old) ⊎ ((is_broken ≡ false) × (new ≡ old + 1))
 
--- The traces of inputs, from the passages of their legs.
+-- Returns the traces of inputs, from the passages of their legs.
 abbrev pub running_log_traces : List (Legs Passage) → List Trace
 running_log_traces all = map (λ legs. record { now = legs.0; first = legs.1; second = legs.2 }) all
 
--- The log after these traces, and the rows of the traces that come then.
+-- Returns the log after these traces, and the rows of the traces after them.
 abbrev pub known_logs : LoggedOrigin → List Trace → LogBuilderModel
 known_logs from traces = record {
   rules = from.origin.rules;
@@ -52,7 +52,7 @@ abbrev pub rows_in : LoggedOrigin → List Trace → List Trace → TimeText
 rows_in from before traces = rows_by from.origin.rules from.each (last_time None before)
     (last_trace_time from.origin.state.clock before) (log_after from.log before) traces
 
--- The rows of the live bindings at the end, and what is kept then.
+-- Returns the rows of the live bindings at the end, or no text if another run continues.
 abbrev pub ending_with : LoggedOrigin → List Trace → TimeText
 ending_with from traces = if from.goes_on then []
     else living_rows from.origin.rules
@@ -61,12 +61,12 @@ ending_with from traces = if from.goes_on then []
 abbrev pub left_with : LoggedOrigin → List Trace → LogModel
 left_with from traces = kept_at (last_trace_time from.origin.state.clock traces) (log_after from.log traces)
 
--- The beginning of a piece, if one begins with an input after these.
+-- Returns the beginning of a piece, if one begins with an input after these traces.
 abbrev pub opening_before : LoggedOrigin → List Trace → ℕ → TimeText
 opening_before from before now =
     piece_opening from.origin.rules from.each (last_time None before) now (left_with from before)
 
--- The rows of an input after these.
+-- Returns the rows of an input after these traces.
 abbrev pub input_rows : LoggedOrigin → List Trace → Trace → TimeText
 input_rows from before trace =
     let log : LogModel = log_after from.log before in

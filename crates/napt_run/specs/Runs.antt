@@ -11,11 +11,11 @@ use Rattle.napt_rules.specs.Prelude.{Arrival}
 abbrev pub IfHeld : Option (List ℕ) → Option (List ℕ) → (MergedInputs → Type 0) → Type 0
 IfHeld inside outside Holds = IfKnown inside outside (λ bytes others. Holds (files_until bytes others))
 
--- The outcomes of these inputs, with their times.
+-- Returns the outcomes of these inputs, with their times.
 abbrev pub run_left_of : OriginModel → List Arrival → List TimedOutcome
 run_left_of origin inputs = timed_results inputs (ran_by origin inputs).outcomes
 
--- The text of the records that go to a side, after a text that is already there.
+-- Returns the text of the records that go to a side, after a text that is already there.
 abbrev pub text_after : List ℕ → OriginModel → Side → List Arrival → List ℕ
 text_after front origin side inputs = front ++ records_text side (run_left_of origin inputs)
 

@@ -17,7 +17,7 @@ use Rattle.napt_sequential.specs.declared.fault.RunFault.TheVariants as faults
 
 -- WHAT IS WRITTEN
 
--- The text of a capture that a run over these inputs writes.
+-- Returns the text of a capture that a run over these inputs writes.
 abbrev pub capture_text : OriginModel → Side → List Arrival → List ℕ
 capture_text origin side inputs = text (records_to side inputs (ran_by origin inputs).outcomes)
 
@@ -80,7 +80,7 @@ IsSettledBy (Err (Capture side fault)) = Unit {0}
 IsSettledBy (Err (Write Report fault)) = Unit {0}
 IsSettledBy other = ⊥
 
--- A result without its value.
+-- Returns a result without its value.
 abbrev pub stream_ended : {T : Type 0} → Result T Fault → Result (Unit {0}) Fault
 stream_ended (Ok given) = Ok tt
 stream_ended (Err fault) = Err fault

@@ -171,7 +171,7 @@ impl<'a, 'b, L: Sink> LogWriter<'a, 'b, L> {
     }
 }
 
-/// Whether the log has no row with an input.
+/// Returns whether the log has no row with an input.
 #[inline(always)]
 fn is_quiet(part: &InputPart) -> bool
     ensures { result ≡ true → part_in part.now ≡ record { ended = []; made = []; refused = [] } }

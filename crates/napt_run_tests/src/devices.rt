@@ -24,7 +24,7 @@ fn slow(moved: u16, trouble: InjectedFault) -> FaultPlan {
 /// The result of a run, and the lengths of its texts: to the outside, to the inside, and of the report.
 type DeviceRunEnd = (Result<(), Fault>, [u16; 3]);
 
-/// The end of a run that fails before it writes anything.
+/// Returns the end of a run that fails before it writes anything.
 fn silent(fault: Fault) -> DeviceRunEnd {
     (Err(fault), [0; 3])
 }

@@ -76,7 +76,7 @@ impl Hold {
         is_soon(&self.first, turn);
     }
 
-    /// Whether worker 2 has begun its first leg, if worker 0 asks for its own.
+    /// Returns whether worker 2 has begun its first leg, if worker 0 asks for its own.
     fn is_after_third(&self, worker: u32, turn: u64) -> bool {
         if worker == 2 && turn == 0 {
             self.first.store(1, Ordering::SeqCst);

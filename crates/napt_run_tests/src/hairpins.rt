@@ -21,12 +21,12 @@ const QUERY: PacketEnds = (Side::Inside, CLIENT, RESOLVER);
 
 const SECOND_QUERY: PacketEnds = (Side::Inside, SECOND_CLIENT, RESOLVER);
 
-/// A packet from 10.0.0.3:7000.
+/// Returns a packet from 10.0.0.3:7000.
 fn served() -> PacketEnds {
     (Side::Inside, host(3, 7000), RESOLVER)
 }
 
-/// A hairpin to port 7000 of the address 203.0.113.0 + `many`.
+/// Returns a hairpin to port 7000 of the address 203.0.113.0 + `many`.
 fn hairpin(many: u16) -> PacketEnds {
     (Side::Inside, CLIENT, external(many, 7000))
 }

@@ -38,7 +38,7 @@ fn binding(alloc: Global, host: u8, number: u16, last: u64) -> StateBinding {
     }
 }
 
-/// A binding of 10.0.0.2:5000, last used 20 us after the start, and the redirect.
+/// Returns a binding of 10.0.0.2:5000, last used 20 us after the start, and the redirect.
 fn state(alloc: Global) -> Result<State, AllocError> {
     Ok(State {
         clock: 30_000,

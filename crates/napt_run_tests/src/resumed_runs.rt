@@ -78,7 +78,8 @@ pub(crate) fn nothing(alloc: Global) -> State
     }
 }
 
-/// Whether the second text, without its header of 24 bytes, continues the first, as the whole text does.
+/// Returns whether the second text, without its header of 24 bytes, continues the first, as the
+/// whole text does.
 fn goes_on(first: &[u8], second: &[u8], whole: &[u8]) -> bool {
     let (Some(rest), Some(header)) = (whole.strip_prefix(first), first.get(..24)) else {
         return false;

@@ -75,7 +75,7 @@ struct Part {
     saved: SavedLogState,
 }
 
-/// A new log of what was saved, in one piece, with which another run goes on.
+/// Returns a new log of the saved accounts, in one piece, which another run continues.
 fn new_log(saved: &SavedLogState) -> LogStart<'_>
     ensures { result.saved ≡ saved.entry }
 {

@@ -19,9 +19,10 @@ pub const SIXTEEN_ADDRESSES: &str =
 
 const MILLISECOND: u64 = 1_000_000;
 
-/// A thousand UDP packets without payload, all from inside, one in each millisecond from 0 on. They come from the hosts
-/// 10.0.0.2 to 10.0.0.7 in turn and the ports 6000 to 6003 in turn. Every fifth goes to the same port of 203.0.113.1,
-/// 203.0.113.2 and 203.0.113.3 in turn, the others to `RESOLVER`. Under `THREE_ADDRESSES` no packet is dropped.
+/// Returns a thousand UDP packets without payload, all from inside, one in each millisecond from 0
+/// on. They come from the hosts 10.0.0.2 to 10.0.0.7 in turn and the ports 6000 to 6003 in turn.
+/// Every fifth goes to the same port of 203.0.113.1, 203.0.113.2 and 203.0.113.3 in turn, the
+/// others to `RESOLVER`. Under `THREE_ADDRESSES` no packet is dropped.
 pub fn thousand_inputs(alloc: Global) -> Result<Vec<Input>, AllocError> {
     let mut inputs = Vec::new(alloc);
     for k in 0..1000u16 {

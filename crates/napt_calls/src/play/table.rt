@@ -52,7 +52,7 @@ pub(crate) fn answer<R: Print>(
     }
 }
 
-/// Whether there is no block, or one of an even size whose first number is even and at least 1024.
+/// Returns whether there is no block, or one of even size with an even first number, at least 1024.
 fn keeps_block(block: Option<PortBlock>) -> bool
     ensures { result ≡ true → IfSome block IsPortBlock }
 {
@@ -63,7 +63,7 @@ fn keeps_block(block: Option<PortBlock>) -> bool
     first % 2 == 0 && first >= 1024 && size % 2 == 0 && size >= 64 && end <= 65_536
 }
 
-/// Whether a number can be that of an endpoint: port 0 cannot (RFC 768).
+/// Returns whether a number can be that of an endpoint: port 0 cannot (RFC 768).
 pub(crate) fn is_number(protocol: Protocol, number: u16) -> bool
     ensures { result ≡ true → IsNumber protocol number }
 {

@@ -64,7 +64,7 @@ fn fill<G: Gate>(alloc: Global, pool: &mut Pool<Echo, G>, w: u32) -> bool
     first && second
 }
 
-/// Whether each worker returned the answers to its items.
+/// Returns whether each worker returned the answers to its items.
 fn are_whole(ended: &[Ended<Echo>]) -> bool {
     for end in ended {
         if end.answers.as_slice() != [7, 8].as_slice() {

@@ -50,7 +50,7 @@ pub(crate) fn counted(alloc: Global) -> Result<(Arc<Counts>, Arc<GateCounter>), 
     Ok((counts, Arc::new(alloc, asked)?))
 }
 
-/// Whether this program has one thread, by the system's count.
+/// Returns whether this program has one thread, by the system's count.
 fn is_alone<R: Files + AllocGlobal>(rt: &R) -> io::Result<bool> {
     let status = fs::read_to_string(rt, "/proc/self/status")?;
     Ok(status.as_str().contains("\nThreads:\t1\n"))

@@ -61,13 +61,14 @@ pub(crate) fn inputs(alloc: Global) -> Result<Vec<Input>, CallResult> {
     merge(alloc, inside, outside).map_err(|_| CallResult::Before)
 }
 
-/// Whether an input is a packet of 28 bytes that arrived from a side at a time, in seconds, the latest so far.
+/// Returns whether an input is a packet of 28 bytes that arrived from a side at a time, in seconds,
+/// the latest so far.
 fn came(input: &Input, side: Side, seconds: u64) -> bool {
     let time = seconds.saturating_mul(1_000_000_000);
     input.side == side && input.time == time && input.clock == time && input.bytes.len() == 28
 }
 
-/// Whether the inputs are those of both captures, in their order.
+/// Returns whether the inputs are those of both captures, in their order.
 fn are_merged(inputs: &[Input]) -> bool {
     match inputs {
         [first, second, third] => {

@@ -90,7 +90,7 @@ fn send(alloc: Global, table: &mut Table, packet: TablePacket) -> Result<Option<
     Ok(answer.ok())
 }
 
-/// Whether an answer to the packet comes in, if its external number is that of its inside endpoint.
+/// Returns whether an answer comes in to the external number that the inside endpoint has.
 fn is_answered(table: &mut Table, packet: TablePacket) -> bool {
     if packet.now < table.at() {
         return false;

@@ -90,7 +90,7 @@ fn fill(pool: &mut Keepers<impl TestRuntime>, w: u32) -> Option<u64> {
     None
 }
 
-/// Whether worker `w` answers with `count` numbers from `base` on, and then has no more.
+/// Returns whether worker `w` answers with `count` numbers from `base` on, and then has no more.
 fn empties(pool: &mut Keepers<impl TestRuntime>, w: u32, count: u64, base: u64) -> bool {
     for k in 0..count {
         if pool.take_soon(w) != Ok(Some(base.saturating_add(k))) {

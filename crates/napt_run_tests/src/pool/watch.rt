@@ -70,7 +70,7 @@ impl Watch {
         Ok(Arc::new(alloc, watch)?)
     }
 
-    /// Whether each machine has begun this many steps.
+    /// Returns whether each machine has begun this many steps.
     fn have_begun(&self, count: u64) -> bool {
         self.steps.iter().all(|steps| so_far(steps) >= count)
     }

@@ -1,4 +1,4 @@
--- after: the first day of the month is after the start by the days that are no longer left.
+-- after: the first day of the month is after the start by the number of days that were already subtracted.
 use Rattle.std.proofs.Common.{ℕ, ◌≡◌, ◌+◌, ◌-◌, ◌≤◌}
 use Rattle.napt_log_text.specs.Calendar as calendar
 use Rattle.napt_log_text.proofs.date.Date.after.Given as goal
