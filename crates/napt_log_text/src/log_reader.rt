@@ -60,8 +60,7 @@ impl<R: BufRead + Drop> LogReader<R> {
         }
     }
 
-    /// Returns whether the line that was read last has the names of the fields, with which a piece
-    /// may begin.
+    /// Returns whether the line that was read last is the header, with which a piece may begin.
     pub fn is_at_names(&self) -> bool {
         self.line.as_str() == header()
     }

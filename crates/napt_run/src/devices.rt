@@ -15,6 +15,6 @@ pub struct Devices<R: Source, Q: Source, W: Sink, V: Sink, U: Sink, L> {
     /// The capture of the packets that leave to inside hosts.
     pub to_inside: V,
     pub report: U,
-    /// A [`LogWriter`](crate::LogWriter) or `NoLog`.
+    /// The log: a [`LogWriter`](crate::LogWriter) or `NoLog`.
     pub log: L,
 }
