@@ -1,4 +1,4 @@
--- From what left during a run to what its outputs took, and to what was recorded in its log.
+-- The outputs took all that left during a run, and the log recorded it.
 use Rattle.std.proofs.lemmas.{Grind.common_steps, Bool.Decides.nat_tests, List.map-append}
 use Rattle.std.proofs.Common.{◌≡◌, ◌⊎◌, inl, inr, ℕ, Bool, List, [], ◌∷◌, ◌++◌, length, map, Option, Some, None, Result, Ok, Err, refl, sym, ◌∙◌, ap, subst, arith, append_assoc}
 use Rattle.napt_wire.specs.declared.Side.{Side}

@@ -1,4 +1,4 @@
--- What an output has at the end of a run: so many bytes of the text of these inputs.
+-- An output contains this number of bytes of the text of these inputs at the end of a run.
 use Rattle.std.{proofs.{Common.{◌≡◌, ◌∙◌, inl, inr, ℕ, ◌+◌, ◌≤◌, Bool, true, false, List, [], length, take, Option, None, Some, Result, Ok, Err, refl, sym, ap, subst, arith, append-nil, length-append}, Math.Seq.take-append_seam}, specs.{Prelude.IsOk, Io.KnownBytes.Appends}}
 use Rattle.napt_capture.specs.{Text.file_header, declared.{device.Sink.Ghosts, fault.WriteFault.WriteFault}}
 use Rattle.napt_wire.specs.declared.Side.{Side}

@@ -1,4 +1,4 @@
--- The rows of an input, written or not.
+-- The rows of an input are written, or writing them fails.
 use Rattle.std.proofs.lemmas.{Grind.common_steps, Bool.{Decides.nat_tests, eqb-true}}
 use Rattle.std.proofs.Common.{◌≡◌, ℕ, ◌+◌, ◌^◌, ◌<◌, ◌==◌, Bool, true, false, cond, List, [], ◌∷◌, ◌++◌, length, Option, Some, None, Result, Ok, Err, IfErr, OnOk, refl, sym, ◌∙◌, ap, arith, subst, append-nil, length-append}
 use Rattle.napt_capture.specs.declared.{device.Sink.Ghosts, fault.WriteFault.WriteFault}

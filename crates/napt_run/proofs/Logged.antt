@@ -1,4 +1,4 @@
--- What a run leaves in its log.
+-- The log of a run contains its text at the end of the run.
 use Rattle.std.proofs.lemmas.{Grind.common_steps, Bool.Decides.nat_tests}
 use Rattle.std.specs.Prelude.{if◌then◌else◌}
 use Rattle.std.proofs.Common.{◌≡◌, ◌⊎◌, inl, inr, ℕ, ◌+◌, ◌-◌, ◌^◌, ◌<◌, ◌≤◌, max, min, Bool, true, false, List, [], ◌∷◌, ◌++◌, length, map, take, Option, Result, Ok, Err, IfErr, IfOk, IsOk, OnOk, string_bytes, refl, sym, ◌∙◌, ap, subst, arith, append-nil, append_assoc, length-append}

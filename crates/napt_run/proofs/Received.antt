@@ -1,4 +1,4 @@
--- From what was read and what was made to what the devices show.
+-- The clauses for devices follow from the captures that were read and the texts that were made.
 use native.Mathlib.Omega.{arith}
 use Rattle.std.proofs.{lemmas.{Grind.common_steps, Bool.{Decides.nat_tests, cases_Bool, le-leb, lt-leb}}, Math.Nat.lt_of_not-le}
 use Rattle.std.proofs.Common.{◌≡◌, ℕ, ◌+◌, refl, sym, ap, ap₂, ◌∙◌, subst, List, [], string_bytes, Option, Some, None, IfSome, IfErr, Result, Ok, Err}

@@ -1,10 +1,10 @@
--- What two captures give as they arrive, headers included.
+-- The inputs of two captures as they arrive, headers included.
 use Rattle.std.specs.Prelude.{ℕ, List, take, Result, Ok, Err}
 use Rattle.napt_wire.specs.declared.Side.{Side, TheVariants.{Inside, Outside}}
 use Rattle.napt_capture.specs.{Capture.{capture_of_bytes, format_in}, declared.{fault.CaptureFault.CaptureFault, capture_format.CaptureFormat.CaptureFormat}}
 use Rattle.napt_records.specs.RecordMerging.{MergedInputs, at_fault, inputs_until}
 
--- No input is handed out if the header of a file has a fault.
+-- Returns the inputs, or none of them if the header of a file has a fault.
 abbrev pub unless_bad : Side → Result CaptureFormat CaptureFault → MergedInputs → MergedInputs
 unless_bad side (Ok spelling) inputs = inputs
 unless_bad side (Err fault) inputs = at_fault side fault

@@ -1,4 +1,4 @@
--- What the log of a run goes on from, and its text.
+-- The origin of the log of a run, and the text of the log.
 use Rattle.std.specs.{Prelude.{◌≡◌, ℕ, List, Bool, true, false, if◌then◌else◌, [], ◌++◌, Option, None, option_map, string_bytes}, Int.NonZero.non_zero_u32_get}
 use Rattle.napt_config.specs.Rules.{Rules}
 use Rattle.napt_account.specs.{Log.LogModel, LogParts.in_order_of_end, LogStarts.{SavedLogStateModel, log_before, log_started, no_saved_log, started_part}, ResumedLogRuns.{IsLogOf, left_of}, declared.log_start.LogFromState.LogFromState}
@@ -6,7 +6,7 @@ use Rattle.napt_log_text.specs.{Logs.{LogOrigin, first_part, first_text, living_
 use Rattle.napt_rules.specs.Prelude.{Arrival, State, initial_state, with_redirects}
 use Rattle.napt_run.specs.{Origins.{OriginModel, origin_of}, declared.{start.Start.Start, log_start.{LogStart.LogStart, TakenLog.TakenLog}}}
 
--- The text of a log after these inputs, and at the end of the run over them.
+-- The texts of a log: after the inputs so far, and at the end of the run over them.
 pub record LogTexts : Type 0 where
   pub so_far : List Arrival → TimeText
   pub whole : List Arrival → TimeText
@@ -18,7 +18,7 @@ texts_anew rules = record {
   whole = log_text rules (initial_state rules) (log_anew rules) None false;
 }
 
--- What the log of a run goes on from: what its state keeps of the log, as the configuration takes it up.
+-- Returns the origin of the log of a run: the saved log of its state, as the configuration accepts it.
 abbrev pub origin_saved : Rules → State → SavedLogStateModel → Bool → LogOrigin
 origin_saved rules state saved is_new = record {
   before = log_before rules state saved;
@@ -42,7 +42,7 @@ texts_from start log_start =
       whole = log_text origin.rules origin.state log each log_start.goes_on;
     }
 
--- If a state keeps nothing of a log, the log of a run from it, in one piece, is that of a run from the state before any
+-- If a state contains no saved log, the log of a run from it, in one piece, is that of a run from the state before any
 -- input.
 abbrev pub BeginsLogsAnew : State → Type 0
 BeginsLogsAnew state = (rules : Rules) (saved : SavedLogStateModel) → saved ≡ no_saved_log →
@@ -53,7 +53,7 @@ BeginsLogsAnew state = (rules : Rules) (saved : SavedLogStateModel) → saved �
 
 -- STEPS
 
--- The same, as the code has it.
+-- Returns the same origin, as the code computes it.
 abbrev pub origin_from : LogFromState → Bool → LogOrigin
 origin_from started is_new = record {
   before = started.before;
@@ -62,7 +62,7 @@ origin_from started is_new = record {
   is_new = is_new;
 }
 
--- A log as it was taken up, and the beginning of its text.
+-- The code begins the log from this origin, with the beginning of its text.
 pub record IsTakenAs (start : Start) (log_start : LogStart) (taken : TakenLog) : Type 0 where
   pub of : IsLogOf start.config.now (origin_of start).state (log_origin start log_start).log
   pub known : taken.log ≡ record {
@@ -74,7 +74,7 @@ pub record IsTakenAs (start : Start) (log_start : LogStart) (taken : TakenLog) :
   }
   pub opening : string_bytes taken.opening ≡ first_text start.config.now (log_origin start log_start)
 
--- A run whose log goes on: the beginning of its text, the log, the seconds in a piece, and whether another run goes on.
+-- The origin of a run with a log: the beginning of its text, the log, the seconds in a piece, and whether it continues.
 pub record LoggedOrigin : Type 0 where
   pub origin : OriginModel
   pub opening : TimeText

@@ -1,4 +1,4 @@
--- What leaves during a run, and what that does to the log and then to the outputs.
+-- The results that leave during a run, and their effects on the log and then on the outputs.
 use Rattle.std.{specs.Prelude.{◌≡◌, ◌⊎◌, ℕ, List, [], ◌++◌, map, refl}, proofs.{Common.{sym, ◌∙◌, subst}, lemmas.List.map-append}}
 use Rattle.napt_capture.specs.declared.device.Sink.{Ghosts}
 use Rattle.napt_dispatch.specs.declared.outcome_sink.InputResult.{InputResult}
@@ -15,16 +15,16 @@ abbrev pub legs_in : {P : Type 0} → List (ℕ × InputResult P) → List (Legs
 legs_in all = map (λ left. (left.1.now, left.1.first, left.1.second)) all
 
 module _ {W V K : Type 0} {S : Ghosts W} {T : Ghosts V} where
-  -- Its log is at the same place.
+  -- Both logs write to the same device.
   abbrev pub IsSameSinkPlace : LeavingWithLog W V K S T → LeavingWithLog W V K S T → Type 0
   IsSameSinkPlace old new = new.log.ghost_name ≡ old.log.ghost_name
 
-  -- All that left is flushed, the log too.
+  -- All that left is flushed, and so is the log.
   abbrev pub AreSettled : (K → Type 0) → LeavingWithLog W V K S T → Type 0
   AreSettled is_settled it = IsSettled it.leaving × is_settled it.log.now
 
 module _ {P W V K : Type 0} {S : Ghosts W} {T : Ghosts V} where
-  -- All that left was recorded in the log, and the outputs have its records.
+  -- All that left was recorded in the log, and the outputs contain its records.
   pub record TakesBoth (enters : K → List (Legs P) → K → Type 0) (old : LeavingWithLog W V K S T)
       (all : List (ℕ × InputResult P)) (new : LeavingWithLog W V K S T) : Type 0 where
     pub took : SinkTakes old.leaving (outcomes_in all) new.leaving
@@ -39,7 +39,7 @@ module _ {P W V K : Type 0} {S : Ghosts W} {T : Ghosts V} where
     pub entered : enters old.log.now (legs_in all) new.log.now
     pub same : IsSameSinkPlace old new
 
-  -- The log failed, and no output has more than before.
+  -- The log failed, and no output contains more than before.
   pub record FailsLog (fails : K → List (Legs P) → Fault → K → Type 0) (old : LeavingWithLog W V K S T)
       (all : List (ℕ × InputResult P)) (fault : Fault) (new : LeavingWithLog W V K S T) : Type 0 where
     pub of_log : IsLogFault fault
