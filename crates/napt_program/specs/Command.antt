@@ -1,4 +1,4 @@
--- The stops of a program: by its arguments, by what it opens, or by its run.
+-- The stops of a program: by its arguments, by the files that it opens, or by its run.
 use Rattle.std.specs.Prelude.{◌≡◌, ◌||◌, Bool, true, false, not, is_some, if◌then◌else◌}
 use Rattle.napt_program.specs.{CommandLine.{CommandLineFiles, CommandLineMeaning, files, help, mistake, version}, Standard.names_file, declared.role.FileRole.FileRole}
 use Rattle.napt_program.specs.declared.{stop.{Stop.Stop, TheConstants.MEMORY}, streams.StandardStreams.StandardStreams}
@@ -61,7 +61,7 @@ HelpIsAsked (fault.Help text) = Unit {0}
 HelpIsAsked (fault.Version text) = Unit {0}
 HelpIsAsked other = ⊥
 
--- The stop of the program if the command line does not request a run.
+-- This is the stop of the program if the command line does not request a run.
 abbrev pub IsLineAnswer : LineFault → Stop → Type 0
 IsLineAnswer (fault.Help text) s = s ≡ stop.Help
 IsLineAnswer (fault.Version text) s = s ≡ stop.Help
@@ -80,7 +80,7 @@ abbrev pub LineIsTaken : CommandLineMeaning → Type 0
 LineIsTaken mistake = ⊥
 LineIsTaken other = Unit {0}
 
--- The stop is not that of a shut gate.
+-- The stop is not due to a shut gate.
 abbrev pub IsStopUnderOpenGate : Stop → Type 0
 IsStopUnderOpenGate (stop.Run fault) = is_shut_gate_fault fault ≡ false
 IsStopUnderOpenGate other = Unit {0}

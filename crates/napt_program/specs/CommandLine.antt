@@ -22,7 +22,7 @@ abbrev pub option_names : List Text
 option_names = codes "config" ∷ codes "resume" ∷ codes "inside" ∷ codes "outside" ∷ codes "to-outside"
     ∷ codes "to-inside" ∷ codes "report" ∷ codes "save" ∷ []
 
--- The program's command, with a version. clap adds `-h` and `--help`, `-V` and `--version` to it.
+-- The program's command has a version. clap adds `-h` and `--help`, `-V` and `--version` to it.
 abbrev pub napt_app : App
 napt_app =
     let bare : App = new_app (codes "napt") in
@@ -126,7 +126,7 @@ misuses_pieces (Some path) (Some seconds) = seconds == 0 || is_dash path
 abbrev pub is_misused : CommandLineFiles → Bool
 is_misused named = misuses_state named || misuses_pieces named.log named.log_each
 
--- Clap finds no fault in arguments that it accepts, and reports help and the version as faults of those kinds.
+-- Returns the meaning of a command line by clap's result, which reports help and the version as faults of those kinds.
 abbrev pub line_by : Kinds → CommandLineFiles → CommandLineMeaning
 line_by [] named = if is_misused named then mistake else files named
 line_by (DisplayHelp ∷ more) named = help

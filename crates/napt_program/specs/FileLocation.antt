@@ -1,4 +1,4 @@
--- When two locations are of one file.
+-- The locations of files, and whether two of them are of one file.
 use Rattle.std.specs.{Prelude.{◌≡◌, ◌==◌, ◌&&◌, ℕ, Bool, false, List, Option, Some, bytes_eq, codes, if◌then◌else◌, length, option_map}, Fs.IsFile}
 use Rattle.std.specs.{Path.{path_file_name, path_parent}, declared.fs.attrs.FileType.FileType}
 use Rattle.napt_program.specs.declared.file_location.{FileId.FileId, FileLocation.{FileLocation, TheVariants.{There, New, Words, Aside}}}
@@ -20,7 +20,7 @@ IsOfPath path (New folder name) = path_file_name path ≡ Some name.now
 IsOfPath path (Words words) = words.now ≡ path
 IsOfPath path Aside = Unit {0}
 
--- Of what exists, a regular file has a location of its own, and all else is `Aside`.
+-- A regular file that exists has a location of its own, and the location of any other kind is `Aside`.
 abbrev pub IsOfKind : FileType → FileLocation → Type 0
 IsOfKind kind (There node) = IsFile kind
 IsOfKind kind (New folder name) = ⊥

@@ -1,4 +1,4 @@
--- The options that are standard input or standard output, and the one whose stream another option already uses.
+-- The options that are standard input or output, and the first option whose stream another one already uses.
 use Rattle.std.specs.Prelude.{◌&&◌, ◌||◌, Bool, not, Option, Some, None, is_some, if◌then◌else◌}
 use Rattle.clap.specs.Words.{Text}
 use Rattle.napt_program.specs.{CommandLine.{CommandLineFiles, is_dash_given}, declared.role.FileRole.FileRole}

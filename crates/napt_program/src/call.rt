@@ -33,8 +33,8 @@ pub fn answer_line(rt: &impl Print, fault: LineFault) -> Result<(), Stop>
     }
 }
 
-/// Prints on standard error that the log begins a new entry for each binding of the state, at the state's clock, in ns.
-/// Fails only if memory is refused.
+/// Prints on standard error that the log begins a new entry for each binding of the state, at the
+/// state's clock, in ns. Fails only if memory is refused.
 pub fn print_new_entries(
     rt: &impl Eprint,
     alloc: Global,
@@ -49,7 +49,7 @@ pub fn print_new_entries(
     Ok(())
 }
 
-/// Prints on standard error how many bindings of a state end at its start, if any do.
+/// Prints on standard error how many bindings of a state expire at the start, if any do.
 pub fn print_ended(rt: &impl Eprint, name: &str, ended: u64) {
     if ended > 0 {
         let _ = eprintln!(rt;
@@ -69,7 +69,8 @@ pub struct ProgramCall {
     pub at_terminal: bool,
     /// Whether standard error gets more than the fault line: at a terminal, or with `--verbose`.
     pub is_verbose: bool,
-    /// Whether bindings of a state that the configuration cannot keep end: with `--end-misfits`.
+    /// Whether bindings of a state that the configuration does not accept expire: with
+    /// `--end-misfits`.
     pub ends_misfits: bool,
 }
 
@@ -142,8 +143,8 @@ impl ProgramCall {
         }
     }
 
-    /// Prints in a line after the fault line why the program stopped, if that is requested, or where help is. Why a run
-    /// must not append to a log is printed in any case.
+    /// Prints, in a line after the fault line, why the program stopped, if that is requested, or
+    /// how to get help. The reason why a run must not append to a log is printed in any case.
     fn print_reason(self, rt: &impl Eprint, stop: Stop, reason: &StopReason) {
         if !self.is_heard {
             return;
@@ -157,8 +158,8 @@ impl ProgramCall {
         };
     }
 
-    /// Warns that the state has no accounts of its bindings, so that the log begins a new entry for each of them, at
-    /// the state's clock, in ns. Fails only if memory is refused.
+    /// Warns that the state has no accounts of its bindings, so that the log begins a new entry for
+    /// each of them, at the state's clock, in ns. Fails only if memory is refused.
     pub fn print_new_entries(
         self,
         rt: &impl Eprint,
@@ -171,7 +172,7 @@ impl ProgramCall {
         Ok(())
     }
 
-    /// Prints how many bindings of the state end at the start, if any do.
+    /// Prints how many bindings of the state expire at the start, if any do.
     pub fn print_ended(self, rt: &impl Eprint, ended: u64) {
         if self.is_heard {
             print_ended(rt, self.name, ended);
