@@ -32,9 +32,8 @@ is_last_row hash text =
 abbrev pub bytes_before : ℕ → ℕ
 bytes_before place = min place MOST_TORN
 
--- Returns why a run must not append to a log, if it must not. The state records that the log ends at a length with a
--- row. The list contains the log's bytes around that place: that row must be before it, and at most a partial row after
--- it.
+-- Returns why a run must not append to a log, if it must not. The state records the length and the last row of the log.
+-- The list contains the bytes around that length: that row must be before it, and at most a partial row after it.
 abbrev pub refusal_at : LogEnd → List ℕ → Option LogRefusal
 refusal_at told text =
     let before : ℕ = bytes_before told.length in

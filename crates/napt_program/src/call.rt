@@ -69,8 +69,7 @@ pub struct ProgramCall {
     pub at_terminal: bool,
     /// Whether standard error gets more than the fault line: at a terminal, or with `--verbose`.
     pub is_verbose: bool,
-    /// Whether bindings of a state that the configuration does not accept expire: with
-    /// `--end-misfits`.
+    /// Whether bindings of a state that the configuration refuses expire: with `--end-misfits`.
     pub ends_misfits: bool,
 }
 

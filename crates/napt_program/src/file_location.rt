@@ -95,7 +95,7 @@ pub(crate) fn folder_of<'a>(path: &'a str) -> Option<Path<'a>>
     }
 }
 
-/// Returns whether both are of one file, or whether the system cannot distinguish files.
+/// Returns whether both are of one file, as is assumed if the system cannot distinguish files.
 pub(crate) fn is_one_file(known: &Metadata, there: &Metadata) -> bool {
     match (node_of(known), node_of(there)) {
         (Some(known), Some(there)) => is_same_node(known, there),
@@ -109,7 +109,7 @@ fn is_same_node(a: FileId, b: FileId) -> bool
     a.device == b.device && a.number == b.number
 }
 
-/// Returns whether both locations are of one file. `Aside` is never the same as another location.
+/// Returns whether both locations are of one file. `Aside` is not the same as any location.
 pub fn is_same(a: FileLocation<'_>, b: FileLocation<'_>) -> bool
     ensures { result ≡ is_same a.entry b.entry }
 {

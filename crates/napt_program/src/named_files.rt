@@ -1,5 +1,4 @@
-//! The reasons why a file of the command line cannot be used: another option names it, or the
-//! system refuses it.
+//! The reasons why a file cannot be used: another option names it, or the system refuses it.
 
 use crate::config_file::MOST_BYTES;
 use crate::file_location::{FileLocation, is_same, place_of};
@@ -153,8 +152,7 @@ impl<'a> NamedFiles<'a> {
         again.map(|named| named.name)
     }
 
-    /// Returns the option that names the file of a saved state, which may also be that of
-    /// `--resume`.
+    /// Returns another option that names the file of a saved state. That of `--resume` may name it.
     fn saved_again<R: Files>(self, rt: &R, path: &str) -> Option<&'static str> {
         let place = place_of(rt, path);
         let all = self.all();
