@@ -1,4 +1,4 @@
--- A run of which only the outcomes are needed, by the inputs that it has taken.
+-- A run whose outcomes alone are needed, by the inputs that it has processed.
 use Rattle.std.specs.Prelude.{◌≡◌, Bool, List, [], ◌∷◌, ◌++◌, false}
 use Rattle.napt_rules.specs.Prelude.{Arrival, Rules, State, effect_from, with_redirects}
 use Rattle.napt_rules.specs.declared.Outcome.{Outcome}

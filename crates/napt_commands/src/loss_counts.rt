@@ -1,4 +1,5 @@
-//! Counts of dropped packets from outside, which show whether the captures and the configuration belong together.
+//! Counts of dropped packets from outside, by which captures that do not belong to the
+//! configuration are found.
 
 ghost use Rattle.std.specs.Prelude.{◌≡◌, ◌+◌, ◌-◌, ◌/◌, ◌^◌, ◌<◌, ◌↔◌, min, true};
 
@@ -7,22 +8,23 @@ use napt_sequential::{Input, Outcome};
 use napt_wire::{Cause, Side};
 use std::alloc::{AllocError, Global};
 
-/// The number of packets from each side, and how many of those from outside were dropped for some causes.
+/// The number of packets from each side, and of packets from outside that some causes dropped.
 #[derive(Drop)]
 pub struct LossCounts {
     pub all: u64,
-    /// The number of packets that came from inside, and how many of them had an inside address.
+    /// The number of packets that came from inside, and the number of them with an inside address.
     pub inside: u64,
     pub from_hosts: u64,
-    /// The number of packets from inside that got no binding, because of the quota or for want of a free number.
+    /// The number of packets from inside that got no binding, due to the quota or a lack of
+    /// numbers.
     pub refused: u64,
-    /// Packets for an endpoint without a live binding.
+    /// The number of packets for an endpoint without a live binding.
     pub no_binding: u64,
-    /// Packets for an address that is not the gateway's.
+    /// The number of packets for an address that is not the gateway's.
     pub not_ours: u64,
-    /// Packets whose source is an inside address.
+    /// The number of packets whose source is an inside address.
     pub from_inside: u64,
-    /// Packets whose source is an address of the pool: a count for each address, in the order of the pool.
+    /// The number of packets from each address of the pool, in the order of the pool.
     pub from_pool: Vec<u64>,
 }
 

@@ -4,12 +4,12 @@ use napt_config::Config;
 use napt_sequential::{Input, RunFault, followed};
 use std::alloc::{AllocError, Global};
 
-/// What the outside capture contains.
+/// The kind of packets in the outside capture.
 #[derive(Clone, Copy, PartialEq, Eq)]
 pub enum OutsideCapture {
     /// Packets for external endpoints, as the gateway received them.
     Packets,
-    /// Packets for inside endpoints, as inside hosts received them. They follow the run.
+    /// Replies: packets for inside endpoints, as inside hosts received them. They follow the run.
     Replies,
 }
 
@@ -35,7 +35,8 @@ impl OutsideCapture {
         self == OutsideCapture::Replies
     }
 
-    /// Returns the inputs of the run under a configuration: replies follow it, and other packets stay as they are.
+    /// Returns the inputs of the run under a configuration: replies follow the run, and other
+    /// packets are unchanged.
     pub fn inputs_under(
         self,
         alloc: Global,

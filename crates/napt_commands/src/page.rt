@@ -3,7 +3,7 @@
 use crate::exit::Exit;
 use std::alloc::Global;
 
-/// The size in bytes from which on the buffer is written.
+/// The size in bytes at which the buffer is written.
 const BUFFERED: usize = 65_536;
 
 /// The lines that have not been written yet.

@@ -4,7 +4,7 @@ use napt_account::Entry;
 use napt_wire::{Endpoint, Protocol};
 use std::alloc::AllocError;
 
-/// Entries sorted by their external endpoints. Entries of one endpoint stay in the order in which they were given.
+/// Entries sorted by their external endpoints. Entries of one endpoint retain their given order.
 #[derive(Drop)]
 pub struct SortedEntries {
     entries: Vec<Entry>,

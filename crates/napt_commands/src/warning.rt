@@ -1,10 +1,10 @@
-//! Warnings about a run whose captures and configuration seem not to belong together.
+//! Warnings about a run whose captures do not seem to belong to the configuration.
 
 use crate::loss_counts::LossCounts;
 use crate::outside_capture::OutsideCapture;
 
-/// Prints that the captures are swapped, or that many packets from outside were dropped, what that says about the
-/// captures, and what to do. `under` names the configuration, if there are several.
+/// Prints that the captures are swapped, or that many packets from outside were dropped, the
+/// probable cause, and what to do. `under` names the configuration, if there are several.
 pub fn print_warning<R: Eprint>(
     rt: &R,
     outside: OutsideCapture,

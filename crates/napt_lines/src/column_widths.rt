@@ -2,7 +2,7 @@
 
 use napt_sequential::Input;
 
-/// The least widths of the column of a packet as it arrived, and of the column of what happened to it.
+/// The least widths of the column of a packet as it arrived, and of the column of its outcome.
 pub const BEFORE: usize = 50;
 
 pub const HAPPENED: usize = 21;

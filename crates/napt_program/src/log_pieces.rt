@@ -49,8 +49,7 @@ impl<'r, R: Files + AllocGlobal> LogPieces<'r, R> {
         })
     }
 
-    /// Returns whether these bytes begin a new piece: they begin with the header, and this piece
-    /// has text.
+    /// Returns whether these bytes begin a new piece, with the header, and this piece has text.
     fn needs_new_piece(&self, bytes: &[u8]) -> bool
         ensures { result ≡ needs_new_piece self.now bytes.now }
     {
