@@ -1,4 +1,4 @@
--- The rows of a run's log tell its entries.
+-- The rows of a run's log give its entries.
 use Rattle.std.proofs.{Common.{◌≡◌, ◌≢◌, ◌⊎◌, inl, inr, ℕ, ◌+◌, ◌≤◌, ◌==◌, Bool, true, false, ◌&&◌, ◌||◌, cond, List, [], ◌∷◌, ◌++◌, map, filter, Option, Some, None, refl, sym, ◌∙◌, ap, ap₂, subst, arith, append-nil, append_assoc}, lemmas.{Bool.{Decides.nat_tests, ne_eqb}, List.map-append, List.Sorted.IsPermutation-sym}}
 use Rattle.std.specs.{List.{list_any, Sorted.IsPermutation}, Option.option_or}
 use Rattle.napt_config.specs.Rules.{Rules, RulesInvariant, pair_of}

@@ -1,4 +1,4 @@
--- Reading the rows of a log one after another.
+-- The rows of a log are read one after another.
 use Rattle.std.proofs.{Common.{◌≡◌, ◌⊎◌, ℕ, Bool, true, false, List, [], ◌∷◌, ◌++◌, Option, Some, None, Result, Ok, Err, IfOk, ◌==◌, if◌then◌else◌, refl, sym, ◌∙◌, ap, subst, append-nil, append_assoc}, lemmas.Result.IfOk-from_err}
 use Rattle.std.specs.{Io.KnownBytes.prepend_known, List.flat_map, Result.IsErr}
 use Rattle.napt_config.specs.Rules.{Rules}

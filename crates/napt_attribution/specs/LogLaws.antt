@@ -1,4 +1,4 @@
--- What the rows of the log of a run tell is its log.
+-- The rows of the log of a run give its log.
 use Rattle.std.specs.Prelude.{◌≡◌, false, List, map}
 use Rattle.napt_config.specs.Rules.{Rules, RulesInvariant}
 use Rattle.napt_rules.specs.Prelude.{Arrival, initial_state}
@@ -10,7 +10,7 @@ use Rattle.napt_attribution.specs.{SavedLogs.{asked_entries, bare_entry, entries
 abbrev pub whole_events : Rules → List Arrival → List LogEvent
 whole_events rules inputs = log_events rules (initial_state rules) (log_anew rules) false inputs
 
--- The rows of a run's log tell its entries, each with its end, in the order of making.
+-- The rows of a run's log give its entries, each with its end, in the order of making.
 abbrev pub RowsTellTheLog : Type 0
 RowsTellTheLog = (rules : Rules) → RulesInvariant rules → (inputs : List Arrival) →
     entries_in (whole_events rules inputs)
@@ -20,8 +20,8 @@ RowsTellTheLog = (rules : Rules) → RulesInvariant rules → (inputs : List Arr
 abbrev pub without_counts : Entry → Entry
 without_counts entry = unused_entry entry.binding entry.made entry.end
 
--- So the holders that a request finds among the entries that are asked about are those that it finds in the log of the
--- run: the same ones, and none where there are none.
+-- The holders that a request finds among the entries that requests ask about are those that it finds in the log of the
+-- run.
 abbrev pub RowsNameTheHolders : Type 0
 RowsNameTheHolders = (rules : Rules) → RulesInvariant rules → (inputs : List Arrival) →
     (asked : List HolderRequest) (one : HolderRequest) → Has asked one →

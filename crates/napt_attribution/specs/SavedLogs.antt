@@ -1,4 +1,4 @@
--- What the rows of a saved log tell: the bindings that rows make, each with the end that a row tells of its number.
+-- The entries in the rows of a saved log: the bindings that rows make, each with the end that a row has for its number.
 use Rattle.std.specs.{Prelude.{◌≡◌, ℕ, ◌==◌, ◌<◌, ◌≤◌, Bool, true, false, not, ◌&&◌, cond, List, [], ◌∷◌, ◌++◌, map, filter, Option, Some, None}, Option.{is_some, option_or}, BTreeMap.get, Ordering.nat_cmp}
 use Rattle.napt_rules.specs.{Prelude.Each, declared.Row.Row}
 use Rattle.napt_account.specs.{declared.log.{Entry.Entry, LogEntry.LogEntry}, Log.unused_entry, LogParts.Rises}
@@ -29,19 +29,19 @@ bare_entry end listed = record listed { entry = unused_entry listed.entry.bindin
 abbrev pub entries_in : List LogEvent → List LogEntry
 entries_in events = map (λ listed. bare_entry (row_end_among events listed.number) listed) (made_in events)
 
--- Those of them that requests ask about.
+-- Returns the entries that requests ask about.
 abbrev pub asked_entries : List HolderRequest → List LogEntry → List Entry
 asked_entries asked entries =
     map (λ listed. listed.entry) (filter (λ listed. is_asked_about asked listed.entry.binding.external) entries)
 
--- WHAT IS KEPT of the entries while rows are read
+-- ENTRIES THAT ARE RETAINED while rows are read
 
 -- Returns the entry of a number.
 abbrev pub entry_of : List LogEntry → ℕ → Option Entry
 entry_of [] number = None
 entry_of (listed ∷ more) number = cond (listed.number == number) (Some listed.entry) (entry_of more number)
 
--- An entry that passes a test.
+-- Returns an entry if it passes a test.
 abbrev pub passing : (Entry → Bool) → Option Entry → Option Entry
 passing test None = None
 passing test (Some entry) = cond (test entry) (Some entry) None
@@ -52,7 +52,7 @@ has_no_end entry = not (is_some entry.end)
 abbrev pub is_ended_and_asked : List HolderRequest → Entry → Bool
 is_ended_and_asked asked entry = is_some entry.end && is_asked_about asked entry.binding.external
 
--- Of these entries those without an end, and those that requests ask about.
+-- These are the entries without an end, and the entries that requests ask about.
 pub record Keeps (asked : List HolderRequest) (kept : KeptEntries) (entries : List LogEntry) : Type 0 where
   pub wanted : Wants asked kept.wanted
   pub rising : Rises 1 entries
@@ -60,12 +60,12 @@ pub record Keeps (asked : List HolderRequest) (kept : KeptEntries) (entries : Li
   pub ended : (number : ℕ) → get nat_cmp kept.ended number ≡
       passing (is_ended_and_asked asked) (entry_of entries number)
 
--- The entry of this number gets an end.
+-- Returns an entry, which gets this end if it has this number.
 abbrev pub entry_with_end : ℕ → Option ℕ → LogEntry → LogEntry
 entry_with_end number end listed =
     cond (number == listed.number) (record listed { entry = record listed.entry { end = end } }) listed
 
--- It keeps these entries, whose numbers are among those given; no entry is still to be repeated.
+-- The rows so far give these entries, whose numbers were given; no entry must still be repeated.
 pub record KeepsAll (asked : List HolderRequest) (rows : SavedRows) (entries : List LogEntry) : Type 0 where
   pub kept : Keeps asked rows.kept entries
   pub made : Each (λ listed. listed.number ≤ rows.made) entries

@@ -12,8 +12,9 @@ use napt_wire::{Endpoint, Protocol};
 use std::alloc::AllocError;
 use std::fmt::Write;
 
-/// Appends a line for each host whose block contains the endpoint of a request. Without a run, appends a line for each
-/// redirect, too, or that nobody ever has the endpoint. Returns whether somebody has it.
+/// Appends a line for each host whose block contains the endpoint of a request. Without a run, also
+/// appends a line for each redirect, or that nobody ever has the endpoint. Returns whether somebody
+/// has it.
 pub fn add_owners(
     asked: &HolderRequest,
     known: AnswerBasis<'_>,

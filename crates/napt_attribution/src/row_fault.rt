@@ -1,4 +1,4 @@
-//! Why a saved log is refused.
+//! The reasons why a saved log is refused.
 
 use napt_config::Address;
 use napt_log_text::LogFileFault;
@@ -73,7 +73,7 @@ impl fmt::Display for RowFault {
     }
 }
 
-/// Returns the fault of a row that is not one of a log: what was expected.
+/// Returns the fault of a row that is not a row of a log, with the text that was expected.
 pub fn wrong(why: &'static str) -> RowFault {
     RowFault::Saved(LogFileFault::Wrong(why))
 }

@@ -1,4 +1,4 @@
-//! What the rows of a saved log tell of its bindings. `napt_log_text` reads each row.
+//! The bindings of a saved log, from its rows. `napt_log_text` reads each row.
 
 ghost use Rattle.std.specs.Prelude.{◌≡◌, ◌≤◌, ◌++◌, ◌∷◌, [], ℕ, IfOk, IfSome, List, None, OnOk, Option, Some, map, true};
 ghost use Rattle.napt_account.specs.declared.log.LogEntry.{LogEntry as Listed};
@@ -19,12 +19,12 @@ use napt_wire::{Endpoint, Protocol};
 use std::alloc::{AllocError, Global};
 use std::collections::BTreeMap;
 
-/// What a saved log says of the bindings that are asked about.
+/// The bindings of a saved log that requests ask about.
 #[derive(Drop)]
 pub struct SavedBindings {
-    /// One for each of them, in the order in which they were made, without its counts and its last use.
+    /// Their entries in the order in which they were made, without counts and last uses.
     pub entries: Vec<Entry>,
-    /// The log has every binding from this time on, and until `last`, in ns.
+    /// The time from which on, and until `last`, the log contains every binding, in ns.
     pub first: u64,
     pub last: u64,
 }
@@ -32,7 +32,7 @@ pub struct SavedBindings {
 /// A protocol and an external address and number.
 type ExternalEnd = (Protocol, u32, u16);
 
-/// What has been read from the rows so far.
+/// The bindings in the rows so far.
 #[derive(Drop)]
 pub struct SavedRows {
     kept: KeptEntries,
@@ -61,14 +61,15 @@ impl SavedRows {
         })
     }
 
-    /// Begins a later piece. One with the names of the fields has to repeat or end each entry without an end.
+    /// Begins a later piece. If it begins with the names of the fields, it must repeat or end each
+    /// entry without an end.
     pub fn begin_piece(&mut self, has_names: bool) -> Result<(), RowFault> {
         self.unrepeated.clear();
         if !has_names {
             return Ok(());
         }
         for (number, entry) in self.kept.unended() {
-            // two at one external endpoint: the end of the first one is missing
+            // Two entries have one external endpoint, so the end of the first one is missing.
             if let Some(first) = self.unrepeated.insert(end_of(&entry.binding), *number)? {
                 return Err(RowFault::Unrepeated(first));
             }
@@ -76,7 +77,7 @@ impl SavedRows {
         Ok(())
     }
 
-    /// Ends a piece, whose rows are all there.
+    /// Ends a piece, all of whose rows were read.
     pub fn end_piece(&self) -> Result<(), RowFault> {
         match self.unrepeated.values().min() {
             Some(number) => Err(RowFault::Unrepeated(*number)),
@@ -84,7 +85,7 @@ impl SavedRows {
         }
     }
 
-    /// Returns the bindings that are asked about.
+    /// Returns the bindings that requests ask about.
     pub fn into_bindings(self, alloc: Global) -> Result<SavedBindings, AllocError>
         ensures { (asked : List Asked) (events : List Told) → logs.Tells asked self events →
             IfOk result (λ saved. saved.entries.items
@@ -99,7 +100,7 @@ impl SavedRows {
         })
     }
 
-    /// Takes a row after the names. Returns the binding that it makes, if it makes one.
+    /// Adds a row after the names. Returns the binding that it makes, if it makes one.
     pub fn take(&mut self, row: &LogRow) -> Result<Option<Row>, RowFault>
         ensures { (asked : List Asked) (events : List Told) (event : Told) →
             logs.Tells asked self.old events → row.now ≡ rows.saved_row event →
@@ -121,8 +122,9 @@ impl SavedRows {
         Ok(None)
     }
 
-    /// Begins the entry of a binding, unless the piece repeats it. One that it replaces, of the same external
-    /// endpoint, ends: of a log that begins new entries in a new file, no row ends the ones before.
+    /// Begins the entry of a binding, unless the piece repeats it. An entry of the same external
+    /// endpoint ends then: in a log that begins new entries in a new file, no row ends the earlier
+    /// ones.
     fn make(&mut self, row: &LogRow) -> Result<Row, RowFault>
         ensures { (asked : List Asked) (events : List Told) (listed : Listed) →
             logs.Tells asked self.old events → row.now ≡ rows.saved_row (Made listed) →
@@ -173,8 +175,8 @@ impl SavedRows {
         self.end_at(row.number, binding, u128::from(at))
     }
 
-    /// Takes a binding that is live at the end of the log, with the time at which it ends if no packet arrives. A
-    /// redirect does not end.
+    /// Adds a binding that is live at the end of the log, with the time at which it ends if no
+    /// packet arrives. A redirect does not end.
     fn live_on(&mut self, row: &LogRow) -> Result<(), RowFault>
         ensures { (asked : List Asked) (events : List Told) (listed : Listed) →
             logs.Tells asked self.old events → row.now ≡ rows.saved_row (Living listed) →

@@ -32,8 +32,7 @@ pub struct EndedRun<'a> {
     pub cuts: CutFlags,
     /// The counts of dropped packets from outside.
     pub losses: LossCounts,
-    /// Whether the packets from outside that found no binding, or were not for the gateway, seem to
-    /// be answers.
+    /// Whether the packets that found no binding, or were not for the gateway, seem to be answers.
     pub are_answers: bool,
     /// The live bindings, in the order of the report.
     pub rows: Vec<Row>,

@@ -1,4 +1,4 @@
--- of: the sets have the addresses and the endpoints that the requests name, and no others.
+-- of: the set contains the addresses and the endpoints that the requests name, and no others.
 use Rattle.std.proofs.Common.{Some, None, arith}
 use Rattle.napt_attribution.proofs.RequestParties.{all_named, one_more}
 use Rattle.napt_attribution.proofs.wanted_endpoints.WantedEndpoints.of.Goals as goal
