@@ -81,17 +81,18 @@ const NOT_WRITTEN: &str =
 const RESUMED: &str =
     "State from which the run goes on, as napt and stream save it [default: a new run]";
 
-/// The words of a call: the program's name first, and then always a command.
+/// The words of a call: first the program's name, and then a command in every case.
 #[derive(Drop)]
 pub struct CommandTexts {
     pub list: Vec<String>,
-    /// Whether the words named the command. If not, the command is `show`, which then also has the options for the
-    /// outputs of `napt` and the log of `stream`.
+    /// Whether the words named the command. If not, the command is `show`, which then also has the
+    /// options for the outputs of `napt` and the log of `stream`.
     is_named: bool,
 }
 
 impl CommandTexts {
-    /// Takes the words of a call, and adds `show` if they begin with an option or if there are none.
+    /// Returns the words of a call, and adds `show` if they begin with an option or if there are
+    /// none.
     pub fn of(alloc: Global, given: Vec<String>) -> Result<CommandTexts, AllocError> {
         let is_named = given.get(1).is_some_and(|word| is_name(word));
         let mut list = Vec::new(alloc);

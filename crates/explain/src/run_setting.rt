@@ -15,7 +15,7 @@ use napt_wire::Side;
 use std::io::Read;
 use std::rt::Files;
 
-/// The options of a run, with its configurations and where it starts.
+/// The options of a run, with its configurations and its starts.
 #[derive(Clone, Copy)]
 pub struct RunSetting<'a> {
     streams: StandardStreams,
@@ -184,7 +184,7 @@ impl<'a> RunSetting<'a> {
         }
     }
 
-    /// Writes the outside capture that the replies make, after all packets have been read.
+    /// Writes the outside capture of the replies, after all packets have been read.
     fn write_followed<R: Files + Print + Eprint + AllocGlobal, A: Source, B: Source>(
         self,
         rt: &R,
@@ -201,7 +201,7 @@ impl<'a> RunSetting<'a> {
     }
 }
 
-/// The packets of a run that is explained. They come from captures, or from memory if replies follow the run.
+/// The packets of a run that is explained, from captures, or from memory if replies follow the run.
 #[derive(Clone, Copy)]
 struct RunPackets<'a, 'i, 'k> {
     options: &'a ExplainOptions<'a>,

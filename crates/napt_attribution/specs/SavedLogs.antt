@@ -52,7 +52,7 @@ has_no_end entry = not (is_some entry.end)
 abbrev pub is_ended_and_asked : List HolderRequest → Entry → Bool
 is_ended_and_asked asked entry = is_some entry.end && is_asked_about asked entry.binding.external
 
--- These are the entries without an end, and the entries that requests ask about.
+-- The maps contain exactly the entries without an end, and the ended entries that requests ask about.
 pub record Keeps (asked : List HolderRequest) (kept : KeptEntries) (entries : List LogEntry) : Type 0 where
   pub wanted : Wants asked kept.wanted
   pub rising : Rises 1 entries
@@ -65,7 +65,7 @@ abbrev pub entry_with_end : ℕ → Option ℕ → LogEntry → LogEntry
 entry_with_end number end listed =
     cond (number == listed.number) (record listed { entry = record listed.entry { end = end } }) listed
 
--- The rows so far give these entries, whose numbers were given; no entry must still be repeated.
+-- These entries are retained, their numbers are at most the last one, and no entry must still be repeated.
 pub record KeepsAll (asked : List HolderRequest) (rows : SavedRows) (entries : List LogEntry) : Type 0 where
   pub kept : Keeps asked rows.kept entries
   pub made : Each (λ listed. listed.number ≤ rows.made) entries

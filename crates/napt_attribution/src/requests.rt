@@ -1,5 +1,4 @@
-//! Requests for who had an external endpoint, and when. The command line has one, or a file has
-//! many.
+//! Requests for who had an external endpoint, and when. The command line has one, a file has many.
 
 use crate::spans::{BadTime, span_of};
 use napt_account::Party;

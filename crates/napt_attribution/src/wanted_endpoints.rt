@@ -9,7 +9,7 @@ use napt_wire::Endpoint;
 use std::alloc::{AllocError, Global};
 use std::collections::{BTreeMap, BTreeSet};
 
-/// The endpoints that requests name, and the addresses whose endpoints they all ask about.
+/// The endpoints that requests name, and the addresses of which they ask about every endpoint.
 #[derive(Drop)]
 pub struct WantedEndpoints {
     /// Addresses with a number, or without one if every number is wanted.

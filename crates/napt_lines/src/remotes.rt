@@ -41,7 +41,7 @@ pub struct Remotes {
     of_bindings: BTreeMap<u64, Vec<Remote>>,
     /// The number of answers among the packets that found no binding or were not for the gateway.
     unmet_answers: u64,
-    /// The number of answers for the gateway, and of those that found no binding, or another one.
+    /// The number of answers for the gateway, and of those without a binding that sent the request.
     answers: u64,
     astray: u64,
     /// The number of the first packet that `astray` counts, or 0.

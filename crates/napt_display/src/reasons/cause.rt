@@ -1,4 +1,4 @@
-//! What causes of drops mean, and what to do if there are many.
+//! The meanings of the causes of drops, and what to do about many drops.
 
 use napt_wire::Cause;
 
@@ -7,9 +7,9 @@ use napt_wire::Cause;
 pub struct CauseText {
     /// The cause in words.
     pub meaning: &'static str,
-    /// What to do if many packets are dropped for it.
+    /// The advice if many packets are dropped for it.
     pub advice: Option<&'static str>,
-    /// The same for replies, if it differs from that for other packets.
+    /// The advice if many replies are dropped for it, if that differs.
     pub advice_of_replies: Option<&'static str>,
 }
 
