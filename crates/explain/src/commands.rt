@@ -31,7 +31,7 @@ const COMPARE: &str =
 are any";
 
 const FOLLOW: &str =
-    "Writes the outside capture in which each reply is sent to its external endpoint: napt makes the same run from it";
+    "Writes an outside capture in which each reply is sent to its external endpoint, so that napt makes the same run";
 
 const CONFIG: &str = "Configuration in TOML [default: the built-in configuration]";
 
@@ -48,10 +48,10 @@ const REQUESTS: &str =
 begins with the number of its line; the status is 1 if nobody had one of the endpoints";
 
 const FROM_LOG: &str =
-    "Answers from this log, or the pieces of one in their order, in place of captures; --config gives the pool";
+    "Answers from this log, or from its pieces in order, instead of captures; --config gives the pool";
 
 const AS_NAPT: &str =
-    "Uses the run that napt makes from the captures, whatever numbers the captured gateway used";
+    "Answers from napt's run over the captures, even if the captured gateway used other numbers";
 
 const HOST: &str =
     "Prints only the packets and bindings with this address or endpoint, inside or external";
@@ -61,12 +61,12 @@ const PAIRS: &str =
 external address: with these it keeps its bindings (at most 256, as many as a configuration has)";
 
 const ENDED: &str =
-    "Bindings of the state that the configuration cannot keep end at the start; all others go on";
+    "Bindings of the state that the configuration does not accept expire at the start; all others continue";
 
-const WRITTEN: &str = "File to write, which nothing else may name";
+const WRITTEN: &str = "File to write, which no other option may name";
 
 const LOG_WRITTEN: &str =
-    "File to write the log to, which may have no text and which nothing else may name";
+    "File to write the log to, which must not contain text and which no other option may name";
 
 const REPORT: &str =
     "File for the report of the same run, as napt writes it; what the captures cannot show is then printed on standard error";
@@ -76,10 +76,10 @@ const PACKETS: &str =
 numbers of the bindings through which it went out and came in";
 
 const NOT_WRITTEN: &str =
-    "Never written: accepted as an option of napt or stream, and refused if that would refuse it";
+    "Accepted as an option of napt or stream, and refused if that program would refuse it; never written";
 
 const RESUMED: &str =
-    "State from which the run goes on, as napt and stream save it [default: a new run]";
+    "State from which the run continues, as napt and stream save it [default: a new run]";
 
 /// The words of a call: first the program's name, and then a command in every case.
 #[derive(Drop)]
@@ -243,7 +243,7 @@ fn captured<'a>(alloc: Global, command: Command<'a>) -> Result<Command<'a>, Allo
             alloc,
             "outside",
             "FILE",
-            "Capture of what comes from the outside [default: no packets]",
+            "Capture of the packets from the outside [default: no packets]",
         ))?
         .arg(value(alloc, "replies", "FILE", REPLIES).conflicts_with("outside")?)
 }
@@ -275,7 +275,7 @@ fn inside<'a>(alloc: Global) -> Arg<'a> {
         alloc,
         "inside",
         "FILE",
-        "Capture of what inside hosts send [default: standard input]",
+        "Capture of the packets that inside hosts send [default: standard input]",
     )
 }
 

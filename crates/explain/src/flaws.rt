@@ -6,7 +6,7 @@ use napt_records::CutFlags;
 use napt_sequential::Input;
 
 /// The message about a capture that ends inside a record.
-const CUT: &str = "is cut: its last packet is not whole, and is left out";
+const CUT: &str = "is cut: its last packet is incomplete, and is ignored";
 
 /// A second, in ns. Shorter steps back are printed only with times, since network cards with
 /// several queues make them.
@@ -97,7 +97,7 @@ impl StepBack {
         self.print_step(rt);
         if form.asks_times() {
             let _ = eprintln!(rt;
-                "  each answer covers this much more time than was asked about, and names everybody who had the endpoint then"
+                "  each answer covers this much more time than was requested, and names everyone who had the endpoint then"
             );
         }
         if self.length <= SECOND {
@@ -108,7 +108,7 @@ impl StepBack {
             _ => "were files joined in the wrong order",
         };
         let _ = eprintln!(rt;
-            "  no binding ends until that time is reached again: {cause}, or was a clock set?"
+            "  no binding expires until that time is reached again: {cause}, or was a clock set?"
         );
     }
 

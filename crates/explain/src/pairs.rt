@@ -40,7 +40,7 @@ pub fn print_pairs<R: Print + Eprint + AllocGlobal>(
     if moved.len() > MOST_PAIRS {
         let many = moved.len();
         let _ = eprintln!(rt;
-            "explain: {many} hosts would need a pair, and a configuration has at most {MOST_PAIRS}: the bindings of the others cannot be kept"
+            "explain: {many} hosts would need a pair, and a configuration has at most {MOST_PAIRS}: the bindings of the other hosts cannot be accepted"
         );
     }
     page.end(rt)

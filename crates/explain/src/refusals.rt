@@ -48,7 +48,7 @@ pub fn print_state<R: Eprint>(rt: &R, path: &str, fault: &StateFault) -> Exit {
 
 /// Prints that the accounts of the state at a path cannot be those of a log, and returns the stop.
 pub fn print_accounts<R: Eprint>(rt: &R, path: &str) -> Exit {
-    let _ = eprintln!(rt; "the state {path} is refused: numbers that no log has");
+    let _ = eprintln!(rt; "the state {path} is refused: its accounts cannot be those of one log");
     Exit::Printed(Stop::File(FileRole::Resume))
 }
 

@@ -49,7 +49,7 @@ impl fmt::Display for RowFault {
             }
             RowFault::Saved(LogFileFault::Unread(error)) => write!(f, "{error}"),
             RowFault::Saved(LogFileFault::Wrong(why)) => f.write_str(why),
-            RowFault::Saved(LogFileFault::Torn) => f.write_str("it breaks off, and is left out"),
+            RowFault::Saved(LogFileFault::Torn) => f.write_str("it is incomplete, and is ignored"),
             RowFault::Number { next, given } if given > next => write!(
                 f,
                 "binding: expected {next}, found {given}: earlier rows, or an earlier piece, are missing"

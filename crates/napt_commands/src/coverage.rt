@@ -44,11 +44,11 @@ impl Coverage {
     pub fn print<R: Eprint>(self, rt: &R) {
         if self.from_inside == 0 {
             let _ = eprintln!(rt;
-                "explain: no packet comes from inside: figures of bindings mean nothing"
+                "explain: no packet comes from inside: figures of bindings have no meaning"
             );
         } else if self.from_outside == 0 {
             let _ = eprintln!(rt;
-                "explain: no packet comes from outside: connections count as never answered, and end early"
+                "explain: no packet comes from outside: connections count as never answered, and expire early"
             );
         }
         let all = self.from_inside.saturating_add(self.from_outside);
@@ -81,7 +81,7 @@ impl Coverage {
         let (span, longest) = (span / SECOND, self.longest / SECOND);
         let _ = match is_half {
             true => eprintln!(rt;
-                "explain: {living} of {made} bindings have not ended when the captures do, after {span} s: the greatest number at once may be higher"
+                "explain: {living} of {made} bindings are live when the captures end, after {span} s: the greatest number at once may be higher"
             ),
             false => eprintln!(rt;
                 "explain: the captures span {span} s, less than the {longest} s that a binding lives after its last packet: \

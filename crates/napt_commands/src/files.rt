@@ -19,7 +19,7 @@ pub fn print_unwritten<R: Eprint>(rt: &R, name: &str, path: &str, error: &io::Er
 
 /// Prints that a file cannot be written if the system gives no reason, and returns the stop.
 pub fn unexplained<R: Eprint>(rt: &R, name: &str, path: &str) -> Exit {
-    let _ = eprintln!(rt; "explain: {name} {path}: it cannot be written whole");
+    let _ = eprintln!(rt; "explain: {name} {path}: it cannot be written completely");
     unwritten()
 }
 

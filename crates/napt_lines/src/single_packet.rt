@@ -117,7 +117,9 @@ impl<R: Print + Eprint + AllocGlobal> CommandOutput<R> for SinglePacket<'_> {
     fn end(self, rt: &R, page: &mut Page, ending: &EndedRun<'_>) -> Result<(), Exit> {
         if !self.is_found {
             let (number, packets) = (self.number, ending.packets);
-            let _ = eprintln!(rt; "explain: --only {number}: there are {packets} packets");
+            let _ = eprintln!(rt;
+                "explain: --only {number}: the captures contain {packets} packets"
+            );
             return Err(Exit::Printed(Stop::Usage));
         }
         if !self.is_chosen {

@@ -55,6 +55,6 @@ impl UnmatchedSelection {
             Some(number) => eprint!(rt; "explain: --host {address}:{number}: "),
             None => eprint!(rt; "explain: --host {address}: "),
         };
-        let _ = eprintln!(rt; "no packet and no binding has it");
+        let _ = eprintln!(rt; "no packet or binding matches");
     }
 }

@@ -53,7 +53,7 @@ pub fn print_new_entries(
 pub fn print_ended(rt: &impl Eprint, name: &str, ended: u64) {
     if ended > 0 {
         let _ = eprintln!(rt;
-            "{name}: bindings of the state that the configuration cannot keep, and that end here: {ended}"
+            "{name}: {ended} of the bindings of the state expire now: the configuration does not accept them"
         );
     }
 }
@@ -229,7 +229,7 @@ impl ProgramCall {
         if is_cut {
             let (name, side) = (self.name, role.name());
             let _ = eprintln!(rt;
-                "{name}: the capture {side} is cut: its last packet is not whole, and is left out"
+                "{name}: the capture {side} is cut: its last packet is incomplete, and is ignored"
             );
         }
     }
@@ -262,7 +262,7 @@ impl fmt::Display for LogRefusal {
             ),
             LogRefusal::Longer(bytes) => write!(
                 f,
-                "goes on after the {bytes} bytes that the state records: cut it there (truncate -s {bytes}), or name a new file"
+                "continues after the {bytes} bytes that the state records: cut it there (truncate -s {bytes}), or name a new file"
             ),
         }
     }

@@ -49,8 +49,8 @@ Examples:
 
 --verbose adds a second line on standard error, which a terminal gets anyway: the
 option, its file, and what is wrong with it (in a configuration, with the place).
-With --end-misfits the bindings of the state that the configuration cannot keep end
-at its time, and one line on standard error counts them; all others go on.
+With --end-misfits the bindings that the configuration does not accept expire at
+the state's time, and one line on standard error counts them; all others continue.
 
 Exit status, and the line on standard error that says why:
   0  done, without a line
@@ -122,27 +122,27 @@ const OPTIONS: [(&str, &str); 8] = [
     ),
     (
         "resume",
-        "State from which the run goes on, as written by --save [default: a new run]",
+        "State from which the run continues, as written by --save [default: a new run]",
     ),
     (
         "inside",
-        "Capture of what inside hosts send [default: standard input]",
+        "Capture of the packets that inside hosts send [default: standard input]",
     ),
     (
         "outside",
-        "Capture of what comes from the outside [default: no packets]",
+        "Capture of the packets from the outside [default: no packets]",
     ),
     (
         "to-outside",
-        "Capture of what leaves for the outside [default: standard output]",
+        "Capture of the packets that leave for the outside [default: standard output]",
     ),
     (
         "to-inside",
-        "Capture of what goes to inside hosts [default: not written]",
+        "Capture of the packets that go to inside hosts [default: not written]",
     ),
     (
         "report",
-        "Counts of what became of the packets, and the live bindings [default: not written]",
+        "Counts of the packets by outcome, and the live bindings [default: not written]",
     ),
     (
         "save",

@@ -157,11 +157,11 @@ impl fmt::Display for StateRefusal {
         match self {
             StateRefusal::Line(line) => write!(
                 f,
-                "line {line} is not one of a state, or is missing"
+                "line {line} is not a line of a state, or is missing"
             ),
             StateRefusal::NotUtf8(line) => write!(f, "line {line} is not UTF-8"),
             StateRefusal::Binding(misfit) => {
-                f.write_str("the configuration cannot keep a binding: ")?;
+                f.write_str("the configuration does not accept a binding: ")?;
                 f.write_str(misfit_reason(*misfit))
             }
         }

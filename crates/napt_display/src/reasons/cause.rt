@@ -76,12 +76,12 @@ impl CauseText {
                     "`quota`, the timers or the pool leave their hosts without a binding, or the inside capture lacks what was sent before",
                 ),
                 ..CauseText::with(
-                    "nobody inside sent from there, or longer ago than the timer",
+                    "no inside host sent from there, or the timer has expired since",
                     "the inside capture lacks what was sent before, or `pool` is not that of the gateway that was captured",
                 )
             },
             Cause::Filtered => CauseText::with(
-                "the filter does not let this remote in: nothing was sent to it",
+                "the filter drops packets from this remote, since nothing was sent to it",
                 "the remotes were not sent to: `filter = \"independent\"` would let them in",
             ),
             Cause::OverQuota => CauseText::with(
@@ -89,7 +89,7 @@ impl CauseText {
                 "raise `quota`, or leave it out: then there is no limit",
             ),
             Cause::NoPort => CauseText::with(
-                "every number that may stand for it is taken at this external address",
+                "every number that may replace it is in use at this external address",
                 "the pool is too small: add an address",
             ),
         }

@@ -101,20 +101,20 @@ fn what_is_no_state_is_refused(rt: HostRuntime) -> Result<(), Fail> {
         "clock 1\nbinding udp 10.0.0.2 5 203.0.113.1 5 1 1 1 2305843009213693953 0 1 1\n"
             "line 2: number '2305843009213693953'";
         "clock 1\nbinding udp 10.0.0.2 5 203.0.113.1 5 1 1 1 0 0 1 1\nend 1 0\n"
-            "line 3: numbers that no log can have";
+            "line 3: accounts that cannot be those of one log";
         "clock 1\nlog 1 0 0 0\nbinding udp 10.0.0.2 5 203.0.113.1 5 1 2 1 0 0 1 1\nend 1 0\n"
-            "line 4: numbers that no log can have";
+            "line 4: accounts that cannot be those of one log";
         "clock 1\nlog 1 0 0 0\nbinding udp 10.0.0.2 5 203.0.113.1 5 1 1 2 0 0 1 1\nend 1 0\n"
-            "line 4: numbers that no log can have";
+            "line 4: accounts that cannot be those of one log";
         "clock 1\nlog 2 0 0 0\nbinding udp 10.0.0.2 5 203.0.113.1 5 1 1 1 0 0 1 1\nbinding udp 10.0.0.2 6 203.0.113.1 6 1 1 1 0 0 1 1\nend 2 0\n"
-            "line 5: numbers that no log can have";
+            "line 5: accounts that cannot be those of one log";
         "clock 1\nlog 2 0 0 0\nbinding udp 10.0.0.2 5 203.0.113.1 5 1 1 1 0 0 1 1\nbinding udp 10.0.0.2 6 203.0.113.1 5 1 2 1 0 0 1 1\nend 2 0\n"
-            "line 5: numbers that no log can have";
-        "clock 1\nheld udp 10.0.0.2 5 203.0.113.1 5 2\nend 1 0\n" "line 3: numbers that no log can have";
+            "line 5: accounts that cannot be those of one log";
+        "clock 1\nheld udp 10.0.0.2 5 203.0.113.1 5 2\nend 1 0\n" "line 3: accounts that cannot be those of one log";
         "clock 1\nheld udp 10.0.0.2 5 203.0.113.1 5 1\nflow 10.0.0.2 5000 1 0 0 0 0 0\n"
             "line 3: a flow that belongs to no binding";
         "clock 1\nlog 1 0\nentry 2 binding udp 10.0.0.2 5 203.0.113.1 5 1 2 3 4 5 6\nend 0 0 1\n"
-            "line 4: numbers that no log can have";
+            "line 4: accounts that cannot be those of one log";
         "clock 1\nentry 1 binding\n" "line 2: too many words, or too few";
         "clock 1\nlog 0 0\nlog 0 0\n" "line 3: first word 'log'";
         "clock 1\nlog 0 0\nbinding udp 10.0.0.2 5000 203.0.113.1 1 1\n" "line 3: first word 'binding'";
