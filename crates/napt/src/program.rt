@@ -43,8 +43,8 @@ pub fn serve<R: ProgramHost>(
     serve_words(rt, streams, call, words, reason)
 }
 
-/// Serves these arguments, of which the first is the program's name. If it succeeds, they were
-/// understood; if they are understood, it fails only due to the files that they name.
+/// Serves these arguments, of which the first is the program's name. Succeeds only if they are
+/// understood, and fails only with a stop that they can cause.
 pub fn serve_words<R: ProgramHost>(
     rt: &R,
     streams: StandardStreams,

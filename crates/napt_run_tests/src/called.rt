@@ -1,5 +1,6 @@
-//! What no contract says of the calls that `napt` and `stream` make: their workers step at the same time on threads of
-//! their own, a worker that waits does not delay the others, and each asks the gate that the call is given.
+//! Properties, beyond the contracts, of the calls that `napt` and `stream` make: their workers step
+//! at the same time on their own threads, a worker that waits does not delay the others, and each
+//! asks the gate that the call is given.
 
 use crate::calls::TestRuntime;
 use crate::captures::{Call, HEADER, RunInput, RunOutput, captured, push_packet};
@@ -14,7 +15,8 @@ use napt_wire::Endpoint;
 use std::sync::Arc;
 use std::test::Fail;
 
-/// Returns what a call writes under a gate, and the gate's count. The packets come from inside, with these endpoints.
+/// Returns the outputs of a call under a gate, and the gate's count. The packets come from inside,
+/// with these endpoints.
 fn under_gate(
     rt: &impl TestRuntime,
     call: Call,

@@ -1,4 +1,5 @@
-//! What no contract says of the cost of a run over captures that are read in steps: packets share flushes.
+//! A property beyond the contracts of a run over captures that are read in steps: packets share
+//! flushes.
 
 use crate::captures::{ALL_TIMES, HEADER, sent_in};
 use crate::gates::{GateMode, Hold};
@@ -10,7 +11,7 @@ use std::io;
 use std::io::Write;
 use std::test::Fail;
 
-/// Takes everything that is written, and counts its bytes and its flushes.
+/// Accepts everything that is written, and counts its bytes and its flushes.
 #[derive(Drop)]
 struct Counter {
     bytes: usize,

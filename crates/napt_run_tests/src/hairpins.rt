@@ -1,5 +1,6 @@
-//! What no contract says of runs over workers: they end, on threads that step at the same time and ask the gate that
-//! they are given. The outcomes of their packets are in `tests/runs/legs.txt`, at the top of the repository.
+//! Properties of runs over workers, beyond the contracts: they end, on threads that step at the
+//! same time and ask the gate that they are given. The outcomes of their packets are in
+//! `tests/runs/legs.txt`, at the top of the repository.
 
 use crate::calls::{PacketEnds, TestRuntime, inputs_of, workers_run};
 use crate::gates::{GateMode, Hold, MOST_ASKS};

@@ -1,4 +1,4 @@
-//! A run that goes on from the state of an earlier one.
+//! A run that continues from the state of an earlier run.
 
 ghost use Rattle.std.specs.Prelude.{◌≡◌, []};
 
@@ -14,7 +14,7 @@ use std::alloc::Global;
 use std::ops::Range;
 use std::test::Fail;
 
-/// What a run writes, and the state after it.
+/// The outputs of a run, and the state after it.
 #[derive(Drop)]
 struct ResumedOutput {
     to_outside: Vec<u8>,

@@ -1,4 +1,5 @@
-//! What no contract says: while inputs are read, all answers of workers that are there are taken.
+//! A property beyond the contracts: while inputs are read, all answers of workers that are there
+//! are taken.
 
 ghost use Rattle.std.specs.Prelude.{⊤, MatchResult};
 
@@ -20,7 +21,8 @@ use std::test::Fail;
 /// The input before which the first worker has answered the legs of two messages. After it that worker is looked at.
 const LOOKED_AFTER: u64 = 48;
 
-/// The number of legs in these two messages: the first input's, and those of the sixteen after it.
+/// The number of legs in these two messages: the legs of the first input, and of the sixteen after
+/// it.
 const ANSWERED: u64 = 17;
 
 /// Packets of one host, and the number of outcomes that had left when the input after `LOOKED_AFTER` was requested.
@@ -105,9 +107,9 @@ impl OutcomeSink for Count {
     }
 }
 
-/// With rings of 64 slots, the dispatcher sends a worker sixteen legs in a message, looks at the worker whenever it
-/// does, and takes all its answers: so they have left before the next input is requested. A dispatcher that takes one
-/// answer, or looks at no worker, delays them.
+/// With rings of 64 slots, the dispatcher sends a worker sixteen legs in a message, looks at the
+/// worker whenever it does, and takes all its answers. Therefore they have left before the next
+/// input is requested. A dispatcher that takes one answer, or looks at no worker, delays them.
 #[test]
 fn answers_are_taken_while_inputs_are_read(rt: HostRuntime) -> Result<(), Fail> {
     let alloc = rt.alloc();

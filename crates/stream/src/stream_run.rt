@@ -306,8 +306,7 @@ fn ended_with_log<T: Write + Drop, F: SeekableFile + Drop, R: Files + AllocGloba
     })
 }
 
-/// Returns the contents of the state that is saved, if any. Fails with `MEMORY` if memory is
-/// refused.
+/// Returns the contents of the saved state, if any. Fails with `MEMORY` if memory is refused.
 fn contents(
     alloc: Global,
     config: &Config,

@@ -1,4 +1,4 @@
-//! Packets, and the two ways to update a checksum.
+//! Reads and changes packets, and updates checksums in both ways.
 
 use crate::CallFault;
 use crate::play::line::{Line, print_answer};
@@ -71,7 +71,7 @@ fn revert_inner(packet: &mut Packet, way: Way, end: Endpoint) -> Result<(), Call
     Ok(())
 }
 
-/// `fix_check CHECK OLD NEW` or `fix_check_udp CHECK OLD NEW`
+/// `fix_check CHECK OLD NEW` or `fix_check_udp CHECK OLD NEW`: prints the updated checksum.
 pub(crate) fn print_check<R: Print>(line: &mut Line<'_, R>, call: &str) -> Result<(), CallFault> {
     let (check, old, new) = (line.short()?, line.short()?, line.short()?);
     let fixed = if call == "fix_check" {

@@ -10,8 +10,8 @@ use napt_config::{Config, PortBlock};
 use napt_table::{OutboundPacket, Table};
 use napt_wire::Protocol;
 
-/// `table ADDRESS CONFIGURATION`: makes a table of that address, in a box: a function that owns a table itself takes
-/// minutes to prove.
+/// `table ADDRESS CONFIGURATION`: makes a table of that address, in a box, since a function that
+/// owns a table takes minutes to prove.
 pub(crate) fn begun<R: Print>(line: &mut Line<'_, R>) -> Result<Box<Table>, CallFault> {
     let address = line.long()?;
     let config = Config::read(line.alloc, &line.bytes()?).map_err(|_| CallFault::Config)?;
@@ -73,7 +73,8 @@ pub(crate) fn is_number(protocol: Protocol, number: u16) -> bool
     }
 }
 
-/// `outbound NOW PROTOCOL INSIDE REMOTE FLAGS`, and the first number and the size of the host's block, if it has one.
+/// `outbound NOW PROTOCOL INSIDE REMOTE FLAGS [FIRST SIZE]`: prints the answer. FIRST and SIZE are
+/// of the host's block.
 fn outbound<R: Print>(line: &mut Line<'_, R>, table: &mut Table, now: u64) -> Result<(), CallFault>
     requires { table.old.at ≤ now }
 {
@@ -92,7 +93,7 @@ fn outbound<R: Print>(line: &mut Line<'_, R>, table: &mut Table, now: u64) -> Re
     print_answer(line.rt, &answer.map_err(|_| CallFault::Call)?)
 }
 
-/// `inbound NOW PROTOCOL NUMBER REMOTE FLAGS`
+/// `inbound NOW PROTOCOL NUMBER REMOTE FLAGS`: prints the answer.
 fn inbound<R: Print>(line: &mut Line<'_, R>, table: &mut Table, now: u64) -> Result<(), CallFault>
     requires { table.old.at ≤ now }
 {

@@ -1,4 +1,4 @@
-//! Reading a capture and a configuration.
+//! Reads a capture and a configuration.
 
 use crate::refused::CallResult;
 use napt_capture::{CaptureFault, Watched, read_capture};

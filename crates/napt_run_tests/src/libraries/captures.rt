@@ -88,7 +88,7 @@ fn packet(alloc: Global) -> Result<Record, Fail>
     })
 }
 
-/// The result of writing to a disk, and what the disk contains.
+/// The result of writing to a disk, and the contents of the disk.
 type DiskOutcome = (Result<(), WriteFault>, Vec<u8>);
 
 /// Writes to a disk that fails as planned.
@@ -100,7 +100,7 @@ macro_rules! written {
     }};
 }
 
-/// Checks what a disk contains after writing, and the result of writing.
+/// Checks the contents of a disk after writing, and the result of writing.
 fn assert_written(
     rt: &impl Abort,
     written: DiskOutcome,

@@ -19,7 +19,7 @@ fn is_inside(links: &[Links], node: u32) -> bool
         && (links[at].after as usize) < links.len()
 }
 
-/// Returns whether the two nodes are next to one another, by the links of both.
+/// Returns whether the two nodes are next to each other, by the links of both.
 fn are_neighbours(links: &[Links], before: u32, after: u32) -> bool {
     match (links.get(before as usize), links.get(after as usize)) {
         (Some(one), Some(other)) => one.after == after && other.before == before,
@@ -58,7 +58,8 @@ fn change(
     Ok(())
 }
 
-/// Node 0 stays first and node 1 last. 600 times, one of 20 others is removed or inserted, as the numbers say.
+/// Node 0 remains first and node 1 last. 600 times, one of 20 others is removed or inserted, as the
+/// numbers say.
 #[test]
 fn row_and_list_of_nodes_agree(rt: HostRuntime) -> Result<(), Fail> {
     let end = Links {

@@ -21,7 +21,7 @@ const WITH_LOG: &str = "clock 1800000000000000000\n\
     flow 198.51.100.7 443 1799999999000000001 0 0 0 0 0\n\
     end 3 1\n";
 
-/// As an earlier version wrote it, and as it is written again.
+/// A state as an earlier version wrote it, and as it is written again.
 const EARLIER: &str = "clock 1800000000000000000\n\
     redirect tcp 10.0.0.9 80 203.0.113.1 8080 0\n\
     binding udp 10.0.0.2 5001 203.0.113.1 1025 1799999999000000001\n\
@@ -36,7 +36,7 @@ const AGAIN: &str = "clock 1800000000000000000\n\
     binding udp 10.0.0.2 5001 203.0.113.1 1025 1799999999000000001 17 5 1 2 9 10\n\
     end 2 0\n";
 
-/// Returns what is written of the state in a text, or why the text is refused.
+/// Returns the text that is written for the state in a text, or why the text is refused.
 fn written(alloc: Global, text: &[u8]) -> io::Result<Vec<u8>> {
     let mut written = Vec::new(alloc);
     match read_state(alloc, text) {

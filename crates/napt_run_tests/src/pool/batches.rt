@@ -1,5 +1,5 @@
-//! Many items in one message: they are answered in order, alone or together, and a worker asks the gate and stops among
-//! them as among items that are sent alone.
+//! Many items in one message are answered in order, alone or together, and a worker asks the gate
+//! and stops among them as among items that are sent alone.
 
 use super::checked::CheckedPool;
 use super::rounds::{Keepers, keepers};
@@ -49,7 +49,7 @@ fn alone(pool: &mut Keepers<impl TestRuntime>) -> Option<u64> {
     }
 }
 
-/// Checks that the one worker of a pool has kept these items, and that these answers remain.
+/// Checks that the one worker of a pool has retained these items, and that these answers remain.
 fn assert_ended<R: TestRuntime>(rt: &R, pool: Keepers<R>, items: &[u64], answers: &[u64]) {
     let ended = pool.closed();
     assert_eq!(rt; ended.len(), 1);

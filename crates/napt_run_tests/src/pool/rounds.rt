@@ -11,7 +11,7 @@ use std::sync::{Arc, Wait};
 use std::test::Fail;
 use std::thread::Threads;
 
-/// Offers two items to one worker. Under every schedule, its machine has kept both, in order.
+/// Offers two items to one worker. Under every schedule, its machine has retained both, in order.
 fn two_kept<R: Threads + Wait + Copy + Send + 'static>(
     rt: &R,
     alloc: Global,
@@ -131,8 +131,9 @@ fn ring_rounds(rt: HostRuntime) -> Result<(), Fail> {
     Ok(())
 }
 
-/// A pool of one worker is filled and closed at once: its item ring has room for Close in addition to all items. Mostly
-/// the worker has not begun when it is closed, so that all items are in the ring.
+/// A pool of one worker is filled and closed at once: its item ring has room for Close in addition
+/// to all items. Usually the worker has not begun when it is closed, so that all items are in the
+/// ring.
 #[test]
 fn full_pool_closes(rt: HostRuntime) -> Result<(), Fail> {
     for capacity in [1u16, 2, 64] {

@@ -1,4 +1,4 @@
-//! What tests observe of the threads of a pool: a gate, and machines that count their steps.
+//! The means to observe the threads of a pool: a gate, and machines that count their steps.
 
 use super::MOST_LOOKS;
 use napt_pool::{Gate, Machine};
