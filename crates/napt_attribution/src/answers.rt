@@ -1,5 +1,5 @@
-//! The answers to who had an external endpoint, and when (RFC 6888, section 4; RFC 6269, section 12). `napt_log_text`
-//! defines the holders and the lines.
+//! The answers to who had an external endpoint, and when (RFC 6888, section 4; RFC 6269, section
+//! 12). `napt_log_text` defines the holders and the lines.
 
 use crate::owners::{add_owners, add_party};
 use crate::requests::HolderRequest;

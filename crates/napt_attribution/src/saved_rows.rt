@@ -36,8 +36,8 @@ type ExternalEnd = (Protocol, u32, u16);
 #[derive(Drop)]
 pub struct SavedRows {
     kept: KeptEntries,
-    /// The numbers of the entries without an end that the piece has neither repeated nor ended, by their external
-    /// endpoints.
+    /// The numbers of the entries without an end that the piece has neither repeated nor ended, by
+    /// their external endpoints.
     unrepeated: BTreeMap<ExternalEnd, u64>,
     /// The number of the last binding.
     made: u64,

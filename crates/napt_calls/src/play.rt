@@ -6,9 +6,9 @@
 //! decimal: bytes one by one, times in ns, an address as one number, an endpoint as its address and
 //! its number. An answer is printed by `{:?}`.
 //!
-//! [`packets`] reads and changes the current packet, [`table`] calls the current table, [`translators`] the current
-//! translators, over the current packet, [`captures`] reads and writes captures, [`merging`] merges two, [`settings`]
-//! reads configurations, and [`logs`] logs runs.
+//! [`packets`] reads and changes the current packet, [`table`] calls the current table,
+//! [`translators`] the current translators, over the current packet, [`captures`] reads and writes
+//! captures, [`merging`] merges two, [`settings`] reads configurations, and [`logs`] logs runs.
 
 mod captures;
 mod line;

@@ -11,8 +11,8 @@ use std::num::NonZeroU32;
 
 const NANOSECONDS_A_SECOND: u64 = 1_000_000_000;
 
-/// Appends the beginning of a log, or of a piece of one: the names of its fields, and a row for each entry that has not
-/// ended. Fails only if memory is refused.
+/// Appends the beginning of a log, or of a piece of one: the names of its fields, and a row for
+/// each entry that has not ended. Fails only if memory is refused.
 pub fn add_opening(config: &Config, log: &OpenLog, text: &mut String) -> Result<(), AllocError>
     ensures { OnOk result (string_bytes text.new ≡ string_bytes text.old
         ++ logs.opening_text config.now log.now) }

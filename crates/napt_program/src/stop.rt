@@ -44,8 +44,8 @@ pub enum Stop {
 pub enum LogRefusal {
     /// The run starts without a state, but there is text or a piece.
     Anew,
-    /// The state was saved without a log, or with a log that was not in a file, or in pieces if this
-    /// one is not.
+    /// The state was saved without a log, or with a log that was not in a file, or in pieces if
+    /// this one is not.
     Untold,
     /// It is not the state's log, which has this length in bytes: it is shorter, or the last row of
     /// that log does not end there.

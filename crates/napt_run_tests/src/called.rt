@@ -74,8 +74,8 @@ fn others_of_a_call_go_on(rt: HostRuntime) -> Result<(), Fail> {
     assert_ends(&rt, THREE_ADDRESSES, &packets, GateMode::AfterThird, end)
 }
 
-/// The gate refuses the fourth of five packets of 10.0.0.3, whose worker is the second, a million times. By then `napt`
-/// has written nothing, and `stream` at most the three packets before it.
+/// The gate refuses the fourth of five packets of 10.0.0.3, whose worker is the second, a million
+/// times. By then `napt` has written nothing, and `stream` at most the three packets before it.
 #[test]
 fn gate_of_a_call_stays_shut(rt: HostRuntime) -> Result<(), Fail> {
     let packets = [(host(3, 5000), RESOLVER); 5];

@@ -32,8 +32,8 @@ pub(crate) enum Device {
     Log,
 }
 
-/// Moves at most `most` bytes at a time, which is not 0, and fails at a call, counted from 1, or
-/// never if that is 0.
+/// Moves at most `most` > 0 bytes at a time, and fails at a call, counted from 1, or never if it is
+/// 0.
 pub(crate) fn at_most(most: usize, call: u64, trouble: InjectedFault) -> FaultPlan
     ensures { 0 < result.most }
 {
@@ -72,8 +72,8 @@ pub(crate) enum Call {
     StreamsWithLog,
 }
 
-/// The arguments of a run: the call, both captures, and the plans of devices that fail or move few bytes at a time.
-/// Without settings the configuration is the built-in one.
+/// The arguments of a run: the call, both captures, and the plans of devices that fail or move few
+/// bytes at a time. Without settings the configuration is the built-in one.
 #[derive(Clone, Copy)]
 pub(crate) struct RunInput<'a> {
     pub(crate) call: Call,

@@ -1,5 +1,4 @@
-//! A property beyond the contracts: while inputs are read, all answers of workers that are there
-//! are taken.
+//! A property beyond the contracts: while inputs are read, all answers that are there are taken.
 
 ghost use Rattle.std.specs.Prelude.{⊤, MatchResult};
 
@@ -21,8 +20,7 @@ use std::test::Fail;
 /// The input before which the first worker has answered the legs of two messages. After it that worker is looked at.
 const LOOKED_AFTER: u64 = 48;
 
-/// The number of legs in these two messages: the legs of the first input, and of the sixteen after
-/// it.
+/// The number of legs in these two messages: those of the first input and of the sixteen after it.
 const ANSWERED: u64 = 17;
 
 /// Packets of one host, and the number of outcomes that had left when the input after `LOOKED_AFTER` was requested.

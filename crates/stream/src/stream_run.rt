@@ -59,8 +59,8 @@ pub struct StreamRemainder {
 }
 
 impl<'a> StreamRun<'a> {
-    /// Warns on standard error if the state has no accounts of its bindings, so that the log, if there
-    /// is one, begins new entries for them. Fails with `MEMORY` if memory is refused.
+    /// Warns on standard error if the state has no accounts of its bindings, so that the log, if
+    /// there is one, begins new entries for them. Fails with `MEMORY` if memory is refused.
     pub fn print_new_entries<R: Eprint + AllocGlobal>(
         &self,
         rt: &R,

@@ -1,5 +1,5 @@
-//! A run over captures that are read at once or in steps: with a growth of memory refused, and with each call of each
-//! device refused in turn.
+//! A run over captures that are read at once or in steps: with a growth of memory refused, and with
+//! each call of each device refused in turn.
 
 ghost use Rattle.std.specs.Prelude.{◌<◌};
 

@@ -6,8 +6,7 @@ use std::test::Fail;
 /// The number after the greatest number of a set.
 const END: u32 = 65_536;
 
-/// Returns the first absent number from a number on, among all numbers and among the numbers below
-/// an end.
+/// Returns the first absent numbers from a number on: of all numbers, and of those below an end.
 fn absent(set: &BitSet, from: u32, end: u32) -> [Option<u32>; 2] {
     [
         set.first_absent(from, END),

@@ -19,8 +19,7 @@ pub(crate) struct CheckedPool<R, M: Machine, G: Gate> {
     ghost many: { length (initial_machines pool) ≡ workers },
 }
 
-/// Returns the answer that a call takes, once it is there, or `None` if it does not come for a long
-/// time.
+/// Returns the answer that a call takes, or `None` if it does not come for a long time.
 macro_rules! soon {
     ($taken:expr) => {{
         for _ in 0..MOST_LOOKS {

@@ -1,5 +1,4 @@
-//! A wait ends when its condition is true, no matter how long that takes, and sleeps only if it
-//! takes long.
+//! A wait ends when its condition is true, after any time, and sleeps only if that takes long.
 
 use napt_pool::Backoff;
 use std::rt::Files;
@@ -30,8 +29,7 @@ fn waits_for_a_thread(rt: HostRuntime) -> Result<(), Fail> {
     Ok(())
 }
 
-/// Returns how often this thread has slept, as Linux counts it. A thread that yields does not
-/// sleep.
+/// Returns how often this thread has slept, as Linux counts it. Yielding is not sleeping.
 fn sleeps<R: Files + AllocGlobal>(rt: &R) -> Result<u64, Fail> {
     let status = fs::read_to_string(rt, "/proc/thread-self/status")?;
     for line in status.lines() {

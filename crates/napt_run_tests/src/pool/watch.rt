@@ -35,8 +35,8 @@ pub(crate) struct Watch {
     steps: Vec<AtomicU64>,
     /// The number of steps that saw all machines in a step of the same number.
     pub(crate) met: AtomicU64,
-    /// The numbers of requests to the gate, and of those that were wrong: for another turn than that of the worker's
-    /// next step, or with another size.
+    /// The numbers of requests to the gate, and of those that were wrong: for another turn than
+    /// that of the worker's next step, or with another size.
     pub(crate) asks: AtomicU64,
     pub(crate) strange: AtomicU64,
     /// The number of sizes that the gate was shown. The size of each worker's machine is the number of its steps.
@@ -131,8 +131,8 @@ impl Gate for Watch {
 /// The item that each machine refuses, as it does without memory.
 pub(crate) const REFUSED: u64 = 99;
 
-/// Answers each item with itself, or refuses it as if there were no memory. Its steps and its drop are counted, and its
-/// size is the number of its steps.
+/// Answers each item with itself, or refuses it as if there were no memory. Its steps and its drop
+/// are counted, and its size is the number of its steps.
 pub(crate) struct Echo {
     place: usize,
     refuses: bool,
