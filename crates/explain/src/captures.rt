@@ -69,7 +69,8 @@ impl RefusedRun<'_> {
         Err(self.refuse(rt, side, &head, fault, Some(error)))
     }
 
-    /// Reads the header of a side's capture, which begins with these bytes. If it is refused, prints why.
+    /// Reads the header of a side's capture, which begins with these bytes, or prints why it is
+    /// refused.
     pub fn open<'a, R: Eprint + AllocGlobal, S: Source>(
         self,
         rt: &R,

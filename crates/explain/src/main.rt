@@ -165,7 +165,7 @@ whether the gateway used the same numbers, or give --as-napt"
     explained_run(rt, streams, options, Some(config))
 }
 
-/// Reads the captures, and the configuration unless it has been read, and runs the command over them.
+/// Reads the captures, and the configuration unless it has been read, and runs the command.
 fn explained_run<R: Files + Input + Print + Eprint + AllocGlobal>(
     rt: &R,
     streams: StandardStreams,

@@ -46,7 +46,7 @@ pub fn print_pairs<R: Print + Eprint + AllocGlobal>(
     page.end(rt)
 }
 
-/// Returns the hosts with live bindings that a configuration would move, each with its external address.
+/// Returns the hosts with live bindings that a configuration would move, with their addresses.
 fn moved_hosts(
     alloc: Global,
     config: &Config,

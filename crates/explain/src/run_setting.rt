@@ -126,7 +126,7 @@ impl<'a> RunSetting<'a> {
         against.print(rt, options.outside, [name, other])
     }
 
-    /// Explains the packets as they are read, or after all have been read if replies follow the run.
+    /// Explains the packets as they are read, or all of them at the end if replies follow the run.
     fn explain_run<R: Files + Print + Eprint + AllocGlobal, A: Source, B: Source>(
         self,
         rt: &R,

@@ -55,7 +55,7 @@ impl<'a, W: Write + Drop> LogFile<'a, W> {
         self.rows.write_if_full(rt)
     }
 
-    /// Writes the rows of the bindings that are live at the end, and everything that has not been written yet.
+    /// Writes the rows of the bindings that are live at the end, after all rows not written yet.
     pub fn finish<R: Files + Print + Eprint>(
         &mut self,
         rt: &R,

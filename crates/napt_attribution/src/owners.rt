@@ -1,4 +1,4 @@
-//! The owners of an external endpoint by the configuration alone, if each inside host has a block (RFC 7422).
+//! The owners of an external endpoint by the configuration, if it has blocks (RFC 7422).
 
 use crate::answers::{AnswerBasis, Basis, mark};
 use crate::blocks::{MOST_BLOCKS, host_of_block, numbers_of};

@@ -52,7 +52,7 @@ impl HolderRequest {
     }
 }
 
-/// Reads the requests of a file. Prints why the file cannot be read, or which line is not a request.
+/// Reads the requests of a file. Prints why the file cannot be read, or which line is no request.
 pub fn requests_at<R: Files + Input + Eprint + AllocGlobal>(
     rt: &R,
     path: &str,

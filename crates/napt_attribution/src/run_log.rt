@@ -1,4 +1,4 @@
-//! The files that `explain log` writes about a run: its log and, if they are requested, its packets and its report.
+//! The files that `explain log` writes: the log and, if requested, the packets and the report.
 
 use crate::blocks::print_needless;
 use crate::log_file::{LogFile, LogOpening, begin_log};

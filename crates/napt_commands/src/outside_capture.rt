@@ -1,4 +1,4 @@
-//! The kinds of outside capture: packets as the gateway received them, or replies that follow the run.
+//! The kinds of outside capture: packets that the gateway received, or replies that follow the run.
 
 use napt_config::Config;
 use napt_sequential::{Input, RunFault, followed};

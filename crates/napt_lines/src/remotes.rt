@@ -17,7 +17,8 @@ const FEW: usize = 1024;
 /// The greatest number of remotes of a binding. Nothing is known about a binding that sent to more.
 const MOST: usize = 64;
 
-/// A remote endpoint: its protocol, its address, and its port, 0 for echoes; or a whole address, without a protocol.
+/// A remote endpoint: its protocol, address and port, 0 for echoes; or only an address, without
+/// both.
 type Remote = (Option<Protocol>, u32, u16);
 
 /// The packets that inside hosts sent to a remote.
@@ -163,7 +164,7 @@ impl Remotes {
         (now.saturating_sub(sent.at) <= JUST_BEFORE).then_some(sent)
     }
 
-    /// Counts a packet from outside, which is an answer if a packet left for its remote just before.
+    /// Counts a packet from outside, as an answer if a packet left for its remote just before.
     fn count_from_outside(&mut self, passing: RunPacket<'_>, outcome: &Outcome) {
         let input = passing.input;
         let (bytes, now) = (&input.bytes, input.clock);

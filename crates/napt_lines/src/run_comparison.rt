@@ -180,7 +180,7 @@ impl<'a> Pair<'a> {
         matches!(self.first, Outcome::Dropped(_)) || matches!(self.second, Outcome::Dropped(_))
     }
 
-    /// Returns the line of the packet, with its outcome under the first and the second configuration.
+    /// Returns the line of the packet, with its outcome under each configuration.
     fn text(self, alloc: Global) -> Result<String, AllocError> {
         let input = self.input;
         let mut text = String::new(alloc);

@@ -1,4 +1,4 @@
-//! The lines that say who had an external endpoint, and when (RFC 6888, section 4; RFC 6269, section 12).
+//! The lines about holders of external endpoints (RFC 6888, section 4; RFC 6269, section 12).
 ghost use Rattle.std.specs.Prelude.{◌≡◌, ◌++◌, OnOk, false, option_map, string_bytes};
 ghost use Rattle.napt_log_text.specs.Holders as holders;
 

@@ -44,7 +44,8 @@ enum PacketNumbers {
 }
 
 impl JsonObject<'_> {
-    /// Appends the object, on its own line. Its time is in ns since 1970-01-01 UTC. Fails only if memory is refused.
+    /// Appends the object and a line feed, with its time in ns since 1970. Fails only if memory is
+    /// refused.
     pub fn add_to(&self, alloc: Global, text: &mut String) -> Result<(), AllocError>
         ensures { OnOk result (string_bytes text.new ≡ string_bytes text.old ++ objects.object_text
             self.now.number self.now.input.now self.now.outcome.now self.now.note) }
@@ -137,7 +138,7 @@ fn binding(outcome: &Outcome, note: LogNote) -> &'static str
     }
 }
 
-/// Returns the member that says whether a packet came from the inside and goes back in, with a comma before it.
+/// Returns the member that says whether a packet is a hairpin, with a comma before it.
 fn hairpin(side: Side, outcome: &Outcome) -> &'static str
     ensures { result.now ≡ codes ",\"hairpin\":"
         ++ objects.boolean (objects.is_hairpin side outcome.now) }

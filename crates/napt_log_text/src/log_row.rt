@@ -96,7 +96,8 @@ impl LogRow {
         (read, row)
     }
 
-    /// Returns the binding of a row. If there is none, the error says what was expected, and in which field.
+    /// Returns the binding of a row. The error names the field without a valid value, and what it
+    /// expects.
     pub fn binding(&self) -> Result<Row, &'static str>
         ensures { (time event : Option ℕ) (listed : Logged) →
             self.now ≡ saved.binding_row time event listed → result ≡ Ok listed.entry.binding }
@@ -133,7 +134,7 @@ fn field_count(row: &str) -> usize
     row.split(',').count()
 }
 
-/// Returns the first field of a row, and the text of the fields after it, which is empty if there are none.
+/// Returns the first field of a row, and the text of the fields after it, which may be empty.
 fn first_field(row: &str) -> (&str, &str)
     ensures { (field next : List ℕ) (others : List (List ℕ)) →
         saved.fields_in row.now ≡ field ∷ next ∷ others →

@@ -21,7 +21,7 @@ pub fn add_opening(config: &Config, log: &OpenLog, text: &mut String) -> Result<
     add_made(config, &log.entries, text)
 }
 
-/// Appends the rows of entries that end, and of new ones, before the first input. Fails only if memory is refused.
+/// Appends the rows of ended and new entries before any input. Fails only if memory is refused.
 pub fn add_first(
     config: &Config,
     ended: &[LogEntry],
@@ -61,7 +61,8 @@ pub fn begins_piece(each: Option<NonZeroU32>, last: Option<u64>, now: u64) -> bo
     last / length < now / length
 }
 
-/// Appends the end of a log: a row without an event for each live binding. Fails only if memory is refused.
+/// Appends a row without an event for each live binding, at the end. Fails only if memory is
+/// refused.
 pub fn add_living(config: &Config, living: &[LogEntry], text: &mut String) -> Result<(), AllocError>
     ensures { OnOk result (string_bytes text.new ≡ string_bytes text.old
         ++ logs.living_rows config.now living.now) }

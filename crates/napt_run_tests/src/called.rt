@@ -41,7 +41,7 @@ fn under_gate(
     Ok((written, gate.count()))
 }
 
-/// Checks that both calls end under a gate with this count, and with a report that begins with this text.
+/// Checks that both calls end with this count of a gate, and a report that begins with this text.
 fn assert_ends(
     rt: &impl TestRuntime,
     settings: &str,

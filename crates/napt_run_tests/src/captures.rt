@@ -64,7 +64,7 @@ fn plan_of(plans: &[(Device, FaultPlan)], device: Device) -> FaultPlan
     at_most(found.most, found.call, found.trouble)
 }
 
-/// The call that a program makes: `napt` reads whole captures, `stream` reads them in steps, with or without a log.
+/// The call of a program: `napt` reads whole captures, `stream` in steps, with or without a log.
 #[derive(Clone, Copy, Debug, PartialEq, Eq)]
 pub(crate) enum Call {
     Captures,

@@ -35,7 +35,7 @@ const NOTHING: Counter = Counter {
     flushes: 0,
 };
 
-/// A flush of a file or a pipe is a system call. The 800 outgoing packets of one read do not have one each.
+/// A flush is a system call. The 800 outgoing packets of one read do not have a flush each.
 #[test]
 fn packets_that_come_together_are_flushed_together(rt: HostRuntime) -> Result<(), Fail> {
     let alloc = rt.alloc();

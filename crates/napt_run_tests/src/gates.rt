@@ -6,7 +6,7 @@ use std::sync::Arc;
 use std::sync::atomic::{AtomicU64, Ordering};
 use std::thread;
 
-/// The greatest number of times that a gate looks for a step of another worker, and that it may be asked for one leg.
+/// The greatest number of looks for another worker's step, and of requests for one leg.
 pub(crate) const MOST_ASKS: u64 = 1_000_000;
 
 /// The workers that a gate delays, and the events that it counts.

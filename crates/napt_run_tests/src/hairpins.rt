@@ -32,7 +32,7 @@ fn hairpin(many: u16) -> PacketEnds {
     (Side::Inside, CLIENT, external(many, 7000))
 }
 
-/// The settings, the slots of a ring, the packets, their legs at each external address, the gate, and its count.
+/// The settings, the slots of a ring, the packets, their legs at each address, the gate, its count.
 type HairpinRow<'a> = (&'a str, &'a str, &'a [PacketEnds], &'a [u64], GateMode, u64);
 
 #[test]
@@ -79,7 +79,7 @@ fn others_go_on(rt: HostRuntime) -> Result<(), Fail> {
     Ok(())
 }
 
-/// Checks that both workers see each other at their first legs, where the second has one leg after `legs` of the first.
+/// Checks that both workers see each other at their first legs, of `legs` and then of one leg.
 fn assert_meeting(rt: &impl TestRuntime, ring: &str, legs: u64) -> Result<(), Fail> {
     let mut sent = Vec::new(rt.alloc());
     for _ in 0..legs {
@@ -104,7 +104,7 @@ fn held_until_other(rt: HostRuntime) -> Result<(), Fail> {
     assert_meeting(&rt, "64", 1)
 }
 
-/// A worker that does not answer yet delays no other, whether its ring has room for all of its legs or for one.
+/// A worker that does not answer yet delays no other, with a ring for all of its legs or for one.
 #[test]
 fn full_ring_holds_up_no_other(rt: HostRuntime) -> Result<(), Fail> {
     for (ring, legs) in [("4", 4), ("4", 5), ("1", 100)] {
@@ -117,7 +117,8 @@ fn full_ring_holds_up_no_other(rt: HostRuntime) -> Result<(), Fail> {
 #[test]
 fn gate_stays_shut(rt: HostRuntime) -> Result<(), Fail> {
     let rows: [(GateMode, &[PacketEnds]); 3] = [
-        // The worker of 10.0.0.3 is the second: the gate refuses the fourth of its packets a million times.
+        // 10.0.0.3 has the second worker: the gate refuses the fourth of its packets a million
+        // times.
         (GateMode::Shut(1, 3), &[SECOND_QUERY; 5]),
         // A hairpin that finds no binding, and then a packet of the host to which it went.
         (GateMode::Shut(1, 0), &[hairpin(2), served()]),

@@ -44,7 +44,7 @@ fn sent_at(alloc: Global, times: &[u32]) -> Result<Vec<u8>, AllocError> {
     Ok(text)
 }
 
-/// Makes the run over two packets with these settings, with a log that fails at a call, from 1, or never if it is 0.
+/// Makes the run over two packets, with a log that fails at a call, from 1, or never if it is 0.
 fn run_with(rt: &impl TestRuntime, settings: &str, call: u64) -> Result<RunOutput, Fail> {
     let inside = sent_at(rt.alloc(), &[10, 20])?;
     let given = RunInput {

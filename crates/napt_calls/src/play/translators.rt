@@ -54,7 +54,7 @@ impl Translators {
         print_answer(line.rt, &onward(&self.config, packet))
     }
 
-    /// `translate PLACE NUMBER NOW WAY`: makes a leg of the current packet, which becomes the packet that leaves.
+    /// `translate PLACE NUMBER NOW WAY`: makes a leg of the current packet, which it replaces.
     pub(crate) fn translate<R: Print>(
         &mut self,
         line: &mut Line<'_, R>,

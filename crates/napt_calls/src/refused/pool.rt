@@ -13,7 +13,7 @@ use std::sync::atomic::Ordering;
 /// The number of workers.
 const WORKERS: u32 = 3;
 
-/// Answers each item with itself, and takes memory for each step. The machines that are made and dropped are counted.
+/// Answers each item with itself, and takes memory for each step. Counts the machines.
 struct Echo {
     counts: Arc<Counts>,
 }

@@ -76,7 +76,8 @@ fn packet_of(kind: TableCall, place: u16) -> TablePacket {
     }
 }
 
-/// Sends the packet, and returns the external number, or `None` if the packet is refused or may not be sent.
+/// Sends the packet. Returns the external number, or `None` if the packet is refused or not
+/// allowed.
 fn send(alloc: Global, table: &mut Table, packet: TablePacket) -> Result<Option<u16>, AllocError> {
     let TablePacket {
         now,
@@ -143,7 +144,7 @@ fn step(alloc: Global, table: &mut Table, packet: TablePacket) -> Result<(), Cal
     }
 }
 
-/// Returns the end of the call after a refused packet: no answer to it comes in, until it is sent again and passes.
+/// Returns the end after a refused packet: no answer comes in until it is sent again and passes.
 fn sent_again(alloc: Global, table: &mut Table, packet: TablePacket) -> CallResult {
     if is_answered(table, packet) {
         return CallResult::Wrong("a refused packet is answered");

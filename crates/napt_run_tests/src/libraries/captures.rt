@@ -44,7 +44,8 @@ fn shape_of_front(length: u16) -> Result<Shape, CaptureFault> {
     }
 }
 
-/// The number of bytes that a read returns, and of the reads of the capture: the last finds the end.
+/// The numbers of bytes of a read, and of the reads of the capture, of which the last finds the
+/// end.
 #[test]
 fn each_read_fails_in_turn(rt: HostRuntime) {
     let all_reads = [4, 4, 5, 6, 13, 36, 71];
@@ -121,7 +122,7 @@ fn one_packet_or_none_is_written(rt: HostRuntime) -> Result<(), Fail> {
     Ok(())
 }
 
-/// With a byte at a time, the call after the seventy writes is the flush, which takes no bytes, and there is no other.
+/// With a byte at a time, seventy writes are followed by one flush, which is the last call.
 #[test]
 fn each_write_fails_in_turn(rt: HostRuntime) -> Result<(), Fail> {
     let records = [packet(rt.alloc())?];

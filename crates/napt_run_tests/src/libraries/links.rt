@@ -35,7 +35,7 @@ fn are_in_order(links: &[Links], order: &[u32]) -> bool {
         .all(|(before, after)| are_neighbours(links, *before, *after))
 }
 
-/// Removes the node if it is in the row, and otherwise inserts it before another one, in the links and in a list.
+/// Removes the node if it is in the row, or else inserts it before another one, in links and list.
 fn change(
     rt: &impl Abort,
     links: &mut [Links],

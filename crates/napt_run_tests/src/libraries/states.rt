@@ -1,4 +1,5 @@
-//! A state with a line of each kind is written and read back. Damaged texts are refused, with the line and the reason.
+//! A state with all kinds of lines is written and read. Damaged texts are refused, by line and
+//! reason.
 
 use napt_state::{read_state, write_state};
 use std::alloc::Global;

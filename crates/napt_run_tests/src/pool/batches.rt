@@ -162,7 +162,8 @@ fn until_stopped(
     None
 }
 
-/// The gate is shut at a step of a batch: the answers before it come, and then the fault. The step is not made.
+/// The gate is shut at a step of a batch: the earlier answers come, then the fault, without the
+/// step.
 #[test]
 fn gate_is_shut_in_a_batch(rt: HostRuntime) -> Result<(), Fail> {
     for shut in 0..4u64 {
@@ -178,7 +179,7 @@ fn gate_is_shut_in_a_batch(rt: HostRuntime) -> Result<(), Fail> {
     Ok(())
 }
 
-/// The gate is shut to the first item: the one slot of the ring is for the notice that the worker stopped.
+/// The gate is shut to the first item: the one slot of the ring is for the notice of the stop.
 #[test]
 fn gate_is_shut_to_a_batch(rt: HostRuntime) -> Result<(), Fail> {
     let alloc = rt.alloc();

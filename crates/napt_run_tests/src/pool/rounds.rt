@@ -78,7 +78,7 @@ fn answer_comes(rt: HostRuntime) -> Result<(), Fail> {
     Ok(())
 }
 
-/// Returns how many items worker `w` takes until it is full, or `None` if it is refused for another cause.
+/// Returns how many items worker `w` accepts until it is full, or `None` if it fails otherwise.
 fn fill(pool: &mut Keepers<impl TestRuntime>, w: u32) -> Option<u64> {
     for count in 0..10_000 {
         match pool.offer(w, count) {
