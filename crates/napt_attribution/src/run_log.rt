@@ -108,7 +108,7 @@ impl<R: Files + Print + Eprint + AllocGlobal, W: Write + Drop> CommandOutput<R> 
         self.log.take(rt, config, passing)
     }
 
-    /// Writes the rows so far, unless they are held until the end.
+    /// Writes the rows so far, unless they are buffered until the end.
     fn settle(&mut self, rt: &R) -> Result<(), Exit> {
         if let Some(packets) = &mut self.packets {
             packets.rows.settle(rt)?;

@@ -13,7 +13,7 @@ pub struct SortedEntries {
 impl SortedEntries {
     pub fn of(entries: Vec<Entry>) -> Result<SortedEntries, AllocError> {
         let mut entries = entries;
-        // The sort is stable: entries of one endpoint keep their order.
+        // The sort is stable, so that entries of one endpoint retain their order.
         entries.sort_by_key(|entry| place_of(entry.binding.external))?;
         Ok(SortedEntries { entries })
     }

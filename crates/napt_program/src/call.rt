@@ -1,4 +1,4 @@
-//! How a program was called, and the messages that it prints at a terminal.
+//! The call of a program, and the messages that it prints at a terminal.
 
 ghost use Rattle.std.specs.{Prelude.{◌≡◌, ◌⊎◌, IfErr, OnOk}, Process.exit_status};
 ghost use Rattle.napt_program.specs.{Command.{HelpIsAsked, IsLineAnswer}, Stop.status_at_end};
@@ -58,7 +58,7 @@ pub fn print_ended(rt: &impl Eprint, name: &str, ended: u64) {
     }
 }
 
-/// How a program was called.
+/// The call of a program: its name, and the messages that it may print.
 #[derive(Clone, Copy, Debug)]
 pub struct ProgramCall {
     /// The name of the program.

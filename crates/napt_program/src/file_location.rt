@@ -22,7 +22,7 @@ pub enum FileLocation<'a> {
     There(FileId),
     /// A file that does not exist yet: the folder in which it would be created, and its name there.
     New(FileId, &'a str),
-    /// Only the path is known.
+    /// A file of which only the path is known.
     Words(&'a str),
     /// A device, a pipe or a folder. Writing to it destroys nothing.
     Aside,

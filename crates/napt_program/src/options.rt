@@ -22,7 +22,7 @@ proved with rattle-kit-13f logic dac8208d650f15bf: each function of its sources 
 pub struct Manual {
     /// The name of the program.
     pub name: &'static str,
-    /// What the program does, in one paragraph.
+    /// The purpose of the program, in one paragraph.
     pub about: &'static str,
     /// The text after the options.
     pub notes: &'static str,

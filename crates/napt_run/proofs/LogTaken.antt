@@ -94,7 +94,7 @@ module _ (start : Start) (log_start : LogStart) (taken : TakenLog) (is_taken : I
         written = written;
       }
 
-  -- Its texts are those that are promised.
+  -- The texts of the log are those of the definition.
   pub texts_taken : texts_of (record {
     origin = origin_of start;
     opening = string_bytes taken.opening;

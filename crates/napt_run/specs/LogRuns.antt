@@ -22,7 +22,7 @@ abbrev pub legs_told : {P : Type 0} → (Passage → P) → OriginModel → List
 legs_told tells origin inputs =
     map (λ trace. (trace.now, tells trace.first, tells trace.second)) (traces_by origin inputs)
 
--- A log failed: it could not be written, or its entries could not be kept.
+-- A log failed: it could not be written, or memory for its entries was refused.
 abbrev pub IsLogFault : Fault → Type 0
 IsLogFault (Write Log fault) = ⊤
 IsLogFault (Run fault) = ⊤

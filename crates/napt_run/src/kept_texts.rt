@@ -1,4 +1,4 @@
-//! Bytes that are kept in memory until they are written.
+//! Bytes that remain in memory until they are written.
 ghost use Rattle.std.specs.{Prelude.{◌≡◌, ◌+◌, ◌-◌, ◌^◌, ◌<◌, ◌≤◌, [], ◌++◌, flat_map, length, take, IfOk, IfErr, OnOk, vec_len}, Io.KnownBytes.Appends};
 ghost use Rattle.napt_capture.specs.{Device.failed_calls, Writing.PutPost};
 

@@ -90,7 +90,7 @@ pub trait StreamLog {
         post origin inside outside (Err fault) old new };
 }
 
-/// A log that is not kept. It takes no memory and no time.
+/// A log that is not recorded. It takes no memory and no time.
 #[derive(Drop)]
 pub struct NoLog;
 

@@ -3,7 +3,7 @@
 use napt_wire::Endpoint;
 use std::alloc::{AllocError, Global};
 
-/// From inside: a UDP packet from 10.0.0.2:5000 to 198.51.100.7:53.
+/// A UDP packet from inside, from 10.0.0.2:5000 to 198.51.100.7:53.
 pub(crate) const UDP_QUERY: [u8; 30] = [
     0x45, 0, 0, 30, 0, 1, 0, 0, 64, 17, 0x46, 0x92, // IPv4, length, identification, UDP, checksum
     10, 0, 0, 2, 198, 51, 100, 7, // source, destination

@@ -137,7 +137,7 @@ fn tried(
 pub(crate) fn ended(rt: &impl System, are_whole: bool) -> Result<(), CallResult> {
     let config = configuration(rt.alloc())?;
     let run = tried(rt, &config, are_whole, NONE)?;
-    // One packet to the outside, two to inside hosts.
+    // One packet goes to the outside, and two packets go to inside hosts.
     let (whole, written) = ((68, 112), (run.to_outside.len(), run.to_inside.len()));
     let most = if are_whole { (0, 0) } else { whole };
     match run.answer {

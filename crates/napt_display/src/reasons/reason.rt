@@ -1,10 +1,10 @@
-//! One reason for a refusal.
+//! A reason for a refusal.
 
 ghost use Rattle.std.specs.Prelude.{◌≡◌, ◌+◌, OnOk, vec_len};
 
 use std::alloc::AllocError;
 
-/// One reason for a refusal.
+/// A reason for a refusal.
 #[derive(Drop)]
 pub struct Reason {
     /// The word before it: `why`, `at`, `line`, `meant`, `value`, `with`, `expected`, `it is` or
