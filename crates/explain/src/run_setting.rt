@@ -25,6 +25,7 @@ pub struct RunSetting<'a> {
 }
 
 impl<'a> RunSetting<'a> {
+    /// Returns the setting of a run that the command line requests.
     pub fn new(
         streams: StandardStreams,
         options: &'a ExplainOptions<'a>,

@@ -135,17 +135,18 @@ impl SourceKind {
     }
 }
 
-/// Returns the source address of an IPv4 header, or `None` if the bytes end before it does.
+/// Returns the source address of an IPv4 header, in host order, or `None` if bytes are missing.
 pub fn source_of(bytes: &[u8]) -> Option<u32> {
     address_at(bytes, 12)
 }
 
-/// Returns the destination address of an IPv4 header, or `None` if the bytes end before it does.
+/// Returns the destination address of an IPv4 header, in host order, or `None` if bytes are
+/// missing.
 pub fn destination_of(bytes: &[u8]) -> Option<u32> {
     address_at(bytes, 16)
 }
 
-/// Returns the address at an offset, if there are enough bytes.
+/// Returns the address at an offset, in host order, if there are enough bytes.
 fn address_at(bytes: &[u8], at: usize) -> Option<u32> {
     let rest = bytes.get(at..)?;
     let four = rest.first_chunk::<4>()?;

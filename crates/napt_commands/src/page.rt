@@ -13,6 +13,7 @@ pub struct Page {
 }
 
 impl Page {
+    /// Returns a buffer without lines.
     pub fn new(alloc: Global) -> Page {
         Page {
             text: String::new(alloc),

@@ -69,6 +69,7 @@ impl<'a> PlainRun<'a> {
         })
     }
 
+    /// Returns the configuration of the run.
     pub fn config(&self) -> &'a Config
         ensures { result.now ≡ self.now.rules }
     {

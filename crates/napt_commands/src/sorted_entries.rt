@@ -11,6 +11,7 @@ pub struct SortedEntries {
 }
 
 impl SortedEntries {
+    /// Sorts entries by their external endpoints. Fails only if memory is refused.
     pub fn of(entries: Vec<Entry>) -> Result<SortedEntries, AllocError> {
         let mut entries = entries;
         // The sort is stable, so that entries of one endpoint retain their order.

@@ -40,6 +40,7 @@ impl<'a> Model for RunStart<'a> {
 }
 
 impl<'a> RunStart<'a> {
+    /// Returns the start of a run from a state that the configuration accepts, with its saved log.
     pub fn new(config: &'a Config, state: State, saved: SavedLogState) -> RunStart<'a>
         requires taken { TakesState config.now state }
         requires saved { is_saved_log_state state saved ≡ true }
@@ -52,6 +53,7 @@ impl<'a> RunStart<'a> {
         }
     }
 
+    /// Returns the configuration of the run.
     pub fn config(&self) -> &'a Config
         ensures { result.now ≡ self.now.rules }
     {

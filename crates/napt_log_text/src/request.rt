@@ -14,7 +14,7 @@ pub struct TimeSpan {
     pub until: u128,
 }
 
-/// Asks who had an external endpoint, or any endpoint of an external address.
+/// A request for the holders of an external endpoint, or of any endpoint of an external address.
 #[derive(Clone, Copy)]
 pub struct Request {
     /// The protocol, or any protocol if absent.

@@ -16,7 +16,7 @@ use std::io::{Printer, Read, Seek, SeekFrom, Write};
 use std::rt::Files;
 use std::{fs, io};
 
-/// An upper bound for a row in bytes: at most this many after the last row may be a partial row.
+/// An upper bound for a row in bytes: fewer bytes after the last row may be a partial row.
 pub(crate) const MOST_TORN: usize = 4_096;
 
 /// A log that is open for writing.
@@ -64,8 +64,8 @@ fn bytes_at<R: Files>(rt: &R, path: &str) -> u64 {
     }
 }
 
-/// Returns the bytes of a file around a place: up to `MOST_TORN` before it, and up to `MOST_TORN +
-/// 1` from there on. Fails as `bytes_to_keep` does.
+/// Returns the bytes of a file around a place: up to `MOST_TORN` before it, and from there on up to
+/// one more than that. Fails as `bytes_to_keep` does.
 pub(crate) fn text_around<R: Files + AllocGlobal>(
     rt: &R,
     path: &str,

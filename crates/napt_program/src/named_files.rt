@@ -187,7 +187,7 @@ impl<'a> NamedFiles<'a> {
 }
 
 impl<'a> Named<'a> {
-    /// Returns the file of an option with its name; `-` is the standard stream that it replaces.
+    /// Returns the file of an option with its name, which is the standard stream for `-`.
     fn of(name: &'static str, path: Option<&'a String>, stream: &'a str) -> Named<'a> {
         Named {
             name,

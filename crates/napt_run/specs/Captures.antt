@@ -177,7 +177,7 @@ CaptureIsUnread sides.Inside known (Capture sides.Inside fault) = IsFaultIn know
 CaptureIsUnread sides.Outside known (Capture sides.Outside fault) = IsFaultIn known fault
 CaptureIsUnread side known other = ⊥
 
--- The outputs made for these captures.
+-- The outputs are those of a run over these captures.
 pub record AreOutputs (origin : OriginModel) (captures : CaptureFiles) (outputs : CaptureOutputs) : Type 0 where
   pub to_outside : outputs.to_outside ≡ (texts_made origin captures).outside
   pub to_inside : outputs.to_inside ≡ (texts_made origin captures).inside

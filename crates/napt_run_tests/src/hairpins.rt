@@ -79,7 +79,7 @@ fn others_go_on(rt: HostRuntime) -> Result<(), Fail> {
     Ok(())
 }
 
-/// Checks that both workers see each other at their first legs, of `legs` and then of one leg.
+/// Checks that two workers, with `legs` legs and with one, see each other at their first legs.
 fn assert_meeting(rt: &impl TestRuntime, ring: &str, legs: u64) -> Result<(), Fail> {
     let mut sent = Vec::new(rt.alloc());
     for _ in 0..legs {

@@ -55,8 +55,7 @@ pub fn all_to_all(alloc: Global) -> Result<Vec<Input>, AllocError> {
     Ok(inputs)
 }
 
-/// Returns a packet that arrives from a side at this time, in ns, which is also its clock if it is
-/// the greatest so far.
+/// Returns a packet that arrives from a side at this time, in ns, which is also its clock.
 pub(crate) fn input(
     alloc: Global,
     side: Side,

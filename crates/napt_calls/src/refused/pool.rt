@@ -54,7 +54,7 @@ fn machines(alloc: Global, counts: &Arc<Counts>) -> Result<Vec<Echo>, AllocError
     Ok(all)
 }
 
-/// Offers a worker the greatest number of items, and returns whether it accepted them.
+/// Offers a worker as many items as it can accept, and returns whether it accepted them.
 fn fill<G: Gate>(alloc: Global, pool: &mut Pool<Echo, G>, w: u32) -> bool
     requires { w < length (initial_machines pool.old) }
     ensures { length (initial_machines pool.new) ≡ length (initial_machines pool.old) }
