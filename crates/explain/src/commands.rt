@@ -14,8 +14,8 @@ const SHOW: &str =
     "Prints a line for each packet, the bindings and a summary (the default command)";
 
 const WHO: &str =
-    "Prints who held an external endpoint, or any port of an address: a line for each inside endpoint, with its protocol and \
-the times from and until when; the status is 1 if nobody held it";
+    "Prints who had an external endpoint, or any port of an address: a line for each inside endpoint, with its protocol and \
+the times of its beginning and end; the status is 1 if nobody had it";
 
 const LOG: &str =
     "Writes the log of the run in CSV to standard output (docs/FORMATS.md). It has a row when a binding \
@@ -36,11 +36,11 @@ const FOLLOW: &str =
 const CONFIG: &str = "Configuration in TOML [default: the built-in configuration]";
 
 const REPLIES: &str =
-    "Capture of replies as inside hosts got them, in place of --outside: each is sent to the external endpoint that its \
+    "Capture of replies as inside hosts received them, instead of --outside: each is sent to the external endpoint that its \
 inside endpoint has in this run at that time (docs/FORMATS.md)";
 
 const AT: &str =
-    "The time asked about: seconds since 1970, as in the lines, or an RFC 3339 date such as 2026-11-26T10:02:07Z. \
+    "The time of the request: seconds since 1970, as in the lines, or an RFC 3339 date such as 2026-11-26T10:02:07Z. \
 That date means the whole second; with nine decimals it means one nanosecond [default: any time]";
 
 const REQUESTS: &str =
@@ -58,7 +58,7 @@ const HOST: &str =
 
 const PAIRS: &str =
     "Prints a [[pair]] for each host that has a live binding in a state, and that this configuration would give another \
-external address: with these it keeps its bindings (at most 256, as many as a configuration has)";
+external address: with its pair, a host retains its bindings (at most 256 pairs, the limit of a configuration)";
 
 const ENDED: &str =
     "Bindings of the state that the configuration does not accept expire at the start; all others continue";
@@ -69,7 +69,7 @@ const LOG_WRITTEN: &str =
     "File to write the log to, which must not contain text and which no other option may name";
 
 const REPORT: &str =
-    "File for the report of the same run, as napt writes it; what the captures cannot show is then printed on standard error";
+    "File for the report of the same run, as napt writes it; the limits of the captures are then printed on standard error";
 
 const PACKETS: &str =
     "File for the packets in CSV (docs/FORMATS.md), a row for each: its number, time, side, outcome and cause, and the \

@@ -176,14 +176,14 @@ fn print_answer<R: Print + AllocGlobal>(
     Ok(is_owned)
 }
 
-/// Ends the line that says that nobody is known at the time of a request.
+/// Appends the line that says that no holder is known at the time of a request.
 fn add_uncovered_time(
     request: &Request,
     beside: OutsideTime,
     text: &mut String,
 ) -> Result<(), AllocError> {
     let OutsideTime { what, first, last } = beside;
-    text.push_str("nobody is known at ")?;
+    text.push_str("no holder of ")?;
     if let Some(protocol) = request.protocol {
         write!(text, "{} ", protocol_name(protocol))?;
     }
@@ -195,7 +195,7 @@ fn add_uncovered_time(
     };
     write!(
         text,
-        " then: the {what} does not cover that time: it {begins} "
+        " is known: the {what} does not cover that time, but {begins} "
     )?;
     TimeStamp(u128::from(first)).add_to(text)?;
     if let Some(last) = last {
