@@ -1,5 +1,4 @@
-//! Counts of dropped packets from outside, by which captures that do not belong to the
-//! configuration are found.
+//! Counts of dropped packets from outside, which show whether captures belong to the configuration.
 
 ghost use Rattle.std.specs.Prelude.{◌≡◌, ◌+◌, ◌-◌, ◌/◌, ◌^◌, ◌<◌, ◌↔◌, min, true};
 
@@ -15,8 +14,7 @@ pub struct LossCounts {
     /// The number of packets that came from inside, and the number of them with an inside address.
     pub inside: u64,
     pub from_hosts: u64,
-    /// The number of packets from inside that got no binding, due to the quota or a lack of
-    /// numbers.
+    /// The number of packets from inside without a binding, due to the quota or a lack of numbers.
     pub refused: u64,
     /// The number of packets for an endpoint without a live binding.
     pub no_binding: u64,
@@ -81,12 +79,13 @@ impl LossCounts {
         self.no_binding.saturating_add(self.not_ours)
     }
 
-    /// Returns whether more than a fifth, and more than one, count as [`unmet`](Self::unmet).
+    /// Returns whether more than a fifth of the packets, and more than one, are
+    /// [`unmet`](Self::unmet).
     pub fn exceeds_fifth_unmet(&self) -> bool {
         self.unmet() > self.all / 5 && self.unmet() > 1
     }
 
-    /// Returns whether more than a fifth, and more than one, found no binding.
+    /// Returns whether more than a fifth of the packets, and more than one, found no binding.
     pub fn exceeds_fifth_unbound(&self) -> bool
         ensures { (result ≡ true)
             ↔ ((self.now.all / 5 < self.now.no_binding) × (1 < self.now.no_binding)) }
@@ -100,7 +99,7 @@ impl LossCounts {
         self.inside > 0 && self.from_hosts == 0 && self.from_inside > self.all / 2
     }
 
-    /// Returns whether more than half were not for the gateway.
+    /// Returns whether more than half of the packets from outside were not for the gateway.
     pub fn exceeds_half_not_ours(&self) -> bool
         ensures { (result ≡ true) ↔ (self.now.all / 2 < self.now.not_ours) }
     {
@@ -135,13 +134,12 @@ impl SourceKind {
     }
 }
 
-/// Returns the source address of an IPv4 header, in host order, or `None` if bytes are missing.
+/// Returns the source address of an IPv4 header, in host order, if there are enough bytes.
 pub fn source_of(bytes: &[u8]) -> Option<u32> {
     address_at(bytes, 12)
 }
 
-/// Returns the destination address of an IPv4 header, in host order, or `None` if bytes are
-/// missing.
+/// Returns the destination address of an IPv4 header, in host order, if there are enough bytes.
 pub fn destination_of(bytes: &[u8]) -> Option<u32> {
     address_at(bytes, 16)
 }

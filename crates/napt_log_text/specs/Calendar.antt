@@ -2,7 +2,7 @@
 use Rattle.std.specs.Prelude.{ℕ, zero, suc, ◌+◌, ◌-◌, ◌*◌, ◌/◌, ◌%◌, ◌==◌, nat_lt, Bool, not, ◌&&◌, ◌||◌, if◌then◌else◌}
 use Rattle.napt_log_text.specs.declared.date.Date.{Date}
 
--- Returns whether a year has a leap day: every fourth year has one, except for a century that 400 does not divide.
+-- Returns whether a year has a leap day: every fourth year has one, except for years that 100 but not 400 divides.
 abbrev pub is_leap : ℕ → Bool
 is_leap year = (year % 4 == 0) && (not (year % 100 == 0) || (year % 400 == 0))
 
