@@ -10,6 +10,7 @@ use std::alloc::{AllocError, Global};
 /// The number of packets from each side, and of packets from outside that some causes dropped.
 #[derive(Drop)]
 pub struct LossCounts {
+    /// The number of packets from outside.
     pub all: u64,
     /// The number of packets that came from inside, and the number of them with an inside address.
     pub inside: u64,
@@ -79,13 +80,13 @@ impl LossCounts {
         self.no_binding.saturating_add(self.not_ours)
     }
 
-    /// Returns whether more than a fifth of the packets, and more than one, are
-    /// [`unmet`](Self::unmet).
+    /// Returns whether more than a fifth of those from outside, and more than one, are unmet.
     pub fn exceeds_fifth_unmet(&self) -> bool {
         self.unmet() > self.all / 5 && self.unmet() > 1
     }
 
-    /// Returns whether more than a fifth of the packets, and more than one, found no binding.
+    /// Returns whether more than a fifth of those from outside, and more than one, found no
+    /// binding.
     pub fn exceeds_fifth_unbound(&self) -> bool
         ensures { (result ≡ true)
             ↔ ((self.now.all / 5 < self.now.no_binding) × (1 < self.now.no_binding)) }
