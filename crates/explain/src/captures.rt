@@ -69,8 +69,7 @@ impl RefusedRun<'_> {
         Err(self.refuse(rt, side, &head, fault, Some(error)))
     }
 
-    /// Reads the header of a side's capture, which begins with these bytes, or prints why it is
-    /// refused.
+    /// Reads the header of a side's capture, which begins with these bytes, or prints why it fails.
     pub fn open<'a, R: Eprint + AllocGlobal, S: Source>(
         self,
         rt: &R,
@@ -138,8 +137,7 @@ pub struct CaptureInputs<'r, 'i, 'o, A: Source, B: Source> {
 }
 
 impl<'r, 'i, 'o, A: Source, B: Source> CaptureInputs<'r, 'i, 'o, A, B> {
-    /// Returns the packets of captures whose headers have been read, for a run that starts at a
-    /// time in ns.
+    /// Returns the packets of captures after their headers, for a run that starts at a time in ns.
     pub fn of(
         alloc: Global,
         refusing: RefusedRun<'r>,

@@ -91,8 +91,7 @@ pub struct CommandTexts {
 }
 
 impl CommandTexts {
-    /// Returns the words of a call, and adds `show` if they begin with an option or if there are
-    /// none.
+    /// Returns the words of a call, after `show` if they begin with an option or there are none.
     pub fn of(alloc: Global, given: Vec<String>) -> Result<CommandTexts, AllocError> {
         let is_named = given.get(1).is_some_and(|word| is_name(word));
         let mut list = Vec::new(alloc);
@@ -144,8 +143,7 @@ impl CommandTexts {
     }
 }
 
-/// Returns whether the first word of a call names a command, or requests the help of all commands
-/// or the version.
+/// Returns whether the first word of a call names a command, or requests help or the version.
 fn is_name(word: &str) -> bool {
     !word.starts_with('-') || matches!(word, "-h" | "--help" | "-V" | "--version")
 }

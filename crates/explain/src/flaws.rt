@@ -24,8 +24,7 @@ pub struct ConfigAdvice {
 
 impl ConfigAdvice {
     /// Prints which captures end inside a record, whose last packet is ignored: on standard output
-    /// if it is for people, and otherwise on standard error. A step back in time is always printed
-    /// on the latter.
+    /// if it is for people, and otherwise on standard error, as a step back in time always is.
     pub fn print<R: Print + Eprint>(self, rt: &R, form: OutputForm<'_>) -> Result<(), Exit> {
         self.back.print(rt, form);
         let CutFlags { inside, outside } = self.cuts;

@@ -2,8 +2,7 @@
 //!
 //! Each question is a command. A command over captures makes the run of `napt` on one thread, and
 //! prints its lines, its log or who had an endpoint. It accepts the arguments of `napt` and
-//! `stream`, but never writes their outputs. If they would refuse a file, it prints why, and exits
-//! with their status.
+//! `stream`, but never writes their outputs. It prints why they refuse a file, with their status.
 #![tactic(auto)]
 
 mod captures;

@@ -17,8 +17,7 @@ const NO_FILE: &str = "expected a file";
 /// The subject of the explanation, and its form.
 #[derive(Drop)]
 pub struct ExplainOptions<'m> {
-    /// The files that `napt` would read and write with these arguments. The outside capture may be
-    /// that of replies.
+    /// The files that `napt` would read and write; the outside capture may be that of replies.
     pub files: napt_program::RunOptions,
     /// The log that `stream` would write with these arguments.
     pub log: Option<&'m str>,
@@ -105,8 +104,7 @@ impl<'m> ExplainOptions<'m> {
         is_asked && !self.is_of_napt
     }
 
-    /// Returns how many of the other configuration, the pieces of a log and the file of requests
-    /// are standard input.
+    /// Returns how many of other configuration, pieces of a log and requests are standard input.
     pub fn more_from_input(&self) -> usize {
         let named = self.other.iter().chain(&self.pieces);
         let many = named.filter(|path| path.as_str() == "-").count();
@@ -150,8 +148,7 @@ impl<'m> OutputForm<'m> {
         }
     }
 
-    /// Returns the name in messages of each file that `explain` alone writes, and its path, if
-    /// there is one.
+    /// Returns the name in messages of each file that `explain` writes, and its path, if any.
     pub fn written(self) -> [(&'static str, Option<&'m str>); 2] {
         match self {
             OutputForm::Log(paths) => [("--to", paths.log), ("--packets", paths.packets)],

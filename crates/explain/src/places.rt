@@ -90,8 +90,8 @@ pub fn refuse_written<R: Files + Eprint + AllocGlobal>(
     }
 }
 
-/// Returns whether a file that `explain` is to write cannot be written, and prints why. A log never
-/// replaces text.
+/// Returns whether an output of `explain` cannot be written, and prints why. A log replaces no
+/// text.
 fn print_unwritable<R: Files + Eprint + AllocGlobal>(
     rt: &R,
     options: &ExplainOptions<'_>,

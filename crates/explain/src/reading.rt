@@ -96,8 +96,7 @@ pub fn open_captures<R: Files + Input + Eprint + AllocGlobal>(
     Ok(files)
 }
 
-/// Answers requests from a saved log, under the configuration if one is named. If a file is
-/// refused, prints why.
+/// Answers requests from a saved log, under a configuration if it is named, or prints why not.
 pub fn answer<R: Files + Input + Print + Eprint + AllocGlobal>(
     rt: &R,
     streams: StandardStreams,
@@ -113,8 +112,7 @@ pub fn answer<R: Files + Input + Print + Eprint + AllocGlobal>(
     answer_by_log(rt, streams, &asked, &options.pieces, config.as_ref())
 }
 
-/// Reads the state of `--resume`, or returns one without bindings if none is named. If it is
-/// refused, prints why.
+/// Reads the state of `--resume`, or returns one without bindings. Prints why it is refused.
 pub fn saved_at<R: Files + Eprint + AllocGlobal>(
     rt: &R,
     options: &ExplainOptions<'_>,
@@ -137,8 +135,7 @@ pub fn saved_at<R: Files + Eprint + AllocGlobal>(
     }
 }
 
-/// Returns the start of a run from a saved state under a configuration, or prints why it is
-/// refused.
+/// Returns the start of a run from a saved state, or prints why the configuration refuses it.
 fn start_under<'a, R: Eprint + AllocGlobal>(
     rt: &R,
     options: &ExplainOptions<'_>,
@@ -219,8 +216,7 @@ fn explain_file<R: Files + Eprint + AllocGlobal, T: Drop>(
     }
 }
 
-/// Reads the configuration in the file, or the built-in one if none is named. If it is refused,
-/// prints why.
+/// Reads the configuration in the file, or the built-in one. Prints why it is refused.
 pub fn configuration<R: Files + Input + Eprint + AllocGlobal>(
     rt: &R,
     options: &ExplainOptions<'_>,

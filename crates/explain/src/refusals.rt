@@ -12,8 +12,7 @@ use napt_rules::{Misfit, Row};
 use napt_state::StateFault;
 use std::alloc::AllocError;
 
-/// Prints the fault line of a refused configuration as `napt` does, and the reason, and returns the
-/// stop.
+/// Prints the fault line of a refused configuration and the reason, and returns the stop of `napt`.
 pub fn print_config<R: Eprint>(
     rt: &R,
     name: &str,
@@ -52,8 +51,7 @@ pub fn print_accounts<R: Eprint>(rt: &R, path: &str) -> Exit {
     Exit::Printed(Stop::File(FileRole::Resume))
 }
 
-/// Prints which binding of the state at a path the configuration refuses, and why, and returns the
-/// stop of `napt`.
+/// Prints which binding of a state the configuration refuses, and why, and returns the stop.
 pub fn print_binding<R: Eprint>(rt: &R, path: &str, row: Row, misfit: Misfit) -> Exit {
     let refusal = StateRefusal::Binding(misfit);
     let (name, protocol) = (StateRefusalName(refusal), protocol_name(row.protocol));

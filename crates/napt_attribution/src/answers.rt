@@ -22,8 +22,7 @@ pub struct AnswerBasis<'a> {
     pub entries: &'a [Entry],
     /// The time of the last packet, in ns.
     pub last: u64,
-    /// The greatest step back in time between packets, in ns. A packet may have arrived later than
-    /// its time by as much.
+    /// The greatest step back in time, in ns, by which a packet may have arrived after its time.
     pub later: u64,
     /// The configuration of the run, if it is known.
     pub config: Option<&'a Config>,
@@ -42,8 +41,7 @@ pub enum Basis {
 }
 
 impl AnswerBasis<'_> {
-    /// Returns the beginning and end of the run or log, if it does not cover the time that a
-    /// request asks about.
+    /// Returns the beginning and end of a run or log that does not cover the time of a request.
     fn uncovered_time(self, request: &Request) -> Option<OutsideTime> {
         let span = request.at?;
         let (what, first, last) = match self.basis {
@@ -56,8 +54,7 @@ impl AnswerBasis<'_> {
     }
 }
 
-/// A run or a log that does not cover the time of a request: its name, its beginning and its end,
-/// in ns.
+/// A run or log that does not cover the time of a request: its name, beginning and end, in ns.
 #[derive(Clone, Copy)]
 struct OutsideTime {
     what: &'static str,
@@ -112,8 +109,8 @@ pub fn answer_by_log<R: Files + Input + Print + Eprint + AllocGlobal>(
     print_answers(rt, asked, known)
 }
 
-/// Prints for each request the hosts whose blocks contain it and a line for each binding that had
-/// the endpoint, in the order of making, or that nobody had it. Fails with `Nobody` if one has no
+/// Prints for each request the hosts whose blocks contain it and the bindings that had the
+/// endpoint, in the order of making, or that nobody had it. Fails with `Nobody` if one has no
 /// answer.
 pub fn print_answers<R: Print + AllocGlobal>(
     rt: &R,

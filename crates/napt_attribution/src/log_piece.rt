@@ -60,8 +60,8 @@ impl LogPiece<'_> {
         }
     }
 
-    /// Reads the first row of a later piece, which may be the names of the fields. Returns whether
-    /// more may follow.
+    /// Reads the first row of a later piece, which may be the names. Returns whether more may
+    /// follow.
     fn begin<R: BufRead + Drop>(
         self,
         rows: &mut SavedRows,

@@ -65,8 +65,7 @@ impl LogTimes {
         Ok(at)
     }
 
-    /// Returns the number of a new binding: the next one, or a later one if bindings may be
-    /// missing.
+    /// Returns the number of a new binding: the next one, or a later one if any may be missing.
     pub fn number_after(&mut self, made: u64, number: LogField) -> Result<u64, RowFault>
         ensures { IfOk result (λ given. (number ≡ LogField.Number given) × (made < given)) }
     {

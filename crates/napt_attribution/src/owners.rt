@@ -12,9 +12,8 @@ use napt_wire::{Endpoint, Protocol};
 use std::alloc::AllocError;
 use std::fmt::Write;
 
-/// Appends a line for each host whose block contains the endpoint of a request. Without a run, also
-/// appends a line for each redirect, or that nobody ever has the endpoint. Returns whether somebody
-/// has it.
+/// Appends a line for each host whose block contains a requested endpoint. Without a run, also
+/// appends the redirects, or that nobody ever has the endpoint. Returns whether somebody has it.
 pub fn add_owners(
     asked: &HolderRequest,
     known: AnswerBasis<'_>,

@@ -41,8 +41,7 @@ impl HolderRequest {
         })
     }
 
-    /// Returns the same request about a time that ends later by this many ns, if it is about a
-    /// time.
+    /// Returns the same request with its time, if any, extended by this many ns at its end.
     pub fn until_later(&self, by: u64) -> HolderRequest {
         let mut asked = *self;
         if let Some(span) = &mut asked.request.at {

@@ -30,8 +30,7 @@ enum RowLocation<'a, W> {
 }
 
 /// Begins the file that an option names, or standard output if none does. The file is created now,
-/// or at the end if its rows are held until then. If that fails, prints the file and the system's
-/// reason.
+/// or at the end if its rows are buffered. If that fails, prints the file and the system's reason.
 pub fn create_rows<'a, R: Files + Eprint + AllocGlobal>(
     rt: &R,
     option: &'static str,

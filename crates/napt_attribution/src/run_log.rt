@@ -116,8 +116,7 @@ impl<R: Files + Print + Eprint + AllocGlobal, W: Write + Drop> CommandOutput<R> 
         self.log.rows.settle(rt)
     }
 
-    /// Writes the rest of all files. Without a report, prints that no log is needed if each host
-    /// has a block.
+    /// Writes the rest of all files. Without a report, prints if blocks make a log unnecessary.
     fn end(self, rt: &R, _page: &mut Page, ending: &EndedRun<'_>) -> Result<(), Exit> {
         let RunLog {
             mut log,

@@ -10,9 +10,9 @@ use napt_log_text::LogFileFault;
 use std::io::ErrorKind;
 use std::rt::Files;
 
-/// Reads the bindings that requests ask about from the log whose pieces have these paths, in this
-/// order. Prints why the log is refused, or that the last row of a piece is incomplete and
-/// therefore ignored.
+/// Reads the bindings that requests ask about from the log with pieces at these paths, in this
+/// order. Prints why the log is refused, or that the last row of a piece is incomplete, and is
+/// ignored.
 pub fn read_saved<R: Files + Input + Eprint + AllocGlobal>(
     rt: &R,
     asked: &[HolderRequest],
@@ -35,8 +35,7 @@ pub fn read_saved<R: Files + Input + Eprint + AllocGlobal>(
     Ok(rows.into_bindings(rt.alloc())?)
 }
 
-/// Prints why a piece is refused, or why its last row is ignored. Returns the stop in the former
-/// case.
+/// Prints why a piece is refused, and returns the stop, or prints why its last row is ignored.
 fn print_refused<R: Eprint>(
     rt: &R,
     path: &str,

@@ -61,8 +61,7 @@ impl SavedRows {
         })
     }
 
-    /// Begins a later piece. If it begins with the names of the fields, it must repeat or end each
-    /// entry without an end.
+    /// Begins a later piece. After the names, it must repeat or end each entry without an end.
     pub fn begin_piece(&mut self, has_names: bool) -> Result<(), RowFault> {
         self.unrepeated.clear();
         if !has_names {
@@ -123,8 +122,7 @@ impl SavedRows {
     }
 
     /// Begins the entry of a binding, unless the piece repeats it. An entry of the same external
-    /// endpoint ends then: in a log that begins new entries in a new file, no row ends the earlier
-    /// ones.
+    /// endpoint ends then, since no row ends it if a log begins new entries in a new file.
     fn make(&mut self, row: &LogRow) -> Result<Row, RowFault>
         ensures { (asked : List Asked) (events : List Told) (listed : Listed) →
             logs.Tells asked self.old events → row.now ≡ rows.saved_row (Made listed) →
@@ -154,8 +152,7 @@ impl SavedRows {
         Ok(())
     }
 
-    /// Returns whether the binding of a row has an entry without an end that was made at the time
-    /// of the row.
+    /// Returns whether the binding of a row has an entry without an end, made at the row's time.
     fn is_open_since(&self, row: &LogRow, binding: Row) -> bool {
         match self.open_entry(row.number, binding) {
             Some((_, made)) => row.time == LogField::Number(u128::from(made)),
@@ -211,8 +208,7 @@ impl SavedRows {
         Ok(())
     }
 
-    /// Returns the number of a binding's entry and the time when it was made, if a row above made
-    /// it and none ended it.
+    /// Returns the number of a binding's entry and its time, if a row made it and none ended it.
     fn open_entry(&self, number: LogField, binding: Row) -> Option<(u64, u64)>
         ensures { (asked : List Asked) (entries : List Listed) (listed : Listed) →
             logs.KeepsAll asked self.now entries → number ≡ LogField.Number listed.number →

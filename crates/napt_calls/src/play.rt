@@ -1,5 +1,4 @@
-//! Makes the calls in the lines of standard input, and prints the answer to each in a line, for
-//! tests without proofs.
+//! Makes the calls in the lines of standard input, and prints their answers, for unproved tests.
 //!
 //! `tests/played` writes these lines from the texts of `tests/calls`, and compares the answers. A
 //! line contains words separated by blanks, the first of which names the call. All numbers are

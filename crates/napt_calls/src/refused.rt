@@ -1,6 +1,5 @@
-//! Makes a call that may be refused memory or a thread, and checks that a refusal left and changed
-//! nothing. `tests/refused_calls` runs it repeatedly, each time with another growth of memory
-//! refused.
+//! Makes a call that may be refused memory or a thread, and checks that a refusal changed nothing.
+//! `tests/refused_calls` runs it repeatedly, each time with another growth of memory refused.
 //!
 //! `pool` starts a pool of three workers, fills it and closes it. `run` runs over captures on two
 //! workers, `workers` over their inputs, and `plain` on one thread. `streams` runs over captures as

@@ -28,8 +28,7 @@ pub fn unwritten() -> Exit {
     Exit::Printed(Stop::File(FileRole::Report))
 }
 
-/// Opens a file for reading, or standard input for `-`, and prints the reason if that fails. `name`
-/// is that of its option.
+/// Opens the file of the option `name` for reading, or standard input for `-`, or prints why not.
 pub fn opened<R: Files + Input + Eprint + AllocGlobal>(
     rt: &R,
     name: &str,
@@ -53,8 +52,7 @@ pub fn text_at<R: Files + Input + Eprint + AllocGlobal>(
     }
 }
 
-/// Prints why a file cannot be used (it is missing, cannot be read, or is too long), and returns
-/// the stop of `napt`.
+/// Prints why a file (missing, unreadable, or too long) cannot be used, and returns the stop.
 fn print_unread<R: Files + Eprint + AllocGlobal>(
     rt: &R,
     name: &str,

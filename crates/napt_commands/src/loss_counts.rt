@@ -85,8 +85,7 @@ impl LossCounts {
         self.unmet() > self.all / 5 && self.unmet() > 1
     }
 
-    /// Returns whether more than a fifth of those from outside, and more than one, found no
-    /// binding.
+    /// Returns whether more than a fifth from outside, and more than one, found no binding.
     pub fn exceeds_fifth_unbound(&self) -> bool
         ensures { (result ≡ true)
             ↔ ((self.now.all / 5 < self.now.no_binding) × (1 < self.now.no_binding)) }

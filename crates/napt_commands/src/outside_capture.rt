@@ -35,8 +35,7 @@ impl OutsideCapture {
         self == OutsideCapture::Replies
     }
 
-    /// Returns the inputs of the run under a configuration: replies follow the run, and other
-    /// packets are unchanged.
+    /// Returns the inputs of the run under a configuration, in which replies follow the run.
     pub fn inputs_under(
         self,
         alloc: Global,

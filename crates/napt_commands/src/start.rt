@@ -67,8 +67,7 @@ impl<'a> RunStart<'a> {
         self.state.clock
     }
 
-    /// Returns whether the log begins new entries for the bindings of the state, since it contains
-    /// no accounts of them.
+    /// Returns whether the log begins new entries for bindings that have no accounts in the state.
     pub fn begins_entries(&self) -> bool {
         self.saved.lacks_all(self.config, &self.state)
     }

@@ -1,5 +1,4 @@
-//! Appends numbers and spaces to a text. This takes most of the time of a million lines, so it does
-//! not use `write!`.
+//! Appends numbers and spaces to a text, without `write!`, to save most of the time of many lines.
 
 use itoa::Buffer;
 pub use napt_log_text::{add_address, add_endpoint, add_number};

@@ -60,8 +60,7 @@ impl<'a> PacketLine<'a> {
         }
     }
 
-    /// Returns whether the packet arrives or leaves with this host or endpoint, or was sent to it
-    /// as a reply.
+    /// Returns whether the packet arrives, leaves or is a reply with this host or endpoint.
     pub fn has_host(self, alloc: Global, host: Party) -> Result<bool, AllocError> {
         let input = self.passing.input;
         Ok(

@@ -17,8 +17,7 @@ const FEW: usize = 1024;
 /// The greatest number of remotes of a binding. Nothing is known about a binding that sent to more.
 const MOST: usize = 64;
 
-/// A remote endpoint: its protocol, address and port, 0 for echoes; or only an address, without
-/// both.
+/// A remote endpoint: its protocol, address and port, 0 for echoes; or an address alone.
 type Remote = (Option<Protocol>, u32, u16);
 
 /// The packets that inside hosts sent to a remote.

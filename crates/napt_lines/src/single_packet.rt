@@ -81,8 +81,7 @@ impl<'a> SinglePacket<'a> {
 }
 
 impl<R: Print + Eprint + AllocGlobal> CommandOutput<R> for SinglePacket<'_> {
-    /// Processes the next packet. Appends its line if it is the selected packet and meets the other
-    /// conditions.
+    /// Processes the next packet. Appends its line if it is the one and meets the other conditions.
     fn take(
         &mut self,
         rt: &R,

@@ -15,8 +15,7 @@ use napt_wire::Cause;
 use std::alloc::AllocError;
 use std::fmt::Write;
 
-/// The advice if many packets from outside find no binding, but inside packets left for their
-/// remotes.
+/// The advice if many packets from outside find no binding, but were requested from inside.
 const OTHER_NUMBERS: &str =
     "inside packets left for their remotes just before, so the captured gateway seems to have chosen other numbers or \
 addresses: give what inside hosts got as --replies";
@@ -70,8 +69,7 @@ impl<'a> PacketLines<'a> {
         Ok(())
     }
 
-    /// Appends the counts of outcomes, and advice if one cause dropped more than a fifth of the
-    /// packets.
+    /// Appends the counts of outcomes, and advice if a cause dropped over a fifth of the packets.
     fn add_counts(&self, text: &mut String, ending: &EndedRun<'_>) -> Result<(), AllocError> {
         let counts = &self.counts;
         writeln!(text, "packets: {}", counts.packets())?;

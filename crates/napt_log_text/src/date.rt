@@ -27,8 +27,7 @@ impl Date {
         Date::after(year, days - days_before(year))
     }
 
-    /// Returns the day that is this number of days after January 1st of a year. It goes month by
-    /// month.
+    /// Returns the day that is this number of days after January 1st of a year, month by month.
     fn after(year: u32, days: u32) -> Date
         requires { (year < 10000) × (days < 7000) }
         ensures { (begin : ℕ) → calendar.date_on begin ≡ calendar.first_of_month year 1 →

@@ -39,8 +39,7 @@ pub enum LogEvent {
     Made(LogEntry),
     /// A binding expired, at the end in its entry.
     Ended(LogEntry),
-    /// No event: a binding is live at the run's last packet, and ends as its entry says unless
-    /// another packet comes.
+    /// No event: a binding is live at the last packet. It ends as its entry says if none comes.
     Living(LogEntry),
     /// A packet got no binding.
     Refused(Shortage),

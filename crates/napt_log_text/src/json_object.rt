@@ -44,8 +44,7 @@ enum PacketNumbers {
 }
 
 impl JsonObject<'_> {
-    /// Appends the object and a line feed, with its time in ns since 1970. Fails only if memory is
-    /// refused.
+    /// Appends the object and a line feed; its time is in ns. Fails only if memory is refused.
     pub fn add_to(&self, alloc: Global, text: &mut String) -> Result<(), AllocError>
         ensures { OnOk result (string_bytes text.new ≡ string_bytes text.old ++ objects.object_text
             self.now.number self.now.input.now self.now.outcome.now self.now.note) }

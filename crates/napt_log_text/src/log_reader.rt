@@ -65,8 +65,7 @@ impl<R: BufRead + Drop> LogReader<R> {
         self.line.as_str() == header()
     }
 
-    /// Reads the next row, or returns `None` at the end. The error of a line says what was
-    /// expected.
+    /// Reads the next row, or returns `None` at the end. An error says what was expected.
     pub fn next(&mut self) -> Result<Option<LogRow>, LogFileFault>
         ensures row { (rules : Rules) (event : Told) (rest : List ℕ) → saved.IsEvent event →
             R.remaining self.old.reader ≡ Some (rows.csv_row rules event ++ rest) →

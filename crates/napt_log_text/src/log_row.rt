@@ -29,8 +29,7 @@ pub struct LogRow {
     /// The time, in ns.
     pub time: LogField,
     /// natEvent (RFC 8158): 8, a binding was made; 9, one ended; 12 and 13, a packet got none;
-    /// empty, a binding is live at the end of the log, and ends at the row's time if no packet
-    /// comes.
+    /// empty, a binding is live at the end of the log, and ends at this time if no packet comes.
     pub event: LogField,
     /// The number of the protocol (IANA).
     pub protocol: LogField,
@@ -44,8 +43,7 @@ pub struct LogRow {
 }
 
 impl LogRow {
-    /// Reads a row without the line feed at its end. Returns `None` if the number of fields is
-    /// wrong.
+    /// Reads a row without its line feed. Returns `None` if the number of fields is wrong.
     pub fn read(row: &str) -> Option<LogRow>
         ensures { (rules : Rules) (event : Told) → saved.IsEvent event →
             rows.csv_row rules event ≡ row.now ++ codes "\n" →
@@ -96,8 +94,7 @@ impl LogRow {
         (read, row)
     }
 
-    /// Returns the binding of a row. The error names the field without a valid value, and what it
-    /// expects.
+    /// Returns the binding of a row. The error names an invalid field, and the expected value.
     pub fn binding(&self) -> Result<Row, &'static str>
         ensures { (time event : Option ℕ) (listed : Logged) →
             self.now ≡ saved.binding_row time event listed → result ≡ Ok listed.entry.binding }

@@ -61,8 +61,7 @@ pub fn begins_piece(each: Option<NonZeroU32>, last: Option<u64>, now: u64) -> bo
     last / length < now / length
 }
 
-/// Appends a row without an event for each live binding, at the end. Fails only if memory is
-/// refused.
+/// Appends the final row of each live binding, without an event. Fails only if memory is refused.
 pub fn add_living(config: &Config, living: &[LogEntry], text: &mut String) -> Result<(), AllocError>
     ensures { OnOk result (string_bytes text.new ≡ string_bytes text.old
         ++ logs.living_rows config.now living.now) }
@@ -79,9 +78,8 @@ pub fn log_grows()
 {}
 
 /// Proves that the log of a run without its rows of live bindings, followed by the log of the run
-/// that continues from there, is the log of the run over all inputs, also if the state was saved
-/// and taken up. From the beginning of a piece, the log is that of a run that continues with a new
-/// log.
+/// that continues from there, also from a saved state, is the log of the run over all inputs. From
+/// the beginning of a piece, the log is that of a run that continues with a new log.
 pub fn logs_join()
     ensures join { logs.LogsJoin }
     ensures saved { logs.SavedLogsJoin }

@@ -11,8 +11,7 @@ const SECOND: u64 = 1_000_000_000;
 
 const MINUTES: u32 = 60;
 
-/// The first time of the year 10000, in ns; from then on a year exceeds the four digits of RFC
-/// 3339.
+/// The first time of the year 10000, in ns. RFC 3339 has years of four digits.
 const UNDATED: u128 = 253_402_300_800_000_000_000;
 
 /// A time, in ns since 1970-01-01 UTC.

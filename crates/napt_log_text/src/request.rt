@@ -1,5 +1,4 @@
-//! Requests to a log for the holders of an external endpoint (RFC 6888, section 4; RFC 6269,
-//! section 12).
+//! Requests for the holders of external endpoints (RFC 6888, section 4; RFC 6269, section 12).
 ghost use Rattle.std.specs.Prelude.{◌≡◌, IfOk};
 ghost use Rattle.napt_log_text.specs.Requests as requests;
 
@@ -34,8 +33,7 @@ pub struct NearestEntries {
 }
 
 impl Request {
-    /// Returns the entries that answer the request, in their order. Fails only if memory is
-    /// refused.
+    /// Returns the entries that answer the request, in order. Fails only if memory is refused.
     pub fn holders_among(&self, alloc: Global, entries: &[Entry]) -> Result<Vec<Entry>, AllocError>
         ensures { IfOk result (λ found. found.items ≡ requests.holders self.now entries.now) }
     {

@@ -62,8 +62,7 @@ impl StopReason {
         };
     }
 
-    /// Returns the reason of a stop that is not due to a file, if it adds anything to the fault
-    /// line.
+    /// Returns the reason of a stop not due to a file, if it adds anything to the fault line.
     fn other_reason(&self, alloc: Global, options: &OptionsWithLog, stop: Stop) -> Option<String> {
         match stop {
             Stop::Config(ConfigFault::Memory) => None,

@@ -155,9 +155,9 @@ fn write_report<W: Sink>(output: &mut W, report: &str) -> Result<(), Fault>
 /// `Memory` if memory is refused, and with `Pool` if a worker could not be started or stopped early
 /// (never `GateShut` under a gate that is always open). After these faults nothing has been written.
 ///
-/// `Fault::Write` if writing that output failed. The outputs before it are complete, it contains
-/// the first `written` bytes of its text, and the outputs after it are untouched. It is never the
-/// log.
+/// `Fault::Write` if writing that output, never the log, failed. The outputs before it are
+/// complete, it contains the first `written` bytes of its text, and the outputs after it are
+/// untouched.
 pub fn run_captures<
     T: Threads + Wait + Copy + Send + 'static,
     R: Source,

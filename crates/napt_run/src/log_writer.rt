@@ -157,8 +157,7 @@ impl<'a, 'b, L: Sink> LogWriter<'a, 'b, L> {
         }
     }
 
-    /// Writes and flushes the rows of the bindings that are live at the end, if no run continues
-    /// it.
+    /// Writes and flushes the rows of the bindings live at the end, if no run continues it.
     fn finish(&mut self) -> Result<OpenLog, Fault>
         ensures text { (from : LoggedOrigin) (all : List Did) → LogIsAt from all self.old →
             Closes from all (ending_with from all) self.old.output result self.new }

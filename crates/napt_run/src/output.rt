@@ -160,8 +160,7 @@ fn write_all<W: Sink>(device: &mut W, bytes: &[u8]) -> Result<(), WriteFault>
     Ok(())
 }
 
-/// Returns a fault in a part of the text, which `before` bytes precede, counted from the text's
-/// start.
+/// Returns a fault in a part of the text, after `before` bytes, counted from the text's start.
 fn shifted(before: u64, fault: WriteFault) -> WriteFault
     ensures { result.written ≡ min (before + fault.written) (2 ^ 64 - 1) }
 {

@@ -77,8 +77,8 @@ impl<'a, 'b, W: Sink, V: Sink> Leaving<'a, 'b, W, V> {
         }
     }
 
-    /// Counts the outcome of an input, and writes the record of its packet, if any, with its time
-    /// in ns.
+    /// Counts the outcome of an input, and writes the record of its packet, if any, at its time in
+    /// ns.
     #[inline(always)]
     pub(crate) fn write(&mut self, time: u64, outcome: &Outcome) -> Result<(), Fault>
         ensures of_output { IfErr result IsOfOutput }

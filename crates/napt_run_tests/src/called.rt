@@ -15,8 +15,7 @@ use napt_wire::Endpoint;
 use std::sync::Arc;
 use std::test::Fail;
 
-/// Returns the outputs of a call under a gate, and the gate's count. The packets come from inside,
-/// with these endpoints.
+/// Returns the outputs of a call over inside packets with these endpoints, and the gate's count.
 fn under_gate(
     rt: &impl TestRuntime,
     call: Call,

@@ -32,8 +32,7 @@ pub(crate) enum Device {
     Log,
 }
 
-/// Moves at most `most` > 0 bytes at a time, and fails at a call, counted from 1, or never if it is
-/// 0.
+/// Moves at most `most` > 0 bytes at a time, and fails at a call, from 1, or never if it is 0.
 pub(crate) fn at_most(most: usize, call: u64, trouble: InjectedFault) -> FaultPlan
     ensures { 0 < result.most }
 {
@@ -194,8 +193,7 @@ pub(crate) fn push_packet(
     text.extend_from_slice(bytes)
 }
 
-/// Returns the inside capture of those of the thousand inputs that arrive in this range, in
-/// microseconds.
+/// Returns the inside capture of the thousand inputs' part in this range, in microseconds.
 pub(crate) fn sent_in(alloc: Global, times: &Range<u32>) -> Result<Vec<u8>, AllocError> {
     let mut text = Vec::from_slice(alloc, &HEADER)?;
     for input in &thousand_inputs(alloc)? {
@@ -222,8 +220,7 @@ pub(crate) fn replies_in(alloc: Global, times: &Range<u32>) -> Result<Vec<u8>, A
     Ok(text)
 }
 
-/// Returns the outputs of a run over both captures under a gate, with rings of this number of
-/// slots.
+/// Returns the outputs of a run over both captures under a gate, with rings of this size.
 fn large_run(rt: &impl TestRuntime, ring: &str, gate: Arc<Hold>) -> Result<RunOutput, Fail> {
     let alloc = rt.alloc();
     let settings = format!(in alloc; "{THREE_ADDRESSES}ring = {ring}\n")?;

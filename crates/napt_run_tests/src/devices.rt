@@ -33,8 +33,7 @@ fn silent(fault: Fault) -> DeviceRunEnd {
 const WHOLE: DeviceRunEnd = (Ok(()), [70, 24, 307]);
 
 /// Checks the end of a run over the capture of one packet on the inside and of none on the outside.
-/// The capture to the inside is only a header, the 24 bytes with which the capture to the outside
-/// begins.
+/// The capture to the inside is only a header, the first 24 bytes of the capture to the outside.
 fn assert_ends(
     rt: &impl TestRuntime,
     plans: &[(Device, FaultPlan)],
@@ -62,8 +61,7 @@ fn assert_ends(
     Ok(())
 }
 
-/// The inside capture takes four reads: two headers, the packet, and the end. The outside capture
-/// takes two.
+/// The inside capture takes four reads, for two headers, the packet and the end, the outside two.
 #[test]
 fn each_read_of_a_run_fails(rt: HostRuntime) -> Result<(), Fail> {
     let (inside, outside) = (Device::Inside, Device::Outside);

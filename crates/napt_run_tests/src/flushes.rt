@@ -1,5 +1,4 @@
-//! A property beyond the contracts of a run over captures that are read in steps: packets share
-//! flushes.
+//! A property beyond the contracts: packets share flushes if captures are read in steps.
 
 use crate::captures::{ALL_TIMES, HEADER, sent_in};
 use crate::gates::{GateMode, Hold};

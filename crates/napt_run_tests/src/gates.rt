@@ -16,8 +16,7 @@ pub(crate) enum GateMode {
     Open,
     /// It delays worker 0 at the first thousand requests, and counts all requests of that worker.
     Slow,
-    /// It delays each of two workers at its first leg until it has seen the other there, and counts
-    /// these.
+    /// It delays two workers at their first legs until it has seen both there, and counts these.
     Meeting,
     /// It delays worker 0 at its first leg, until worker 2 has begun its own.
     AfterThird,
@@ -25,8 +24,7 @@ pub(crate) enum GateMode {
     Shown,
     /// It delays this worker at this turn forever, and counts its requests for it.
     Shut(u32, u64),
-    /// It delays two workers, worker 0 until worker 1 is refused for the last time, and counts
-    /// worker 1's requests.
+    /// It delays worker 0 until worker 1's last refusal, and counts the requests of worker 1.
     SecondFirst,
 }
 

@@ -117,8 +117,7 @@ fn full_ring_holds_up_no_other(rt: HostRuntime) -> Result<(), Fail> {
 #[test]
 fn gate_stays_shut(rt: HostRuntime) -> Result<(), Fail> {
     let rows: [(GateMode, &[PacketEnds]); 3] = [
-        // 10.0.0.3 has the second worker: the gate refuses the fourth of its packets a million
-        // times.
+        // The gate refuses the fourth packet of 10.0.0.3, on the second worker, a million times.
         (GateMode::Shut(1, 3), &[SECOND_QUERY; 5]),
         // A hairpin that finds no binding, and then a packet of the host to which it went.
         (GateMode::Shut(1, 0), &[hairpin(2), served()]),

@@ -92,8 +92,7 @@ fn numbers(alloc: Global, listed: &[LogEntry]) -> Result<Vec<u64>, AllocError> {
     listed.iter().map(|one| one.number).collect(alloc)
 }
 
-/// The saved entries continue with their numbers and without rows. At first the log's state is the
-/// saved one.
+/// The saved entries continue with their numbers, without rows. The log begins in its saved state.
 #[test]
 fn a_log_goes_on_with_the_bindings_of_its_state(rt: HostRuntime) -> Result<(), Fail> {
     let alloc = rt.alloc();

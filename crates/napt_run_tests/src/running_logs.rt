@@ -26,8 +26,8 @@ sourceTransportPort,postNATSourceIPv4Address,postNAPTSourceTransportPort,natQuot
 packets_out,packets_in,flowEndNanoseconds,last_use\n\
 0,1970-01-01T00:00:00.000000000Z,8,17,10.0.0.3,7000,203.0.113.1,7000,,1,1,0,0,,\n";
 
-/// The first packet makes a binding, and the second goes through it. Both are live at the end, the
-/// redirect forever.
+/// The first packet makes a binding, which the second uses. It and the redirect are live at the
+/// end.
 const ROWS: &str =
     "10000,1970-01-01T00:00:00.000010000Z,8,17,10.0.0.2,5000,203.0.113.1,5000,,2,0,1,0,\
 10000,1970-01-01T00:00:00.000010000Z\n\
@@ -152,8 +152,7 @@ fn log_of_a_run_in_two_parts(rt: HostRuntime) -> Result<(), Fail> {
     Ok(())
 }
 
-/// When the clock passes a second, a new piece begins, with the text of a run that continues there
-/// with a new log.
+/// When the clock passes a second, a new piece begins, as the log of a run that continues there.
 #[test]
 fn log_of_a_run_in_pieces(rt: HostRuntime) -> Result<(), Fail> {
     let alloc = rt.alloc();

@@ -53,8 +53,7 @@ impl InputSource for Packets {
     fn next(&mut self, _spare: Vec<u8>) -> Result<Option<Input>, AllocError> {
         let number = self.number;
         if number == LOOKED_AFTER {
-            // The worker requests the first turn of a message once all earlier answers are in the
-            // ring.
+            // The worker requests a message's first turn once all earlier answers are in the ring.
             self.gate.wait_for(ANSWERED);
         }
         if number > LOOKED_AFTER {

@@ -50,8 +50,7 @@ fn opened<'a, R: Source>(alloc: Global, source: &'a mut R) -> Result<RecordStrea
     Ok(RecordStream::new(source, records))
 }
 
-/// Prints before each input whether a device is read, and then the input, whether the captures are
-/// cut, or a fault.
+/// Prints whether a device is read, and then each input, whether the captures are cut, or a fault.
 fn print_inputs<P: Print, R: Source, Q: Source>(
     line: &Line<'_, P>,
     streams: &mut StreamMerger<'_, '_, R, Q>,

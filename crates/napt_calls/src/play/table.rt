@@ -73,8 +73,8 @@ pub(crate) fn is_number(protocol: Protocol, number: u16) -> bool
     }
 }
 
-/// `outbound NOW PROTOCOL INSIDE REMOTE FLAGS [FIRST SIZE]`: prints the answer. FIRST and SIZE are
-/// of the host's block.
+/// `outbound NOW PROTOCOL INSIDE REMOTE FLAGS [FIRST SIZE]`: prints the answer, with a block or
+/// not.
 fn outbound<R: Print>(line: &mut Line<'_, R>, table: &mut Table, now: u64) -> Result<(), CallFault>
     requires { table.old.at ≤ now }
 {

@@ -62,8 +62,7 @@ pub(crate) fn inputs(alloc: Global) -> Result<Vec<Input>, CallResult> {
     merge(alloc, inside, outside).map_err(|_| CallResult::Before)
 }
 
-/// Returns whether an input is a packet of 28 bytes that arrived from a side at a time, in seconds,
-/// the latest so far.
+/// Returns whether an input is a packet of 28 bytes from a side at a time in s, the latest so far.
 fn came(input: &Input, side: Side, seconds: u64) -> bool {
     let time = seconds.saturating_mul(1_000_000_000);
     input.side == side && input.time == time && input.clock == time && input.bytes.len() == 28

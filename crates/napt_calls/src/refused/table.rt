@@ -24,8 +24,7 @@ const PACKETS: u16 = 60;
 pub(crate) enum TableCall {
     /// Each packet is the first of its host.
     Bindings,
-    /// Each packet except the first of its protocol has an existing binding, and is sent to another
-    /// remote.
+    /// Each packet except the first of its protocol has a binding, and is sent to another remote.
     Flows,
     /// Each packet is sent 400 s after the last one of its protocol and host, whose binding has
     /// ended. Others are live.
@@ -42,8 +41,7 @@ struct TablePacket {
     flags: Flags,
 }
 
-/// Returns the packet of a kind at an index, from 10.0.0.0:5000 and up to 198.51.100.0:53 and up,
-/// the protocols in turn.
+/// Returns the packet of a kind at an index, from 10.0.0.0:5000 and up, of each protocol in turn.
 fn packet_of(kind: TableCall, place: u16) -> TablePacket {
     let round = place / 3;
     let protocol = match place % 3 {
@@ -76,8 +74,7 @@ fn packet_of(kind: TableCall, place: u16) -> TablePacket {
     }
 }
 
-/// Sends the packet. Returns the external number, or `None` if the packet is refused or not
-/// allowed.
+/// Sends the packet. Returns the external number, or `None` if it is refused or not allowed.
 fn send(alloc: Global, table: &mut Table, packet: TablePacket) -> Result<Option<u16>, AllocError> {
     let TablePacket {
         now,
@@ -127,8 +124,7 @@ fn step(alloc: Global, table: &mut Table, packet: TablePacket) -> Result<(), Cal
         Protocol::Tcp => 240,
         Protocol::Udp => 300,
     };
-    // The times of the packet before it, of the packet, and of the end of a binding as old as the
-    // packet before it.
+    // The times of the packet before it, of the packet, and of the end of the former's binding.
     let times = [at, packet.now, at.saturating_add(lasts * SECOND)];
     let before = rows_at(alloc, table, &times)?;
     match send(alloc, table, packet) {

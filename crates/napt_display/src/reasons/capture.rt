@@ -112,8 +112,7 @@ pub fn capture_reasons(
     Ok(reasons)
 }
 
-/// Adds the probable form of some bytes and, if known, the command that makes napt's captures of
-/// them.
+/// Adds the probable form of some bytes and, if known, the command that converts them for napt.
 fn add_form(
     alloc: Global,
     reasons: &mut Vec<Reason>,

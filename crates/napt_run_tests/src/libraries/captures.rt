@@ -44,8 +44,7 @@ fn shape_of_front(length: u16) -> Result<Shape, CaptureFault> {
     }
 }
 
-/// The numbers of bytes of a read, and of the reads of the capture, of which the last finds the
-/// end.
+/// The number of bytes of a read, and the number of reads, of which the last finds the end.
 #[test]
 fn each_read_fails_in_turn(rt: HostRuntime) {
     let all_reads = [4, 4, 5, 6, 13, 36, 71];

@@ -58,8 +58,7 @@ fn change(
     Ok(())
 }
 
-/// Node 0 remains first and node 1 last. 600 times, one of 20 others is removed or inserted, as the
-/// numbers say.
+/// Node 0 remains first and node 1 last. 600 times, one of 20 others is removed or inserted.
 #[test]
 fn row_and_list_of_nodes_agree(rt: HostRuntime) -> Result<(), Fail> {
     let end = Links {

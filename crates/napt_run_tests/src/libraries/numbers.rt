@@ -1,5 +1,4 @@
-//! The number of an inside endpoint whose class is full. `tests/calls` and `tests/numbers` have
-//! more.
+//! The number of an inside endpoint whose class is full. `tests/calls` has other cases.
 
 use crate::samples::hosts::host;
 use napt_config::NumberAssignment;

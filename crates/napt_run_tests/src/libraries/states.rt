@@ -1,5 +1,4 @@
-//! A state with all kinds of lines is written and read. Damaged texts are refused, by line and
-//! reason.
+//! A state with all kinds of lines is written and read. Damaged texts are refused with a reason.
 
 use napt_state::{read_state, write_state};
 use std::alloc::Global;

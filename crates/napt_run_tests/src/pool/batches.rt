@@ -162,8 +162,7 @@ fn until_stopped(
     None
 }
 
-/// The gate is shut at a step of a batch: the earlier answers come, then the fault, without the
-/// step.
+/// The gate is shut at a step of a batch: the earlier answers come, and then the fault.
 #[test]
 fn gate_is_shut_in_a_batch(rt: HostRuntime) -> Result<(), Fail> {
     for shut in 0..4u64 {

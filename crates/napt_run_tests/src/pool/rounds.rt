@@ -132,8 +132,7 @@ fn ring_rounds(rt: HostRuntime) -> Result<(), Fail> {
 }
 
 /// A pool of one worker is filled and closed at once: its item ring has room for Close in addition
-/// to all items. Usually the worker has not begun when it is closed, so that all items are in the
-/// ring.
+/// to all items. Usually all items are in the ring when it is closed.
 #[test]
 fn full_pool_closes(rt: HostRuntime) -> Result<(), Fail> {
     for capacity in [1u16, 2, 64] {

@@ -40,8 +40,7 @@ fn sleeps<R: Files + AllocGlobal>(rt: &R) -> Result<u64, Fail> {
     Err("no count of sleeps".into())
 }
 
-/// The first 512 pauses of a wait are not sleeps, and each later one is. There are few other
-/// sleeps.
+/// The first 512 pauses of a wait are not sleeps, and each later one is. Other sleeps are few.
 #[test]
 fn sleeps_after_its_looks(rt: HostRuntime) -> Result<(), Fail> {
     let mut backoff = Backoff::new();

@@ -39,8 +39,7 @@ pub(crate) struct Watch {
     /// that of the worker's next step, or with another size.
     pub(crate) asks: AtomicU64,
     pub(crate) strange: AtomicU64,
-    /// The number of sizes that the gate was shown. The size of a machine is the number of its
-    /// steps.
+    /// The number of sizes shown to the gate. The size of a machine is the number of its steps.
     pub(crate) shown: AtomicU64,
     /// The number of machines that were dropped.
     pub(crate) drops: AtomicU64,

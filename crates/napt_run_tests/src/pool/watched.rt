@@ -31,8 +31,7 @@ pub(super) fn make_watched<R: TestRuntime>(
     Ok(Watched { pool, watch })
 }
 
-/// Each worker takes three items, under any gate, and each step sees all other workers in a step of
-/// the same number.
+/// Each worker takes three items, under any gate, and each step sees all workers in the same step.
 fn step_together(rt: &impl TestRuntime, workers: u32, refuse: &[bool]) -> Result<(), Fail> {
     let alloc = rt.alloc();
     let watch = Watch::new(alloc, refuse.len(), GateAnswer::Yes, true)?;
