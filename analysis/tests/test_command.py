@@ -24,7 +24,7 @@ def test_sizes_of_captures(capsys):
     assert main(["sizes", "--config", CONFIG, *CAPTURES]) == 0
     printed = capsys.readouterr()
     assert "203.0.113.2 tcp      even ports from 1024 on" in printed.out
-    living = "2 of 2 bindings have not ended when the captures do, after 8 s: the greatest number at once may be higher"
+    living = "2 of 2 bindings are live when the captures end, after 8 s: the greatest number at once may be higher"
     assert printed.err == f"napt-analysis: {living}\n"
 
 

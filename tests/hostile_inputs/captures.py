@@ -165,4 +165,4 @@ def warned(rules, readings, name):
         here, there = (".".join(map(str, it)) for it in sources)
         text = f"{name}: the captures seem to be swapped: the first packet from inside is from {here}, and that from outside from {there}\n"
     cuts = (side for side, it in zip(("inside", "outside"), readings) if it.is_cut)
-    return text + "".join(f"{name}: the capture {side} is cut: its last packet is not whole, and is left out\n" for side in cuts)
+    return text + "".join(f"{name}: the capture {side} is cut: its last packet is incomplete, and is ignored\n" for side in cuts)

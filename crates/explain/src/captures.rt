@@ -1,4 +1,4 @@
-//! The captures of a run, one packet at a time, and the reasons why one is refused.
+//! Reads the captures of a run, one packet at a time, and prints why one is refused.
 
 ghost use Rattle.std.specs.Prelude.{◌-◌, ◌^◌, ◌<◌};
 
@@ -46,7 +46,7 @@ pub struct RefusedRun<'a> {
 }
 
 impl RefusedRun<'_> {
-    /// Reads the beginning of a side's capture. If that fails, prints why.
+    /// Reads the beginning of a side's capture, or prints why it cannot be read.
     pub fn begin<R: Eprint + AllocGlobal, D: Read + Drop>(
         self,
         rt: &R,
@@ -69,7 +69,7 @@ impl RefusedRun<'_> {
         Err(self.refuse(rt, side, &head, fault, Some(error)))
     }
 
-    /// Reads the header of a side's capture, which begins with these bytes. If it is refused, prints why.
+    /// Reads the header of a side's capture, which begins with these bytes, or prints why it fails.
     pub fn open<'a, R: Eprint + AllocGlobal, S: Source>(
         self,
         rt: &R,
@@ -86,8 +86,8 @@ impl RefusedRun<'_> {
         }
     }
 
-    /// Prints why the capture of a side, which begins with these bytes, is refused, with the system's reason if there
-    /// is one, and returns how the program stops.
+    /// Prints why the capture of a side, which begins with these bytes, is refused, with the
+    /// system's reason if there is one, and returns the stop.
     fn refuse<R: Eprint + AllocGlobal>(
         self,
         rt: &R,
@@ -126,7 +126,7 @@ impl RefusedRun<'_> {
     }
 }
 
-/// The packets of both captures, in the order in which `napt` takes them.
+/// The packets of both captures, in the order in which `napt` processes them.
 #[derive(Drop)]
 pub struct CaptureInputs<'r, 'i, 'o, A: Source, B: Source> {
     refusing: RefusedRun<'r>,
@@ -137,7 +137,7 @@ pub struct CaptureInputs<'r, 'i, 'o, A: Source, B: Source> {
 }
 
 impl<'r, 'i, 'o, A: Source, B: Source> CaptureInputs<'r, 'i, 'o, A, B> {
-    /// Returns the packets of captures whose headers have been read, for a run that starts at this time, in ns.
+    /// Returns the packets of captures after their headers, for a run that starts at a time in ns.
     pub fn new(
         alloc: Global,
         refusing: RefusedRun<'r>,
@@ -155,8 +155,8 @@ impl<'r, 'i, 'o, A: Source, B: Source> CaptureInputs<'r, 'i, 'o, A, B> {
         }
     }
 
-    /// Passes the packets to a consumer, one after another, until the end. If a capture is refused, prints why, after
-    /// the consumer's output for the packets before.
+    /// Passes the packets to a consumer, one after another, until the end. If a capture is refused,
+    /// prints why, after the consumer's output for the packets before.
     pub fn pass_to<R: Eprint + AllocGlobal, C: PacketConsumer<R>>(
         &mut self,
         rt: &R,

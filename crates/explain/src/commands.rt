@@ -14,8 +14,8 @@ const SHOW: &str =
     "Prints a line for each packet, the bindings and a summary (the default command)";
 
 const WHO: &str =
-    "Prints who held an external endpoint, or any port of an address: a line for each inside endpoint, with its protocol and \
-the times at which it got and lost the external endpoint; the status is 1 if nobody held it";
+    "Prints who had an external endpoint, or any port of an address: a line for each inside endpoint, with its protocol and \
+the times of its beginning and end; the status is 1 if nobody had it";
 
 const LOG: &str =
     "Writes the log of the run in CSV to standard output (docs/FORMATS.md). It has a row when a binding \
@@ -31,16 +31,16 @@ const COMPARE: &str =
 are any";
 
 const FOLLOW: &str =
-    "Writes the outside capture in which each reply is sent to its external endpoint: napt makes the same run from it";
+    "Writes an outside capture in which each reply is sent to its external endpoint, so that napt makes the same run";
 
 const CONFIG: &str = "Configuration in TOML [default: the built-in configuration]";
 
 const REPLIES: &str =
-    "Capture of replies as inside hosts got them, in place of --outside: each is sent to the external endpoint that its \
+    "Capture of replies as inside hosts received them, instead of --outside: each is sent to the external endpoint that its \
 inside endpoint has in this run at that time (docs/FORMATS.md)";
 
 const AT: &str =
-    "The time in question: seconds since 1970, as in the lines, or an RFC 3339 date such as 2026-11-26T10:02:07Z. \
+    "The time of the request: seconds since 1970, as in the lines, or an RFC 3339 date such as 2026-11-26T10:02:07Z. \
 That date means the whole second; with nine decimals it means one nanosecond [default: any time]";
 
 const REQUESTS: &str =
@@ -48,50 +48,50 @@ const REQUESTS: &str =
 begins with the number of its line; the status is 1 if nobody had one of the endpoints";
 
 const FROM_LOG: &str =
-    "Answers from this log, or the pieces of one in their order, in place of captures; --config gives the pool";
+    "Answers from this log, or from its pieces in order, instead of captures; --config gives the pool";
 
 const AS_NAPT: &str =
-    "Uses the run that napt makes from the captures, even if the captured gateway used other numbers";
+    "Answers from napt's run over the captures, even if the captured gateway used other numbers";
 
 const HOST: &str =
     "Prints only the packets and bindings with this address or endpoint, inside or external";
 
 const PAIRS: &str =
-    "Prints a [[pair]] for each host that has a live binding in a state and would get another external address from this \
-configuration. With these pairs the configuration keeps the bindings (at most 256, the limit of a configuration)";
+    "Prints a [[pair]] for each host that has a live binding in a state, and that this configuration would give another \
+external address: with its pair, a host retains its bindings (at most 256 pairs, the limit of a configuration)";
 
 const ENDED: &str =
-    "Ends at the start the bindings of the state that the configuration cannot keep; all others go on";
+    "Bindings of the state that the configuration does not accept expire at the start; all others continue";
 
-const WRITTEN: &str = "File to write, which no other argument may name";
+const WRITTEN: &str = "File to write, which no other option may name";
 
 const LOG_WRITTEN: &str =
-    "File to write the log to, which must be empty or new, and which no other argument may name";
+    "File to write the log to, which must be new or empty, and which no other option may name";
 
 const REPORT: &str =
-    "File for the report of the same run, as napt writes it; what the captures cannot show is then printed on standard error";
+    "File for the report of the same run, as napt writes it; the limits of the captures are then printed on standard error";
 
 const PACKETS: &str =
     "File for the packets in CSV (docs/FORMATS.md), a row for each: its number, time, side, outcome and cause, and the \
 numbers of the bindings through which it went out and came in";
 
 const NOT_WRITTEN: &str =
-    "Never written: accepted where napt or stream accepts it, and refused where that refuses it";
+    "Accepted as an option of napt or stream, and refused if that program would refuse it; never written";
 
 const RESUMED: &str =
-    "State from which the run goes on, as napt and stream save it [default: a new run]";
+    "State from which the run continues, as napt and stream save it [default: a new run]";
 
-/// The words of a call: the program's name first, and then always a command.
+/// The words of a call: first the program's name, and then a command in every case.
 #[derive(Drop)]
 pub struct CommandTexts {
     pub list: Vec<String>,
-    /// Whether the words named the command. If not, the command is `show`, which then also has the options for the
-    /// outputs of `napt` and the log of `stream`.
+    /// Whether the words named the command. If not, the command is `show`, which then also has the
+    /// options for the outputs of `napt` and the log of `stream`.
     is_named: bool,
 }
 
 impl CommandTexts {
-    /// Takes the words of a call, and adds `show` if they begin with an option or if there are none.
+    /// Returns the words of a call, after `show` if they begin with an option or there are none.
     pub fn from_words(alloc: Global, given: Vec<String>) -> Result<CommandTexts, AllocError> {
         let is_named = given.get(1).is_some_and(|word| is_name(word));
         let mut list = Vec::new(alloc);
@@ -143,8 +143,7 @@ impl CommandTexts {
     }
 }
 
-/// Returns whether the first word of a call names a command, or requests the help of all commands
-/// or the version.
+/// Returns whether the first word of a call names a command, or requests help or the version.
 fn is_name(word: &str) -> bool {
     !word.starts_with('-') || matches!(word, "-h" | "--help" | "-V" | "--version")
 }
@@ -227,7 +226,7 @@ fn follow<'a>(alloc: Global) -> Result<Command<'a>, AllocError> {
         .arg(argument(alloc, "file", "FILE", WRITTEN))
 }
 
-/// A command over captures under a configuration.
+/// Returns a command over captures under a configuration.
 fn configured<'a>(alloc: Global, name: &'a str, about: &'a str) -> Result<Command<'a>, AllocError> {
     let command = Command::new(alloc, name).about(about).arg(config(alloc))?;
     let command = command.arg(resume(alloc))?;
@@ -242,7 +241,7 @@ fn with_captures<'a>(alloc: Global, command: Command<'a>) -> Result<Command<'a>,
             alloc,
             "outside",
             "FILE",
-            "Capture of what comes from the outside [default: no packets]",
+            "Capture of the packets from the outside [default: no packets]",
         ))?
         .arg(value(alloc, "replies", "FILE", REPLIES).conflicts_with("outside")?)
 }
@@ -264,7 +263,7 @@ fn config<'a>(alloc: Global) -> Arg<'a> {
     value(alloc, "config", "FILE", CONFIG)
 }
 
-/// The option of a state, which is hidden in commands that refuse it.
+/// Returns the option of a state, which is hidden in commands that refuse it.
 fn resume<'a>(alloc: Global) -> Arg<'a> {
     value(alloc, "resume", "FILE", RESUMED)
 }
@@ -274,11 +273,11 @@ fn inside<'a>(alloc: Global) -> Arg<'a> {
         alloc,
         "inside",
         "FILE",
-        "Capture of what inside hosts send [default: standard input]",
+        "Capture of the packets that inside hosts send [default: standard input]",
     )
 }
 
-/// An option without a value.
+/// Returns an option without a value.
 fn flag<'a>(alloc: Global, name: &'a str, meaning: &'a str) -> Arg<'a> {
     Arg::new(alloc, name)
         .long(name)
@@ -286,14 +285,14 @@ fn flag<'a>(alloc: Global, name: &'a str, meaning: &'a str) -> Arg<'a> {
         .help(meaning)
 }
 
-/// An option with a value.
+/// Returns an option with a value.
 fn value<'a>(alloc: Global, name: &'a str, value: &'a str, meaning: &'a str) -> Arg<'a> {
     argument(alloc, name, value, meaning)
         .long(name)
         .required(false)
 }
 
-/// A required word without an option.
+/// Returns a required word without an option.
 fn argument<'a>(alloc: Global, name: &'a str, value: &'a str, meaning: &'a str) -> Arg<'a> {
     Arg::new(alloc, name)
         .action(ArgAction::Set)

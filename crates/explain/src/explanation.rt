@@ -18,11 +18,11 @@ use std::rt::Files;
 #[derive(Drop)]
 pub struct BegunRun<'a> {
     run: LoggedRun<'a>,
-    /// The time from which the run goes on, in ns.
+    /// The time from which the run continues, in ns.
     clock: u64,
     /// The log as it was saved.
     pub before: OpenLog,
-    /// The entries that end at that time, and those that begin there.
+    /// The entries that end at that time, and the entries that begin there.
     pub ended: Vec<LogEntry>,
     pub made: Vec<LogEntry>,
 }
@@ -47,7 +47,7 @@ impl<'a> BegunRun<'a> {
 }
 
 impl BegunRun<'_> {
-    /// Returns how its log begins.
+    /// Returns the beginning of its log.
     pub fn opening(&self) -> LogOpening<'_> {
         LogOpening {
             before: &self.before,
@@ -70,7 +70,7 @@ pub struct Explanation<'a, 'b, O> {
     unmatched: UnmatchedSelection,
     progress: ExplainProgress,
     page: Page,
-    /// The number of packets, the time from which the run goes on, and the latest time so far, in ns.
+    /// The number of packets, the time from which the run continues, and the latest time, in ns.
     packets: u64,
     first: u64,
     last: u64,
@@ -102,7 +102,7 @@ impl<'a, 'b, O: Drop> Explanation<'a, 'b, O> {
         })
     }
 
-    /// Prints what needs the end of the run, after all packets.
+    /// Prints the output that needs the end of the run, after all packets.
     pub fn end<R: Print + Eprint + AllocGlobal>(
         self,
         rt: &R,

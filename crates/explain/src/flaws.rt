@@ -1,14 +1,15 @@
-//! Flaws of captures: what in them may make a run wrong.
+//! Flaws of captures that may make a run wrong.
 
 use crate::options::OutputForm;
 use napt_commands::{Exit, OutsideCapture};
 use napt_records::CutFlags;
 use napt_sequential::Input;
 
-/// What is printed about a capture that ends inside a record.
-const CUT: &str = "is cut: its last packet is not whole, and is left out";
+/// The message about a capture that ends inside a record.
+const CUT: &str = "is cut: its last packet is incomplete, and is ignored";
 
-/// A second, in ns. Shorter steps back are printed only with times: network cards with several queues make them.
+/// A second, in ns. Shorter steps back are printed only with times, since network cards with
+/// several queues make them.
 const SECOND: u64 = 1_000_000_000;
 
 /// The flaws of captures, once their ends have been reached.
@@ -16,14 +17,14 @@ const SECOND: u64 = 1_000_000_000;
 pub struct CaptureFlaws {
     /// Whether each capture ends inside a record, which is ignored.
     pub cuts: CutFlags,
-    /// What the outside capture contains.
+    /// The kind of the outside capture.
     pub outside: OutsideCapture,
     pub step_back: StepBack,
 }
 
 impl CaptureFlaws {
-    /// Prints which captures end inside a record, whose last packet is ignored: on standard output if it is for people,
-    /// and otherwise on standard error. A step back in time is always printed there.
+    /// Prints which captures end inside a record, whose last packet is ignored: on standard output
+    /// if it is for people, and otherwise on standard error, as a step back in time always is.
     pub fn print<R: Print + Eprint>(self, rt: &R, form: OutputForm<'_>) -> Result<(), Exit> {
         self.step_back.print(rt, form);
         let CutFlags { inside, outside } = self.cuts;
@@ -38,13 +39,13 @@ impl CaptureFlaws {
     }
 }
 
-/// The longest step back in time so far, among the packets and the state from which their run goes on.
+/// The longest step back in time so far, among the packets and the state with which the run starts.
 #[derive(Clone, Copy)]
 pub struct StepBack {
     latest: Stamp,
-    /// The length of the step, in ns; 0 if there is none.
+    /// The length of the step, in ns, or 0 if there is none.
     length: u64,
-    /// The number of the latest packet before the step, or 0 if that is the state.
+    /// The number of the latest packet before the step, or 0 for the state.
     from: u64,
     /// The number of the packet after the step.
     to: u64,
@@ -58,7 +59,7 @@ struct Stamp {
 }
 
 impl StepBack {
-    /// Returns no step, after a state of this time, in ns, which is 0 for a new run.
+    /// Returns no step, after a state with this clock, in ns, which is 0 for a new run.
     pub fn from_state(time: u64) -> StepBack {
         StepBack {
             latest: Stamp { number: 0, time },
@@ -68,7 +69,7 @@ impl StepBack {
         }
     }
 
-    /// Adds the next packet.
+    /// Compares the next packet with the latest time so far.
     pub fn add_packet(&mut self, number: u64, input: &Input) {
         let time = input.time;
         let Some(far) = self.latest.time.checked_sub(time) else {
@@ -95,7 +96,7 @@ impl StepBack {
         self.print_step(rt);
         if form.is_about_times() {
             let _ = eprintln!(rt;
-                "  each answer covers this much more time than was asked about, and names everybody who had the endpoint then"
+                "  each answer covers this much more time than was requested, and names everyone who had the endpoint then"
             );
         }
         if self.length <= SECOND {
@@ -106,11 +107,11 @@ impl StepBack {
             _ => "were files joined in the wrong order",
         };
         let _ = eprintln!(rt;
-            "  no binding ends until that time is reached again: {cause}, or was a clock set?"
+            "  no binding expires until that time is reached again: {cause}, or was a clock set?"
         );
     }
 
-    /// Prints how long the step is, and between which packets.
+    /// Prints the length of the step, and the packets before and after it.
     fn print_step<R: Eprint>(self, rt: &R) {
         let (from, to) = (self.from, self.to);
         let (seconds, rest) = (self.length / SECOND, self.length % SECOND);

@@ -24,8 +24,8 @@ const END_OF_TIMES: u64 = 4_294_967_296_000_000_000;
 /// The greatest number of bytes before a record that can be written.
 const MOST_BEFORE: u64 = 4_611_686_018_427_387_904;
 
-/// Writes the capture of the inputs from outside to a file, and prints the warnings of their run. If writing fails,
-/// prints the file and the system's reason.
+/// Writes the capture of the inputs from outside to a file, and prints the warnings of their run.
+/// If writing fails, prints the file and the system's reason.
 pub fn follow<R: Files + Eprint + AllocGlobal>(
     rt: &R,
     path: &str,
@@ -50,7 +50,7 @@ pub fn follow<R: Files + Eprint + AllocGlobal>(
     if put_outside(&mut sink, inputs).is_ok() {
         return Ok(());
     }
-    // The device has not kept the system's reason, so a flush asks for it again.
+    // The device has not recorded the system's reason, so a flush requests it again.
     let mut writer = sink.into_inner();
     match writer.flush() {
         Err(error) => Err(print_unwritten(rt, "FILE", path, &error)),
@@ -69,7 +69,7 @@ fn put_outside<W: Sink>(sink: &mut W, inputs: &[Input]) -> Result<(), WriteFault
     written.finish(sink)
 }
 
-/// Appends the record of an input. One that no capture can contain counts as a failed write.
+/// Appends the record of an input. An input that no capture can contain counts as a failed write.
 fn put_record<W: Sink>(
     sink: &mut W,
     written: CaptureWriter,

@@ -1,8 +1,8 @@
 //! The program `explain`, which shows people what a run of `napt` does.
 //!
-//! Each question is a command. A command over captures makes the run of `napt` on one thread, and prints its lines, its
-//! log or who had an endpoint. It accepts the arguments of `napt` and `stream`, but never writes their output files. If
-//! they would refuse a file, `explain` prints why on standard error, and exits with the same status.
+//! Each question is a command. A command over captures makes the run of `napt` on one thread, and
+//! prints its lines, its log or who had an endpoint. It accepts the arguments of `napt` and
+//! `stream`, but never writes their outputs. It prints why they refuse a file, with their status.
 #![tactic(auto)]
 
 mod captures;
@@ -56,8 +56,8 @@ fn run_as_called(rt: &HostRuntime, streams: StandardStreams) -> Result<(), Exit>
     }
 }
 
-/// Runs the command of the command line. Help and the version are printed at once; a usage error is printed and
-/// returned as an error.
+/// Runs the command of the command line. Help and the version are printed at once; a usage error is
+/// printed and returned as an error.
 fn run_command<R: Env + Files + Input + Print + Eprint + AllocGlobal>(
     rt: &R,
     streams: StandardStreams,
@@ -85,8 +85,8 @@ fn run_command<R: Env + Files + Input + Print + Eprint + AllocGlobal>(
     }
 }
 
-/// The command line's arguments, without the `--verbose` of `napt`: the reason is printed in any case. One that is not
-/// UTF-8 is a usage error.
+/// Returns the command line's arguments, without the `--verbose` of `napt`, since the reason is
+/// always printed. An argument that is not UTF-8 is a usage error.
 fn arguments<R: Env + AllocGlobal>(rt: &R) -> Result<Vec<String>, Exit> {
     match env::args(rt) {
         Ok(args) => {
@@ -101,7 +101,7 @@ fn arguments<R: Env + AllocGlobal>(rt: &R) -> Result<Vec<String>, Exit> {
     }
 }
 
-/// Prints the message of `clap`: help and version on standard output, a usage error on standard error.
+/// Prints clap's message: help and version on standard output, a usage error on standard error.
 fn print_message<R: Print + Eprint + AllocGlobal>(rt: &R, error: &Error) -> Result<(), Exit> {
     let text = error.to_string(rt.alloc())?;
     match error.kind() {
@@ -139,8 +139,9 @@ fn run_with_options<R: Files + Input + Print + Eprint + AllocGlobal>(
     }
 }
 
-/// Answers requests from the blocks of a configuration, and from captures if some are named. Without blocks, and for a
-/// log, prints that packets from outside have to show that the captured gateway used the numbers of the run.
+/// Answers requests from the blocks of a configuration, and from captures if any are named. Without
+/// blocks, and for a log, prints that packets from outside are needed to show that the captured
+/// gateway used the numbers of the run.
 fn print_without_outside<R: Files + Input + Print + Eprint + AllocGlobal>(
     rt: &R,
     streams: StandardStreams,
@@ -163,7 +164,7 @@ whether the gateway used the same numbers, or give --as-napt"
     run_on_captures(rt, streams, options, Some(config))
 }
 
-/// Reads the captures, and the configuration unless it has been read, and runs the command over them.
+/// Reads the captures, and the configuration unless it has been read, and runs the command.
 fn run_on_captures<R: Files + Input + Print + Eprint + AllocGlobal>(
     rt: &R,
     streams: StandardStreams,

@@ -36,5 +36,5 @@ and log exit with 7 if the captured gateway used other numbers than napt."
 /// The help under the program's own name.
 pub const OWN: Manual = manual!("explain");
 
-/// The help under the name as which the program is installed.
+/// The help under the name with which the program is installed.
 pub const INSTALLED: Manual = manual!("napt-explain");

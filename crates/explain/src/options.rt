@@ -14,26 +14,26 @@ use std::num::NonZeroU32;
 /// The message for a state that is a standard stream.
 const NO_FILE: &str = "expected a file";
 
-/// What to explain, and in which form.
+/// The subject of the explanation, and its form.
 #[derive(Drop)]
 pub struct ExplainOptions<'m> {
-    /// The files that `napt` would read and write with these arguments; the capture of replies is the outside one.
+    /// The files that `napt` would read and write; the outside capture may be that of replies.
     pub files: napt_program::RunOptions,
     /// The log that `stream` would write with these arguments.
     pub log: Option<&'m str>,
-    /// What the outside capture contains.
+    /// The kind of the outside capture.
     pub outside: OutsideCapture,
     /// The command that runs split, from where this program was called.
     pub split: &'m str,
-    /// The pieces of the log from which requests are answered; none if they are answered from a run.
+    /// The pieces of the log from which requests are answered, or none if a run answers them.
     pub pieces: Vec<String>,
     /// The configuration to compare with.
     pub other: Option<String>,
     pub form: OutputForm<'m>,
     pub choice: PacketSelection,
-    /// Whether the question is about the run of `napt`, whatever numbers the captured gateway used.
+    /// Whether the question is about the run of `napt`, not about the captured gateway.
     pub uses_napt_run: bool,
-    /// Whether bindings of the state that the configuration cannot keep end at the start.
+    /// Whether bindings of the state that the configuration refuses expire at the start.
     pub ends_misfits: bool,
 }
 
@@ -46,7 +46,7 @@ impl<'m> ExplainOptions<'m> {
         }
     }
 
-    /// Returns the role of the first option whose standard stream another option already uses, the log last.
+    /// Returns the role of the first option whose standard stream another uses, the log last.
     pub fn repeated_stream(&self) -> Option<FileRole> {
         let files = &self.files;
         let has_output = files.is_standard(FileRole::ToOutside)
@@ -85,7 +85,7 @@ impl<'m> ExplainOptions<'m> {
         files.inside.is_none() && files.outside.is_none() && files.resume.is_none()
     }
 
-    /// Returns why a state is refused whatever it contains, if it is.
+    /// Returns why a state is refused regardless of its contents, if it is.
     fn state_refusal(&self) -> Option<&'static str> {
         match (self.form, self.outside) {
             (OutputForm::Blocks, _) => Some("blocks depend on the configuration alone"),
@@ -104,7 +104,7 @@ impl<'m> ExplainOptions<'m> {
         is_asked && !self.uses_napt_run
     }
 
-    /// Returns how many of the other configuration, the pieces of a log and the file of requests are standard input.
+    /// Returns how many of other configuration, pieces of a log and requests are standard input.
     pub fn more_from_input(&self) -> usize {
         let named = self.other.iter().chain(&self.pieces);
         let many = named.filter(|path| path.as_str() == "-").count();
@@ -115,22 +115,22 @@ impl<'m> ExplainOptions<'m> {
     }
 }
 
-/// What a command writes.
+/// The output of a command.
 #[derive(Clone, Copy)]
 pub enum OutputForm<'m> {
     /// A line for each packet, the bindings and a summary.
     Lines,
     /// A JSON object for each packet.
     Objects,
-    /// Who had an external endpoint.
+    /// The holders of an external endpoint.
     Holders(Request),
-    /// Who had the endpoints that the file at this path asks about.
+    /// The holders of the endpoints that the file at this path asks about.
     Requests(&'m str),
     /// The log, and the files that are written in addition to it.
     Log(LogPaths<'m>),
     /// The block of each inside host.
     Blocks,
-    /// The pairs by which hosts with live bindings keep their external addresses.
+    /// The pairs by which hosts with live bindings retain their external addresses.
     Pairs,
     /// The packets that have another outcome under another configuration.
     Differences,
@@ -139,7 +139,7 @@ pub enum OutputForm<'m> {
 }
 
 impl<'m> OutputForm<'m> {
-    /// The name in messages of other files that are read.
+    /// Returns the name in messages of other files that are read.
     pub fn name_of_read(self) -> &'static str {
         match self {
             OutputForm::Requests(_) => "--requests",
@@ -148,7 +148,7 @@ impl<'m> OutputForm<'m> {
         }
     }
 
-    /// The name in messages of each file that `explain` alone writes, and its path, if there is one.
+    /// Returns the name in messages of each file that `explain` writes, and its path, if any.
     pub fn written_files(self) -> [(&'static str, Option<&'m str>); 2] {
         match self {
             OutputForm::Log(paths) => [("--to", paths.log), ("--packets", paths.packets)],
@@ -166,7 +166,7 @@ impl<'m> OutputForm<'m> {
         is_shown || matches!(self, OutputForm::Holders(_) | OutputForm::Requests(_))
     }
 
-    /// Returns whether the output is about times that were asked for.
+    /// Returns whether the output is about requested times.
     pub fn is_about_times(self) -> bool {
         match self {
             OutputForm::Holders(request) => request.at.is_some(),
@@ -181,8 +181,8 @@ impl<'m> OutputForm<'m> {
     }
 }
 
-/// Returns the options of a command from its arguments. Prints why a number, a time or an address is invalid, or a
-/// state is refused.
+/// Returns the options of a command from its arguments. Prints why a number, a time or an address
+/// is invalid, or a state is refused.
 pub fn options_of<'m, R: Eprint + AllocGlobal>(
     rt: &R,
     call: ProgramCall,
@@ -221,7 +221,7 @@ pub fn options_of<'m, R: Eprint + AllocGlobal>(
     Ok(options)
 }
 
-/// Refuses a state that cannot be used whatever it contains: the command makes no run from one, or it is not a file.
+/// Refuses a state that cannot be used, since the command makes no run from one, or it is no file.
 fn refuse_states<R: Eprint>(
     rt: &R,
     matches: &ArgMatches<'_>,
@@ -264,7 +264,7 @@ fn refuse_pieces<R: Eprint>(
     }
 }
 
-/// Returns what a command writes.
+/// Returns the output of a command.
 fn form_of<'m, R: Eprint>(
     rt: &R,
     command: &str,
@@ -343,14 +343,14 @@ fn file_of(
     }
 }
 
-/// Prints what is wrong with an argument, after its name, and returns how the program stops.
+/// Prints the mistake in an argument, after its name, and returns the stop.
 fn print_wrong_argument<R: Eprint>(rt: &R, name: &str, text: &str, why: &str) -> Exit {
     let _ = eprintln!(rt; "explain: {name}{text}: {why}");
     Exit::Printed(Stop::Usage)
 }
 
-/// Returns the value of an argument that is present, as its text was parsed. If it is invalid, prints why, after its
-/// name.
+/// Returns the value of an argument that is present, as its text was parsed. If it is invalid,
+/// prints why, after its name.
 fn parsed_value<R: Eprint, T: Drop>(
     rt: &R,
     name: &str,

@@ -1,4 +1,4 @@
-//! The pairs by which hosts with live bindings keep their external addresses under another pool.
+//! The pairs by which hosts with live bindings retain their external addresses under another pool.
 
 use napt_commands::{Exit, Page};
 use napt_config::{Address, Config};
@@ -11,8 +11,9 @@ use std::fmt::Write;
 /// The greatest number of pairs of a configuration.
 const MOST_PAIRS: usize = 256;
 
-/// Prints a pair for each host with a live binding in a state that a configuration would give another external
-/// address, in the order of hosts, and says if there are more than a configuration has, or that it can have none.
+/// Prints a pair for each host with a live binding in a state that a configuration would give
+/// another external address, in the order of hosts. Prints if there are more pairs than a
+/// configuration can have, or if it can have none.
 pub fn print_pairs<R: Print + Eprint + AllocGlobal>(
     rt: &R,
     streams: StandardStreams,
@@ -39,13 +40,13 @@ pub fn print_pairs<R: Print + Eprint + AllocGlobal>(
     if moved.len() > MOST_PAIRS {
         let many = moved.len();
         let _ = eprintln!(rt;
-            "explain: {many} hosts would need a pair, and a configuration has at most {MOST_PAIRS}: the bindings of the others cannot be kept"
+            "explain: {many} hosts would need a pair, and a configuration has at most {MOST_PAIRS}: the bindings of the other hosts cannot be accepted"
         );
     }
     page.end(rt)
 }
 
-/// Returns the hosts with live bindings that a configuration would move, each with its external address.
+/// Returns the hosts with live bindings that a configuration would move, with their addresses.
 fn moved_hosts(
     alloc: Global,
     config: &Config,
@@ -64,8 +65,8 @@ fn moved_hosts(
     Ok(moved)
 }
 
-/// Returns whether a configuration would give an inside host another external address than this one of its pool, and
-/// has no pair for it.
+/// Returns whether a configuration would give an inside host another external address than this one
+/// of its pool, and has no pair for it.
 fn is_moved(config: &Config, host: u32, external: u32) -> bool {
     let by_index = config
         .pool()

@@ -1,5 +1,5 @@
-//! Prints why a file of the command line cannot be used. As for `napt`, `napt_program` decides whether it can be,
-//! except for a log and for what `explain` writes.
+//! Prints why a file of the command line cannot be used. `napt_program` decides this, as for
+//! `napt`, except for a log and for the files that `explain` writes.
 
 use crate::options::ExplainOptions;
 use napt_commands::{Exit, unwritten};
@@ -10,7 +10,7 @@ use std::alloc::AllocError;
 use std::fs;
 use std::rt::Files;
 
-/// Prints why the file of a role cannot be used, and returns how `napt` would stop.
+/// Prints why the file of a role cannot be used, and returns the stop of `napt`.
 pub fn print_file<R: Files + Eprint + AllocGlobal>(
     rt: &R,
     options: &ExplainOptions<'_>,
@@ -36,7 +36,7 @@ fn print_if_some<R: Eprint>(
     }
 }
 
-/// Prints what else names the file of an output.
+/// Prints which other option names the file of an output.
 fn print_again<R: Eprint + AllocGlobal>(
     rt: &R,
     name: &str,
@@ -47,13 +47,13 @@ fn print_again<R: Eprint + AllocGlobal>(
     print_if_some(rt, Ok(Some(text)))
 }
 
-/// Prints that the standard stream for a role is closed, and returns how `napt` would stop.
+/// Prints that the standard stream for a role is closed, and returns the stop of `napt`.
 pub fn print_closed<R: Eprint + AllocGlobal>(rt: &R, role: FileRole) -> Exit {
     print_stopped(rt, closed_text(rt.alloc(), role), role)
 }
 
-/// Prints that a file is `-` although another option uses that standard stream, and returns how `napt` would stop.
-/// `name` is the name of the file's option.
+/// Prints that a file is `-` although another option uses that standard stream, and returns the
+/// stop of `napt`. `name` is the name of the file's option.
 pub fn print_shared<R: Eprint + AllocGlobal>(rt: &R, name: &str, role: FileRole) -> Exit {
     print_stopped(rt, shared_text(rt.alloc(), name, role), role)
 }
@@ -68,7 +68,8 @@ fn print_stopped<R: Eprint>(rt: &R, text: Result<String, AllocError>, role: File
     }
 }
 
-/// Refuses a file that `explain` is to write if it is also read, is written twice or cannot be created, and prints why.
+/// Refuses a file that `explain` is to write if it is also read, is written twice or cannot be
+/// created, and prints why.
 pub fn refuse_written<R: Files + Eprint + AllocGlobal>(
     rt: &R,
     options: &ExplainOptions<'_>,
@@ -91,7 +92,8 @@ pub fn refuse_written<R: Files + Eprint + AllocGlobal>(
     }
 }
 
-/// Returns whether a file that `explain` is to write cannot be written, and prints why. A log never replaces text.
+/// Returns whether an output of `explain` cannot be written, and prints why. A log replaces no
+/// text.
 fn print_unwritable<R: Files + Eprint + AllocGlobal>(
     rt: &R,
     options: &ExplainOptions<'_>,
@@ -119,8 +121,8 @@ fn print_unwritable<R: Files + Eprint + AllocGlobal>(
     Ok(has_text)
 }
 
-/// Refuses the log of `stream`, if one is named, if another option names its file too or it cannot be created, and
-/// prints why.
+/// Refuses the log of `stream`, if one is named, if another option names its file too or it cannot
+/// be created, and prints why.
 pub fn refuse_log<R: Files + Eprint + AllocGlobal>(
     rt: &R,
     options: &ExplainOptions<'_>,

@@ -3,7 +3,7 @@
 use std::fs;
 use std::rt::Files;
 
-/// The number of packets between two reports; a shorter run has none.
+/// The number of packets between two reports. A shorter run has no report.
 const EACH: u64 = 65_536;
 
 /// The progress of a run.
@@ -13,22 +13,22 @@ pub struct ExplainProgress {
 }
 
 impl ExplainProgress {
-    /// Reports progress if standard error is a terminal and standard output is not. On a terminal the lines themselves
-    /// show the progress.
+    /// Reports progress if standard error is a terminal and standard output is not. On a terminal,
+    /// the lines themselves show the progress.
     pub fn new<R: Files + AllocGlobal>(rt: &R) -> ExplainProgress {
         ExplainProgress {
             is_printed: is_terminal(rt, "/proc/self/fd/2") && !is_terminal(rt, "/proc/self/fd/1"),
         }
     }
 
-    /// Prints how many packets there have been so far, over the last report.
+    /// Prints the number of packets so far, in place of the last report.
     pub fn print<R: Eprint>(self, rt: &R, number: u64) {
         if self.is_printed && number % EACH == 0 {
             let _ = eprint!(rt; "\rexplain: {number} packets    ");
         }
     }
 
-    /// Prints how many packets there were in all, and ends the line, if there was a report.
+    /// Prints the number of all packets, and ends the line, if there was a report.
     pub fn print_end<R: Eprint>(self, rt: &R, packets: u64) {
         if self.is_printed && packets >= EACH {
             let _ = eprintln!(rt; "\rexplain: {packets} packets    ");

@@ -17,7 +17,7 @@ use std::fs::File;
 use std::io::BufReader;
 use std::rt::Files;
 
-/// What a run needs in addition to its captures.
+/// The input of a run in addition to its captures.
 #[derive(Drop)]
 pub struct GivenLog {
     pub config: Config,
@@ -26,15 +26,15 @@ pub struct GivenLog {
     pub asked: Vec<HolderRequest>,
 }
 
-/// Where the run starts, and where the one under the configuration to compare with does.
+/// The start of the run, and of the run under the configuration to compare with.
 #[derive(Drop)]
 pub struct RunStarts<'a> {
     pub first: RunStart<'a>,
     pub other: Option<RunStart<'a>>,
 }
 
-/// Reads the configuration, unless it has been read, and what else a run needs in addition to its captures. Fails as
-/// `napt` would, with the same fault first.
+/// Reads the configuration, unless it has been read, and the other input of a run except its
+/// captures. Fails as `napt` would, with the same fault first.
 pub fn read_given<R: Files + Input + Eprint + AllocGlobal>(
     rt: &R,
     streams: StandardStreams,
@@ -62,7 +62,8 @@ pub fn read_given<R: Files + Input + Eprint + AllocGlobal>(
 }
 
 impl GivenLog {
-    /// Returns where the runs start: from the state of `--resume`, if one is named. If `napt` refuses it, prints why.
+    /// Returns the starts of the runs, from the state of `--resume`, if one is named. Prints why
+    /// `napt` refuses it, if it does.
     pub fn starts<R: Files + Eprint + AllocGlobal>(
         &self,
         rt: &R,
@@ -81,8 +82,9 @@ impl GivenLog {
     }
 }
 
-/// Opens the captures without reading them. Fails as `napt` would. The outputs of `napt` are neither created nor
-/// truncated: one that could not be written is refused as far as that is known beforehand (`napt_program::unmade`).
+/// Opens the captures without reading them. Fails as `napt` would. The outputs of `napt` are
+/// neither created nor truncated; one that could not be written is refused if
+/// `napt_program::unmade` knows it.
 pub fn open_captures<R: Files + Input + Eprint + AllocGlobal>(
     rt: &R,
     options: &ExplainOptions<'_>,
@@ -94,7 +96,7 @@ pub fn open_captures<R: Files + Input + Eprint + AllocGlobal>(
     Ok(files)
 }
 
-/// Answers requests from a saved log, under the configuration if one is named. If a file is refused, prints why.
+/// Answers requests from a saved log, under a configuration if it is named, or prints why not.
 pub fn answer<R: Files + Input + Print + Eprint + AllocGlobal>(
     rt: &R,
     streams: StandardStreams,
@@ -110,7 +112,7 @@ pub fn answer<R: Files + Input + Print + Eprint + AllocGlobal>(
     answer_by_log(rt, streams, &asked, &options.pieces, config.as_ref())
 }
 
-/// Reads the state of `--resume`, or returns one without bindings if none is named. If it is refused, prints why.
+/// Reads the state of `--resume`, or returns one without bindings. Prints why it is refused.
 pub fn saved_at<R: Files + Eprint + AllocGlobal>(
     rt: &R,
     options: &ExplainOptions<'_>,
@@ -133,7 +135,7 @@ pub fn saved_at<R: Files + Eprint + AllocGlobal>(
     }
 }
 
-/// Returns where a run under a configuration starts, from a saved state. If it is refused, prints why.
+/// Returns the start of a run from a saved state, or prints why the configuration refuses it.
 fn start_under<'a, R: Eprint + AllocGlobal>(
     rt: &R,
     options: &ExplainOptions<'_>,
@@ -189,8 +191,8 @@ fn refuse_shared<R: Eprint + AllocGlobal>(
     )
 }
 
-/// Refuses standard input for more than one of the configurations, the requests and the pieces of a log, or for one of
-/// them if another file uses it. Prints why, with the option that names such a file.
+/// Refuses standard input for more than one of the configurations, the requests and the pieces of a
+/// log, or for one of them if another file uses it. Prints why, with the option of such a file.
 fn refuse_more_input<R: Eprint + AllocGlobal>(
     rt: &R,
     options: &ExplainOptions<'_>,
@@ -204,7 +206,7 @@ fn refuse_more_input<R: Eprint + AllocGlobal>(
     Ok(())
 }
 
-/// Returns what was opened. If a file was refused, prints why.
+/// Returns the files that were opened. If a file was refused, prints why.
 fn explain_file<R: Files + Eprint + AllocGlobal, T: Drop>(
     rt: &R,
     options: &ExplainOptions<'_>,
@@ -217,7 +219,7 @@ fn explain_file<R: Files + Eprint + AllocGlobal, T: Drop>(
     }
 }
 
-/// Reads the configuration in the file, or the built-in one if none is named. If it is refused, prints why.
+/// Reads the configuration in the file, or the built-in one. Prints why it is refused.
 pub fn configuration<R: Files + Input + Eprint + AllocGlobal>(
     rt: &R,
     options: &ExplainOptions<'_>,

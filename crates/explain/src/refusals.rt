@@ -12,7 +12,7 @@ use napt_rules::{Misfit, Row};
 use napt_state::StateFault;
 use std::alloc::AllocError;
 
-/// Prints the fault line of a refused configuration as `napt` does, and why, and returns how `napt` would stop.
+/// Prints the fault line of a refused configuration and the reason, and returns the stop of `napt`.
 pub fn print_config<R: Eprint>(
     rt: &R,
     name: &str,
@@ -26,7 +26,7 @@ pub fn print_config<R: Eprint>(
     Exit::Printed(stop)
 }
 
-/// Prints that the capture of a side, which starts with these bytes, is refused for a fault, and why.
+/// Prints that the capture of a side, which starts with these bytes, is refused, and why.
 pub fn print_capture<R: Eprint + AllocGlobal>(
     rt: &R,
     side: &str,
@@ -39,21 +39,19 @@ pub fn print_capture<R: Eprint + AllocGlobal>(
     print_reasons(rt, capture_reasons(rt.alloc(), bytes, fault, splitting))
 }
 
-/// Prints why the text of the state at a path is refused, and returns how `napt` would stop.
+/// Prints why the text of the state at a path is refused, and returns the stop of `napt`.
 pub fn print_state<R: Eprint>(rt: &R, path: &str, fault: &StateFault) -> Exit {
     let _ = eprintln!(rt; "the state {path} is refused: {fault}");
     Exit::Printed(stop_of_state(fault))
 }
 
-/// Prints that the accounts of the state at a path are those of no log, and returns how `napt` would stop.
+/// Prints that the accounts of the state at a path cannot be those of a log, and returns the stop.
 pub fn print_accounts<R: Eprint>(rt: &R, path: &str) -> Exit {
-    let _ = eprintln!(rt;
-        "the state {path} is refused: its bindings have numbers that no log can have"
-    );
+    let _ = eprintln!(rt; "the state {path} is refused: its accounts cannot be those of one log");
     Exit::Printed(Stop::File(FileRole::Resume))
 }
 
-/// Prints which binding of the state at a path the configuration refuses, and why, and returns how `napt` would stop.
+/// Prints which binding of a state the configuration refuses, and why, and returns the stop.
 pub fn print_binding<R: Eprint>(rt: &R, path: &str, row: Row, misfit: Misfit) -> Exit {
     let refusal = StateRefusal::Binding(misfit);
     let (name, protocol) = (StateRefusalName(refusal), protocol_name(row.protocol));

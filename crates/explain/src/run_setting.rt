@@ -17,7 +17,7 @@ use napt_wire::Side;
 use std::io::Read;
 use std::rt::Files;
 
-/// The options of a run, with its configurations and where it starts.
+/// The options of a run, with its configurations and its starts.
 #[derive(Clone, Copy)]
 pub struct RunSetting<'a> {
     streams: StandardStreams,
@@ -27,6 +27,7 @@ pub struct RunSetting<'a> {
 }
 
 impl<'a> RunSetting<'a> {
+    /// Returns the setting of a run that the command line requests.
     pub fn new(
         streams: StandardStreams,
         options: &'a ExplainOptions<'a>,
@@ -128,7 +129,7 @@ impl<'a> RunSetting<'a> {
         against.print(rt, options.outside, [name, other])
     }
 
-    /// Explains the packets as they are read, or after all have been read if replies follow the run.
+    /// Explains the packets as they are read, or all of them at the end if replies follow the run.
     fn explain_run<R: Files + Print + Eprint + AllocGlobal, A: Source, B: Source>(
         self,
         rt: &R,
@@ -186,7 +187,7 @@ impl<'a> RunSetting<'a> {
         }
     }
 
-    /// Writes the outside capture that the replies make, after all packets have been read.
+    /// Writes the outside capture of the replies, after all packets have been read.
     fn write_followed<R: Files + Print + Eprint + AllocGlobal, A: Source, B: Source>(
         self,
         rt: &R,
@@ -203,7 +204,7 @@ impl<'a> RunSetting<'a> {
     }
 }
 
-/// The packets of a run that is explained. They come from captures, or from memory if replies follow the run.
+/// The packets of a run that is explained, from captures, or from memory if replies follow the run.
 #[derive(Clone, Copy)]
 struct RunPackets<'a, 'i, 'k> {
     options: &'a ExplainOptions<'a>,

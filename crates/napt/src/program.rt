@@ -19,11 +19,11 @@ use std::alloc::Global;
 use std::io::{Read, Write};
 use std::sync::Arc;
 
-/// Does what the command line requests: runs over the files that it names, with a worker thread for
-/// each external address, or prints help or the version. At a terminal and with
-/// `--verbose` it warns of cut and swapped captures.
+/// Serves the command line: runs over the files that it names, with a worker thread for each
+/// external address, or prints help or the version. At a terminal and with `--verbose`, it warns of
+/// cut and swapped captures.
 ///
-/// Before any capture is opened, fails if the arguments are not understood or memory for them is
+/// Fails before any capture is opened if the arguments are not understood or memory for them is
 /// refused, if a needed standard stream is closed, or if the configuration is refused; after that,
 /// if a file cannot be opened or created, or if the run fails. A shut gate is never reported.
 pub fn serve<R: ProgramHost>(
@@ -43,8 +43,8 @@ pub fn serve<R: ProgramHost>(
     serve_words(rt, streams, call, words, reason)
 }
 
-/// Does what these arguments request; the first is the program's name. If it succeeds, they were
-/// understood, and it fails only by what they name.
+/// Serves these arguments, of which the first is the program's name. Succeeds only if they are
+/// understood, and fails only with a stop that they can cause.
 pub fn serve_words<R: ProgramHost>(
     rt: &R,
     streams: StandardStreams,
@@ -104,8 +104,8 @@ fn run<R: ProgramHost>(
     Ok(())
 }
 
-/// Returns what the file of the state gets: the state that the run left, if it is to be saved.
-/// Fails with `MEMORY` if memory is refused.
+/// Returns the contents of the file of the state: the state at the end of the run, if it is to be
+/// saved. Fails with `MEMORY` if memory is refused.
 fn saved_state(
     alloc: Global,
     config: &Config,
@@ -123,8 +123,8 @@ fn saved_state(
     }
 }
 
-/// Runs over the devices, and prints what the captures show against themselves, at a terminal and
-/// with `--verbose`. Returns the outputs too, which have been flushed.
+/// Runs over the devices, and prints the flaws that the captures show, at a terminal and with
+/// `--verbose`. Returns the outputs too, which have been flushed.
 fn run_over<R: ProgramHost, S: Read + Drop, T: Write + Drop, F: Read + Write + Drop>(
     rt: &R,
     call: ProgramCall,

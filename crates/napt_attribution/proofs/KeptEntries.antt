@@ -1,4 +1,4 @@
--- Entries by their numbers, and maps that have those of them that pass a test.
+-- Maps of entries by their numbers contain the entries that pass a test.
 use Rattle.std.proofs.{Common.{◌≡◌, ◌≢◌, ℕ, ◌+◌, ◌<◌, ◌≤◌, ◌==◌, Bool, true, false, not, ◌&&◌, ◌||◌, cond, List, [], ◌∷◌, ◌++◌, map, filter, Option, Some, None, refl, sym, ◌∙◌, ap, ap₂, subst, arith}, lemmas.{Grind.common_steps, Bool.Decides.nat_tests}}
 use Rattle.std.proofs.lemmas.Map.{Lookups.exact_unsigned, Made.update_all_distinct, Keys.IsDistinct-from_sorted}
 use Rattle.std.specs.{BTreeMap.{BTreeMap, InsertsAll, IsOrdered, get, is_at}, Cmp.{eq_by_cmp_equiv, nat_cmp_total}, Prelude.T, FinMap.Entries.{below_all, is_sorted, same_entries}, List.{AllByRecursion, Sorted.IsStrictlySortedBy}, Map.{lookup, keys_of, values_of}, Option.{is_some, option_and_then, option_map, option_or}, Ordering.{eq_by_cmp, is_lt, nat_cmp}, declared.cmp.Ordering.{Ordering, TheVariants.Less}}

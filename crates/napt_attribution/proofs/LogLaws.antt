@@ -1,4 +1,4 @@
--- The rows of a run's log tell its entries.
+-- The rows of a run's log give its entries.
 use Rattle.std.proofs.{Common.{◌≡◌, ◌≢◌, ◌⊎◌, inl, inr, ℕ, ◌+◌, ◌≤◌, ◌==◌, Bool, true, false, ◌&&◌, ◌||◌, cond, List, [], ◌∷◌, ◌++◌, map, filter, Option, Some, None, refl, sym, ◌∙◌, ap, ap₂, subst, arith, append-nil, append_assoc}, lemmas.{Bool.{Decides.nat_tests, ne_eqb}, List.map-append, List.Sorted.IsPermutation-sym}}
 use Rattle.std.specs.{List.{list_any, Sorted.IsPermutation}, Option.option_or}
 use Rattle.napt_config.specs.Rules.{Rules, RulesInvariant, pair_of}
@@ -10,7 +10,7 @@ use Rattle.napt_account.proofs.{EndOrderings.{Differ, each_has, has_each}, Entry
 use Rattle.napt_log_text.specs.{LogReaders.{events_after, part_events}, Logs.log_anew, Requests.{holders, is_asked, is_holder, meets}, declared.{event.LogEvent.{LogEvent, TheVariants.{Made, Ended, Living, Refused}}, request.{Request.Request, TimeSpan.TimeSpan}}}
 use Rattle.napt_attribution.specs.{RequestParties.is_asked_about, LogLaws.{RowsNameTheHolders, RowsDetermineTheLog, whole_events, without_counts}, SavedLogs.{asked_entries, bare_entry, row_end_among, end_told, entries_in, made_in}, declared.requests.HolderRequest.HolderRequest}
 
--- THE ROWS THAT TELL AN END, by their entries
+-- THE ROWS THAT RECORD AN END, by their entries
 
 abbrev tellers : List LogEvent → List LogEntry
 tellers [] = []
@@ -43,7 +43,7 @@ made_joined (Ended l ∷ es) fs = made_joined es fs
 made_joined (Living l ∷ es) fs = made_joined es fs
 made_joined (Refused s ∷ es) fs = made_joined es fs
 
--- What each kind of row has.
+-- Each kind of row contains these entries.
 made_of_made : (ls : List LogEntry) → made_in (map Made ls) ≡ ls
 made_of_made [] = refl
 made_of_made (l ∷ ls) = ap (λ (ms : List LogEntry). l ∷ ms) (made_of_made ls)
@@ -111,7 +111,7 @@ module _ (rules : Rules) (state : State) (log : LogModel) where
       ∙ ap₂ (λ (xs ys : List LogEntry). xs ++ ys) (tellers_of_part (part_of rules state log before input))
       (tellers_after (before ++ input ∷ []) inputs)
 
-  -- what is told before the first input, and then with the inputs and at the end
+  -- The rows come before the first input, then with the inputs, and then at the end.
   abbrev events : List Arrival → List LogEntry → List LogEvent
   events inputs living = (map Made log.entries ++ []) ++ (events_after rules state log [] inputs ++ map Living living)
 

@@ -1,4 +1,4 @@
--- Reading the rows of a log one after another.
+-- The rows of a log are read one after another.
 use Rattle.std.proofs.{Common.{◌≡◌, ◌⊎◌, ℕ, Bool, true, false, List, [], ◌∷◌, ◌++◌, Option, Some, None, Result, Ok, Err, IfOk, ◌==◌, if◌then◌else◌, refl, sym, ◌∙◌, ap, subst, append-nil, append_assoc}, lemmas.Result.IfOk-from_err}
 use Rattle.std.specs.{Io.KnownBytes.prepend_known, List.flat_map, Result.IsErr}
 use Rattle.napt_config.specs.Rules.{Rules}
@@ -6,7 +6,7 @@ use Rattle.napt_rules.specs.Prelude.{Each}
 use Rattle.napt_log_text.specs.{LogReaders.LogUnlessUnread, LogRows.IsEvent, Rows.csv_row, declared.{event.LogEvent.LogEvent, log_reader.LogFileFault.LogFileFault, log_row.LogRow.LogRow}}
 use Rattle.napt_attribution.specs.{SavedLogs.{FollowAll, Follows, RowsTrackEvents, entries_in}, declared.{requests.HolderRequest.HolderRequest, saved_rows.SavedRows.SavedRows}}
 
--- If the read failed, so does what needs it.
+-- If the read failed, so does any call that needs it.
 pub unless : {A B E : Type 0} (read : Result A LogFileFault) (fact : Type 0) (result : Result B E) (P : B → Type 0) →
     LogUnlessUnread read fact → (fact → IfOk result P) → (IsErr read → IsErr result) → IfOk result P
 unless (Ok x) fact result P h given fails = given h

@@ -1,4 +1,4 @@
--- What rows tell with one more of them.
+-- One more row changes the entries of the rows before it.
 use Rattle.std.proofs.{Common.{◌≡◌, ℕ, ◌+◌, ◌<◌, ◌≤◌, ◌==◌, Bool, true, false, not, cond, List, [], ◌∷◌, ◌++◌, map, Option, Some, None, refl, sym, ◌∙◌, ap, ap₂, subst, arith, append-nil, lit≤, rules}, lemmas.{Bool.Decides.nat_tests, List.map-append}}
 use Rattle.std.specs.{BTreeMap.BTreeMap, Option.{IsSome, is_some, option_or}}
 use Rattle.napt_wire.specs.declared.{Cause.TheVariants.OverQuota, Protocol.Protocol}

@@ -5,22 +5,22 @@ use Rattle.napt_wire.specs.declared.Endpoint.{Endpoint}
 use Rattle.napt_account.specs.{Questions.is_meant, declared.question.Party.Party}
 use Rattle.napt_attribution.specs.declared.{requests.HolderRequest.HolderRequest, wanted_endpoints.WantedEndpoints.WantedEndpoints}
 
--- Whether one of the requests asks about an endpoint, or about each endpoint of its address.
+-- Returns whether one of the requests asks about an endpoint, or about each endpoint of its address.
 abbrev pub is_asked_about : List HolderRequest → Endpoint → Bool
 is_asked_about asked external = list_any (λ one. is_meant one.request.party external) asked
 
 abbrev pub party_cmp : ℕ × Option ℕ → ℕ × Option ℕ → Ordering
 party_cmp a b = ordering_then (nat_cmp a.0 b.0) (option_cmp nat_cmp a.1 b.1)
 
--- Whether it is the party of this address, with this number or without one.
+-- Returns whether a party has this address, and this number or none.
 abbrev pub is_party : ℕ → Option ℕ → Party → Bool
 is_party address number party = (address == party.address) && option_eq nat_eq party.number number
 
--- Whether it has an endpoint, or each endpoint of its address.
+-- Returns whether the endpoint, or each endpoint of its address, is wanted.
 abbrev pub is_wanted : WantedEndpoints → Endpoint → Bool
 is_wanted wanted external = contains party_cmp wanted.parties (external.address, None)
     || contains party_cmp wanted.parties (external.address, Some external.number)
 
--- It has what the requests ask about, and nothing else.
+-- The wanted endpoints are those that the requests ask about.
 abbrev pub Wants : List HolderRequest → WantedEndpoints → Type 0
 Wants asked wanted = (external : Endpoint) → is_wanted wanted external ≡ is_asked_about asked external

@@ -1,11 +1,11 @@
--- What the rows of a saved log tell: the bindings that rows make, each with the end that a row tells of its number.
+-- The entries in the rows of a saved log: the bindings that rows make, each with the end that a row has for its number.
 use Rattle.std.specs.{Prelude.{◌≡◌, ℕ, ◌==◌, ◌<◌, ◌≤◌, Bool, true, false, not, ◌&&◌, cond, List, [], ◌∷◌, ◌++◌, map, filter, Option, Some, None}, Option.{is_some, option_or}, BTreeMap.get, Ordering.nat_cmp}
 use Rattle.napt_rules.specs.{Prelude.Each, declared.Row.Row}
 use Rattle.napt_account.specs.{declared.log.{Entry.Entry, LogEntry.LogEntry}, Log.unused_entry, LogParts.Rises}
 use Rattle.napt_log_text.specs.declared.event.LogEvent.{LogEvent, TheVariants.{Made, Ended, Living, Refused}}
 use Rattle.napt_attribution.specs.{RequestParties.{Wants, is_asked_about}, declared.{requests.HolderRequest.HolderRequest, kept_entries.KeptEntries.KeptEntries, saved_rows.SavedRows.SavedRows}}
 
--- The entries of the bindings that rows make, in their order.
+-- Returns the entries of the bindings that rows make, in their order.
 abbrev pub made_in : List LogEvent → List LogEntry
 made_in [] = []
 made_in (Made listed ∷ events) = listed ∷ made_in events
@@ -14,34 +14,34 @@ made_in (_ ∷ events) = made_in events
 abbrev pub end_told : LogEntry → ℕ → Option ℕ → Option ℕ
 end_told listed number later = cond (listed.number == number) (option_or listed.entry.end later) later
 
--- The first end that a row tells of a number, if one does.
+-- Returns the first end that a row records for a number, if there is one.
 abbrev pub row_end_among : List LogEvent → ℕ → Option ℕ
 row_end_among [] number = None
 row_end_among (Ended listed ∷ events) number = end_told listed number (row_end_among events number)
 row_end_among (Living listed ∷ events) number = end_told listed number (row_end_among events number)
 row_end_among (_ ∷ events) number = row_end_among events number
 
--- An entry without its counts, and with this end.
+-- Returns an entry without its counts, and with this end.
 abbrev pub bare_entry : Option ℕ → LogEntry → LogEntry
 bare_entry end listed = record listed { entry = unused_entry listed.entry.binding listed.entry.made end }
 
--- The entries that rows tell.
+-- Returns the entries that rows record.
 abbrev pub entries_in : List LogEvent → List LogEntry
 entries_in events = map (λ listed. bare_entry (row_end_among events listed.number) listed) (made_in events)
 
--- Those of them that requests ask about.
+-- Returns the entries that requests ask about.
 abbrev pub asked_entries : List HolderRequest → List LogEntry → List Entry
 asked_entries asked entries =
     map (λ listed. listed.entry) (filter (λ listed. is_asked_about asked listed.entry.binding.external) entries)
 
--- WHAT IS KEPT of the entries while rows are read
+-- ENTRIES THAT ARE RETAINED while rows are read
 
--- The entry of a number.
+-- Returns the entry of a number.
 abbrev pub entry_of : List LogEntry → ℕ → Option Entry
 entry_of [] number = None
 entry_of (listed ∷ more) number = cond (listed.number == number) (Some listed.entry) (entry_of more number)
 
--- An entry that passes a test.
+-- Returns an entry if it passes a test.
 abbrev pub entry_if : (Entry → Bool) → Option Entry → Option Entry
 entry_if test None = None
 entry_if test (Some entry) = cond (test entry) (Some entry) None
@@ -52,7 +52,7 @@ has_no_end entry = not (is_some entry.end)
 abbrev pub is_ended_and_asked : List HolderRequest → Entry → Bool
 is_ended_and_asked asked entry = is_some entry.end && is_asked_about asked entry.binding.external
 
--- Of these entries those without an end, and those that requests ask about.
+-- The maps contain exactly the entries without an end, and the ended entries that requests ask about.
 pub record TracksEntries (asked : List HolderRequest) (kept : KeptEntries) (entries : List LogEntry) : Type 0 where
   pub wanted : Wants asked kept.wanted
   pub rising : Rises 1 entries
@@ -60,12 +60,12 @@ pub record TracksEntries (asked : List HolderRequest) (kept : KeptEntries) (entr
   pub ended : (number : ℕ) → get nat_cmp kept.ended number ≡
       entry_if (is_ended_and_asked asked) (entry_of entries number)
 
--- The entry of this number gets an end.
+-- Returns an entry, which gets this end if it has this number.
 abbrev pub entry_with_end : ℕ → Option ℕ → LogEntry → LogEntry
 entry_with_end number end listed =
     cond (number == listed.number) (record listed { entry = record listed.entry { end = end } }) listed
 
--- It keeps these entries, whose numbers are among those given; no entry is still to be repeated.
+-- These entries are retained, their numbers are at most the last one, and no entry must still be repeated.
 pub record RowsTrackEntries (asked : List HolderRequest) (rows : SavedRows) (entries : List LogEntry) : Type 0 where
   pub kept : TracksEntries asked rows.kept entries
   pub made : Each (λ listed. listed.number ≤ rows.made) entries

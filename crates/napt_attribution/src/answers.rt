@@ -1,5 +1,5 @@
-//! The answers to who had an external endpoint, and when (RFC 6888, section 4; RFC 6269, section 12). `napt_log_text`
-//! defines the holders and the lines.
+//! The answers to who had an external endpoint, and when (RFC 6888, section 4; RFC 6269, section
+//! 12). `napt_log_text` defines the holders and the lines.
 
 use crate::owners::{add_owners, add_party};
 use crate::requests::HolderRequest;
@@ -15,14 +15,14 @@ use std::alloc::AllocError;
 use std::fmt::Write;
 use std::rt::Files;
 
-/// What requests are answered from.
+/// The data from which requests are answered.
 #[derive(Clone, Copy)]
 pub struct AnswerBasis<'a> {
     /// The entries of a log, in the order in which their bindings were made.
     pub entries: &'a [Entry],
     /// The time of the last packet, in ns.
     pub last: u64,
-    /// How far packets step back in time, in ns: a packet may have arrived that much later than its time says.
+    /// The greatest step back in time, in ns, by which a packet may have arrived after its time.
     pub later: u64,
     /// The configuration of the run, if it is known.
     pub config: Option<&'a Config>,
@@ -34,15 +34,14 @@ pub struct AnswerBasis<'a> {
 pub enum Basis {
     /// The blocks of the configuration.
     Blocks,
-    /// A run over captures, which is known from this time on, in ns.
+    /// A run over captures, which covers the time from this one on, in ns.
     Run(u64),
-    /// A log, which is known from this time on, in ns.
+    /// A log, which covers the time from this one on, in ns.
     Log(u64),
 }
 
 impl AnswerBasis<'_> {
-    /// Returns when the run begins, or when the log begins and ends, if that is after the time that a request asks
-    /// about, or if the log ends before it.
+    /// Returns the beginning and end of a run or log that does not cover the time of a request.
     fn uncovered_time(self, request: &Request) -> Option<OutsideTime> {
         let span = request.at?;
         let (what, first, last) = match self.basis {
@@ -55,7 +54,7 @@ impl AnswerBasis<'_> {
     }
 }
 
-/// A run or a log that does not have the time of a request: its name, and when it begins and ends, in ns.
+/// A run or log that does not cover the time of a request: its name, beginning and end, in ns.
 #[derive(Clone, Copy)]
 struct OutsideTime {
     what: &'static str,
@@ -83,8 +82,8 @@ pub fn answer_by_blocks<R: Print + AllocGlobal>(
     print_answers(rt, asked, known)
 }
 
-/// Answers requests from the log whose pieces have these paths, under a configuration if it is known. Prints why a
-/// piece is refused. Fails with `NoHolder` if a request has no answer.
+/// Answers requests from the log whose pieces have these paths, under a configuration if it is
+/// known. Prints why a piece is refused. Fails with `NoHolder` if a request has no answer.
 pub fn answer_by_log<R: Files + Input + Print + Eprint + AllocGlobal>(
     rt: &R,
     streams: StandardStreams,
@@ -110,8 +109,9 @@ pub fn answer_by_log<R: Files + Input + Print + Eprint + AllocGlobal>(
     print_answers(rt, asked, known)
 }
 
-/// Prints for each request the hosts whose blocks contain it and a line for each binding that had the endpoint, in the
-/// order in which they were made, or that nobody had it. Fails with `NoHolder` if a request has no answer.
+/// Prints for each request the hosts whose blocks contain it and the bindings that had the
+/// endpoint, in the order of making, or that nobody had it. Fails with `NoHolder` if one has no
+/// answer.
 pub fn print_answers<R: Print + AllocGlobal>(
     rt: &R,
     asked: &[HolderRequest],
@@ -173,14 +173,14 @@ fn print_answer<R: Print + AllocGlobal>(
     Ok(is_owned)
 }
 
-/// Ends the line that says that nobody is known at the time of a request.
+/// Appends the line that says that no holder is known at the time of a request.
 fn add_uncovered_time(
     request: &Request,
     beside: OutsideTime,
     text: &mut String,
 ) -> Result<(), AllocError> {
     let OutsideTime { what, first, last } = beside;
-    text.push_str("nobody is known at ")?;
+    text.push_str("no holder of ")?;
     if let Some(protocol) = request.protocol {
         write!(text, "{} ", protocol_name(protocol))?;
     }
@@ -192,7 +192,7 @@ fn add_uncovered_time(
     };
     write!(
         text,
-        " then: the {what} does not cover that time: it {begins} "
+        " is known: the {what} does not cover that time, but {begins} "
     )?;
     TimeStamp(u128::from(first)).add_to(text)?;
     if let Some(last) = last {
@@ -202,7 +202,7 @@ fn add_uncovered_time(
     text.push_str("\n")
 }
 
-/// Begins a line of a request that is one of several.
+/// Appends the beginning of a line, if the request is one of several.
 pub fn add_line_number(asked: &HolderRequest, text: &mut String) -> Result<(), AllocError> {
     match asked.line {
         Some(number) => add_mark(number, text),

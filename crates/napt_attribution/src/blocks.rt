@@ -14,10 +14,10 @@ const FIRST: u32 = 1024;
 /// The greatest number of blocks of an address: that of blocks of 64 numbers.
 pub const MOST_BLOCKS: u32 = 1008;
 
-/// The names of the table's fields: the host, its external address, and the first and the last number of its block.
+/// The names of the fields: the host, its external address, and the block's first and last number.
 const HEADER: &str = "host,address,first,last\n";
 
-/// Prints the table of all blocks, by the index of the host, or that the configuration has no blocks.
+/// Prints the table of all blocks, in the order of hosts, or that the configuration has no blocks.
 pub fn print_blocks<R: Print + Eprint + AllocGlobal>(
     rt: &R,
     streams: StandardStreams,

@@ -8,7 +8,7 @@ use napt_commands::{CommandOutput, EndedRun, Exit, Page, RunPacket};
 use napt_config::Config;
 use std::alloc::{AllocError, Global};
 
-/// The bindings of a run that have ended so far and that requests ask about.
+/// The ended bindings of a run that requests ask about.
 #[derive(Drop)]
 pub struct Holders<'a> {
     asked: &'a [HolderRequest],

@@ -1,5 +1,5 @@
-//! The entries of a saved log that are kept while its rows are read: those without an end, and those that requests ask
-//! about.
+//! The entries of a saved log that are retained while its rows are read: the entries without an
+//! end, and the entries that requests ask about.
 
 ghost use Rattle.std.specs.Prelude.{◌≡◌, ◌++◌, ◌∷◌, [], ℕ, IfOk, IfSome, IsSome, List, None, OnOk, Some, map};
 ghost use Rattle.napt_account.specs.{LogParts.Rises, declared.log.LogEntry.{LogEntry as Listed}};
@@ -16,9 +16,9 @@ use std::collections::BTreeMap;
 #[derive(Drop)]
 pub struct KeptEntries {
     wanted: WantedEndpoints,
-    /// Those without an end.
+    /// The entries without an end.
     unended: BTreeMap<u64, Entry>,
-    /// Those with an end that are asked about.
+    /// The entries with an end that requests ask about.
     ended: BTreeMap<u64, Entry>,
 }
 
@@ -34,7 +34,7 @@ impl KeptEntries {
         })
     }
 
-    /// Takes an entry without an end, whose number is greater than those before.
+    /// Adds an entry without an end, whose number is greater than those before.
     pub fn insert(&mut self, number: u64, entry: Entry) -> Result<(), AllocFailed<(u64, Entry)>>
         ensures { (asked : List Asked) (entries : List Listed) →
             logs.TracksEntries asked self.old entries →
@@ -56,7 +56,7 @@ impl KeptEntries {
         self.unended.get(&number)
     }
 
-    /// The entries without an end, by their numbers.
+    /// Returns the entries without an end, by their numbers.
     pub fn unended(&self) -> &BTreeMap<u64, Entry> {
         &self.unended
     }
@@ -78,7 +78,7 @@ impl KeptEntries {
         Ok(())
     }
 
-    /// Returns the entries that are asked about, in the order of their numbers.
+    /// Returns the entries that requests ask about, in the order of their numbers.
     pub fn into_entries(self, alloc: Global) -> Result<Vec<Entry>, AllocError>
         ensures { (asked : List Asked) (entries : List Listed) →
             logs.TracksEntries asked self entries →

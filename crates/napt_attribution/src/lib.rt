@@ -1,5 +1,5 @@
-//! Who had an external endpoint, and when. The commands `who`, `log` and `blocks` of `explain` print this, from a run,
-//! from a saved log, or from the blocks of a configuration.
+//! Answers to who had an external endpoint, and when. The commands `who`, `log` and `blocks` of
+//! `explain` print them, from a run, from a saved log, or from the blocks of a configuration.
 #![tactic(auto)]
 
 mod answers;

@@ -1,5 +1,5 @@
-//! The log of a run as CSV. docs/FORMATS.md describes its fields and the order of its rows; `napt_log_text` defines its
-//! rows.
+//! The log of a run as CSV. docs/FORMATS.md describes its fields and the order of its rows;
+//! `napt_log_text` defines its rows.
 
 use crate::row_file::{RowFile, create_rows};
 use napt_account::{LogEntry, OpenLog};
@@ -18,8 +18,8 @@ pub struct LogFile<'a, W> {
     pub rows: RowFile<'a, W>,
 }
 
-/// How a log begins: with the log as it was saved, the entries that end where the run begins, and those that begin
-/// there.
+/// The beginning of a log: the log as it was saved, the entries that end where the run begins, and
+/// the entries that begin there.
 #[derive(Clone, Copy)]
 pub struct LogOpening<'a> {
     pub before: &'a OpenLog,
@@ -27,8 +27,8 @@ pub struct LogOpening<'a> {
     pub made: &'a [LogEntry],
 }
 
-/// Begins a log in a file or on standard output with the names of its fields, the entries that were saved, and the
-/// entries that end or begin with the run.
+/// Begins a log in a file or on standard output with the names of its fields, the entries that were
+/// saved, and the entries that end or begin with the run.
 pub fn begin_log<'a, R: Files + Print + Eprint + AllocGlobal>(
     rt: &R,
     path: Option<&'a str>,
@@ -44,7 +44,7 @@ pub fn begin_log<'a, R: Files + Print + Eprint + AllocGlobal>(
 }
 
 impl<'a, W: Write + Drop> LogFile<'a, W> {
-    /// Appends the rows of what a packet did.
+    /// Appends the rows of the events of a packet.
     pub fn take<R: Files + Print + Eprint>(
         &mut self,
         rt: &R,
@@ -55,7 +55,7 @@ impl<'a, W: Write + Drop> LogFile<'a, W> {
         self.rows.write_if_full(rt)
     }
 
-    /// Writes the rows of the bindings that are live at the end, and everything that has not been written yet.
+    /// Writes the rows of the bindings that are live at the end, after all rows not written yet.
     pub fn finish<R: Files + Print + Eprint>(
         &mut self,
         rt: &R,

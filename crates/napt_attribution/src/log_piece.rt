@@ -21,14 +21,14 @@ use std::io::{BufRead, BufReader, Read};
 /// A piece of a log.
 #[derive(Clone, Copy)]
 pub struct LogPiece<'c> {
-    /// Whether it is the first one, which has to begin with the names of the fields.
+    /// Whether it is the first piece, which must begin with the names of the fields.
     pub is_first: bool,
     /// The configuration of the run, if it is known.
     pub config: Option<&'c Config>,
 }
 
 impl LogPiece<'_> {
-    /// Adds the rows of a device, up to one that is refused.
+    /// Adds the rows of a device, up to the first row that is refused.
     pub fn add_to<D: Read + Drop>(
         self,
         rows: &mut SavedRows,
@@ -60,7 +60,8 @@ impl LogPiece<'_> {
         }
     }
 
-    /// Reads the first row of a later piece, which may be the names of the fields. Returns whether more may follow.
+    /// Reads the first row of a later piece, which may be the names. Returns whether more may
+    /// follow.
     fn begin<R: BufRead + Drop>(
         self,
         rows: &mut SavedRows,
@@ -119,7 +120,7 @@ impl LogPiece<'_> {
         self.add_read(rows, read)
     }
 
-    /// Adds what was read of a log, and returns whether more may follow.
+    /// Adds the row that was read, if any, and returns whether more may follow.
     fn add_read(
         self,
         rows: &mut SavedRows,
@@ -159,8 +160,7 @@ impl LogPiece<'_> {
         Ok(true)
     }
 
-    /// Returns whether a binding other than a redirect is outside its host's block in the
-    /// configuration.
+    /// Returns whether a binding that is not a redirect is outside its host's configured block.
     fn is_elsewhere(self, binding: &Row) -> bool {
         let Endpoint { address, number } = binding.external;
         let config = self
@@ -170,7 +170,7 @@ impl LogPiece<'_> {
     }
 }
 
-/// Why the first row of a log is refused.
+/// Returns why the first row of a log is refused.
 fn header_refusal(fault: LogFileFault) -> SavedLogRefusal {
     SavedLogRefusal {
         row: 1,

@@ -1,4 +1,4 @@
-//! The times of the rows of a saved log, and the times at which it has every binding.
+//! The times of the rows of a saved log, and the time for which it contains every binding.
 
 ghost use Rattle.std.specs.Prelude.{◌≡◌, ◌<◌, IfOk};
 
@@ -16,7 +16,7 @@ pub struct LogTimes {
     after_opening: Option<u64>,
     /// The time of the last event.
     last: u64,
-    /// Whether bindings are missing that ended before the log began, as in a new file of a log that goes on.
+    /// Whether bindings that ended before the log began are missing, as in a new file of a log.
     lacks: bool,
     /// Whether bindings before the next one may be missing.
     may_lack: bool,
@@ -34,8 +34,8 @@ impl LogTimes {
         }
     }
 
-    /// Returns the time from which on the log has every binding, and that of its last event. If bindings are missing,
-    /// it has every binding only from the first event other than a making on.
+    /// Returns the time from which on the log contains every binding, and that of its last event.
+    /// If bindings are missing, the former is the time of the first event other than a making.
     pub fn covered_span(&self) -> (u64, u64) {
         let first = match self.after_opening {
             _ if !self.lacks => self.first.min(self.last),
@@ -65,7 +65,7 @@ impl LogTimes {
         Ok(at)
     }
 
-    /// Returns the number of a new binding: the next one or, where bindings may be missing, a later one.
+    /// Returns the number of a new binding: the next one, or a later one if any may be missing.
     pub fn number_after(&mut self, made: u64, number: LogField) -> Result<u64, RowFault>
         ensures { IfOk result (λ given. (number ≡ LogField.Number given) × (made < given)) }
     {
@@ -82,7 +82,7 @@ impl LogTimes {
         Ok(given)
     }
 
-    /// Returns the time of an event, which is no earlier than those above.
+    /// Returns the time of an event, which is no earlier than the times of the rows above.
     fn next(&mut self, time: LogField) -> Result<u64, RowFault>
         ensures { IfOk result (λ at. time ≡ LogField.Number at) }
     {

@@ -1,4 +1,4 @@
-//! The owners of an external endpoint by the configuration alone, if each inside host has a block (RFC 7422).
+//! The owners of an external endpoint by the configuration, if it has blocks (RFC 7422).
 
 use crate::answers::{AnswerBasis, Basis, add_line_number};
 use crate::blocks::{MOST_BLOCKS, host_of_block, numbers_of};
@@ -12,8 +12,8 @@ use napt_wire::{Endpoint, Protocol};
 use std::alloc::AllocError;
 use std::fmt::Write;
 
-/// Appends a line for each host whose block contains the endpoint of a request. Without a run, appends a line for each
-/// redirect, too, or that nobody ever has the endpoint. Returns whether somebody has it.
+/// Appends a line for each host whose block contains a requested endpoint. Without a run, also
+/// appends the redirects, or that nobody ever has the endpoint. Returns whether somebody has it.
 pub fn add_owners(
     asked: &HolderRequest,
     known: AnswerBasis<'_>,

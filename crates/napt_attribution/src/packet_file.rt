@@ -69,7 +69,7 @@ fn add_packet_row(passing: RunPacket<'_>, text: &mut String) -> Result<(), Alloc
     text.push_str("\n")
 }
 
-/// Appends a comma, and the number in the log of a binding, if there is one.
+/// Appends a comma, and the number of a binding in the log, if there is one.
 fn add_binding_number(number: Option<u64>, text: &mut String) -> Result<(), AllocError> {
     text.push_str(",")?;
     match number {

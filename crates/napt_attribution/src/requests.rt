@@ -1,4 +1,4 @@
-//! Requests: who had an external endpoint, and when. The command line has one, or a file has many.
+//! Requests for who had an external endpoint, and when. The command line has one, a file has many.
 
 use crate::spans::{TimeFault, span_of};
 use napt_account::Party;
@@ -32,7 +32,7 @@ impl HolderRequest {
         }
     }
 
-    /// Returns the external endpoint that the request names, if it names a port and not an address alone.
+    /// Returns the external endpoint that the request names, unless it names only an address.
     pub fn endpoint(&self) -> Option<Endpoint> {
         let party = self.request.party;
         Some(Endpoint {
@@ -41,7 +41,7 @@ impl HolderRequest {
         })
     }
 
-    /// Returns the same request about a time that ends this much later, in ns, if it is about a time.
+    /// Returns the same request with its time, if any, extended by this many ns at its end.
     pub fn until_later(&self, by: u64) -> HolderRequest {
         let mut asked = *self;
         if let Some(span) = &mut asked.request.at {
@@ -51,7 +51,7 @@ impl HolderRequest {
     }
 }
 
-/// Reads the requests of a file. Prints why the file cannot be read, or which line is not a request.
+/// Reads the requests of a file. Prints why the file cannot be read, or which line is no request.
 pub fn requests_at<R: Files + Input + Eprint + AllocGlobal>(
     rt: &R,
     path: &str,
@@ -67,7 +67,7 @@ pub fn requests_at<R: Files + Input + Eprint + AllocGlobal>(
     let mut asked = Vec::new(rt.alloc());
     for (place, line) in lines.lines().enumerate() {
         let number = (place as u64).saturating_add(1);
-        // A line without a word is ignored.
+        // A blank line is ignored.
         if line.trim().is_empty() {
             continue;
         }
@@ -82,7 +82,7 @@ pub fn requests_at<R: Files + Input + Eprint + AllocGlobal>(
     Ok(asked)
 }
 
-/// Prints which line of a file is not a request, and why, and returns how the program stops.
+/// Prints which line of a file is not a request, and why, and returns the stop.
 fn print_wrong<R: Eprint>(rt: &R, path: &str, line: u64, why: &str) -> Exit {
     let _ = eprintln!(rt; "explain: --requests {path}: line {line}: {why}");
     Exit::Printed(Stop::Usage)
@@ -94,7 +94,8 @@ fn line_at(text: &[u8], place: usize) -> u64 {
     (ended as u64).saturating_add(1)
 }
 
-/// Parses an endpoint or an address, a time, and perhaps a protocol. A date may have a space before its time of day.
+/// Parses an endpoint or an address, a time, and an optional protocol. In a date, a space may
+/// precede the time of day.
 fn request_of(line: &str) -> Result<Request, TimeFault> {
     let (party, rest) = first_word(line.trim());
     let party = party_of(party).ok_or(TimeFault::Unread)?;

@@ -1,4 +1,4 @@
-//! Why a saved log is refused.
+//! The reasons why a saved log is refused.
 
 use napt_config::Address;
 use napt_log_text::LogFileFault;
@@ -48,7 +48,7 @@ impl fmt::Display for RowFault {
             RowFault::File(LogFileFault::Unread(error)) => write!(f, "{error}"),
             RowFault::File(LogFileFault::InvalidRow(why)) => f.write_str(why),
             RowFault::File(LogFileFault::IncompleteRow) => f.write_str(
-                "it breaks off, and is left out",
+                "it is incomplete, and is ignored",
             ),
             RowFault::Number { next, given } if given > next => write!(
                 f,
@@ -73,7 +73,7 @@ impl fmt::Display for RowFault {
     }
 }
 
-/// Returns the fault of a row that is not one of a log: what was expected.
+/// Returns the fault of a row that is not a row of a log, with the text that was expected.
 pub fn invalid_row(why: &'static str) -> RowFault {
     RowFault::File(LogFileFault::InvalidRow(why))
 }

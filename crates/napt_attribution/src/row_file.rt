@@ -5,7 +5,7 @@ use std::fs::{self, File};
 use std::io::{self, Write};
 use std::rt::Files;
 
-/// The size in bytes from which on the rows are written.
+/// The size in bytes at which the rows are written.
 const BUFFERED: usize = 65_536;
 
 /// Rows that are being written. `W` is a file.
@@ -29,8 +29,8 @@ enum RowLocation<'a, W> {
     File(&'a str, W),
 }
 
-/// Begins the file that an option names, or standard output if none does. The file is created now, or at the end if its
-/// rows are held until then. If that fails, prints the file and the system's reason.
+/// Begins the file that an option names, or standard output if none does. The file is created now,
+/// or at the end if its rows are buffered. If that fails, prints the file and the system's reason.
 pub fn create_rows<'a, R: Files + Eprint + AllocGlobal>(
     rt: &R,
     option: &'static str,
@@ -62,7 +62,8 @@ impl<'a, W: Write + Drop> RowFile<'a, W> {
         self.settle(rt)
     }
 
-    /// Writes the rows and clears them, unless they are held. If that fails, prints the file and the system's reason.
+    /// Writes the rows and clears them, unless they are held until the end. If that fails, prints
+    /// the file and the system's reason.
     pub fn settle<R: Files + Print + Eprint>(&mut self, rt: &R) -> Result<(), Exit> {
         if self.is_held {
             return Ok(());

@@ -1,4 +1,4 @@
-//! The files that `explain log` writes about a run: its log and, if they are requested, its packets and its report.
+//! The files that `explain log` writes: the log and, if requested, the packets and the report.
 
 use crate::blocks::print_log_not_needed;
 use crate::log_file::{LogFile, LogOpening, begin_log};
@@ -13,7 +13,7 @@ use std::rt::Files;
 /// The paths of the files.
 #[derive(Clone, Copy)]
 pub struct LogPaths<'a> {
-    /// The log; standard output if absent.
+    /// The log, or standard output if absent.
     pub log: Option<&'a str>,
     /// A file with a row for each packet.
     pub packets: Option<&'a str>,
@@ -36,7 +36,8 @@ struct RunReport<'a> {
     coverage: Coverage,
 }
 
-/// Begins the files of a run that begins with this log. If one cannot be created, prints it and the system's reason.
+/// Begins the files of a run that begins with this log. If one cannot be created, prints its path
+/// and the system's reason.
 pub fn begin_run_log<'a, R: Files + Print + Eprint + AllocGlobal>(
     rt: &R,
     paths: LogPaths<'a>,
@@ -65,8 +66,8 @@ impl<'a> RunReport<'a> {
         }
     }
 
-    /// Prints what the captures lack for figures, and writes the report. If that fails, prints the file and the
-    /// system's reason.
+    /// Prints which packets the captures lack for figures, and writes the report. If that fails,
+    /// prints the file and the system's reason.
     fn write<R: Files + Eprint + AllocGlobal>(
         &self,
         rt: &R,
@@ -107,7 +108,7 @@ impl<R: Files + Print + Eprint + AllocGlobal, W: Write + Drop> CommandOutput<R> 
         self.log.take(rt, config, passing)
     }
 
-    /// Writes the rows so far, unless they are held until the end.
+    /// Writes the rows so far, unless they are buffered until the end.
     fn settle(&mut self, rt: &R) -> Result<(), Exit> {
         if let Some(packets) = &mut self.packets {
             packets.rows.settle(rt)?;
@@ -115,7 +116,7 @@ impl<R: Files + Print + Eprint + AllocGlobal, W: Write + Drop> CommandOutput<R> 
         self.log.rows.settle(rt)
     }
 
-    /// Writes the rest of all files. Without a report, prints that no log is needed if each host has a block.
+    /// Writes the rest of all files. Without a report, prints if blocks make a log unnecessary.
     fn end(self, rt: &R, _page: &mut Page, ending: &EndedRun<'_>) -> Result<(), Exit> {
         let RunLog {
             mut log,

@@ -1,4 +1,4 @@
-//! A log that `log` wrote, read again. docs/FORMATS.md describes the order of its rows.
+//! Reads a log that `log` wrote. docs/FORMATS.md describes the order of its rows.
 
 use crate::log_piece::LogPiece;
 use crate::requests::HolderRequest;
@@ -10,8 +10,9 @@ use napt_log_text::LogFileFault;
 use std::io::ErrorKind;
 use std::rt::Files;
 
-/// Reads what is asked about from the log whose pieces have these paths, in their order. Prints why the log is refused,
-/// or that the last row of a piece breaks off, in which case that row is ignored.
+/// Reads the bindings that requests ask about from the log with pieces at these paths, in this
+/// order. Prints why the log is refused, or that the last row of a piece is incomplete, and is
+/// ignored.
 pub fn read_saved<R: Files + Input + Eprint + AllocGlobal>(
     rt: &R,
     asked: &[HolderRequest],
@@ -34,7 +35,7 @@ pub fn read_saved<R: Files + Input + Eprint + AllocGlobal>(
     Ok(rows.into_bindings(rt.alloc())?)
 }
 
-/// Prints why a piece is refused, or its last row left out. Of the former it returns how the program stops.
+/// Prints why a piece is refused, and returns the stop, or prints why its last row is ignored.
 fn print_refused<R: Eprint>(
     rt: &R,
     path: &str,

@@ -1,4 +1,4 @@
-//! What the rows of a saved log tell of its bindings. `napt_log_text` reads each row.
+//! The bindings of a saved log, from its rows. `napt_log_text` reads each row.
 
 ghost use Rattle.std.specs.Prelude.{◌≡◌, ◌≤◌, ◌++◌, ◌∷◌, [], ℕ, IfOk, IfSome, List, None, OnOk, Option, Some, map, true};
 ghost use Rattle.napt_account.specs.declared.log.LogEntry.{LogEntry as Listed};
@@ -19,12 +19,12 @@ use napt_wire::{Endpoint, Protocol};
 use std::alloc::{AllocError, Global};
 use std::collections::BTreeMap;
 
-/// What a saved log says of the bindings that are asked about.
+/// The bindings of a saved log that requests ask about.
 #[derive(Drop)]
 pub struct SavedBindings {
-    /// One for each of them, in the order in which they were made, without its counts and its last use.
+    /// Their entries in the order in which they were made, without counts and last uses.
     pub entries: Vec<Entry>,
-    /// The log has every binding from this time on, and until `last`, in ns.
+    /// The time from which on, and until `last`, the log contains every binding, in ns.
     pub first: u64,
     pub last: u64,
 }
@@ -32,12 +32,12 @@ pub struct SavedBindings {
 /// A protocol and an external address and number.
 type ExternalEnd = (Protocol, u32, u16);
 
-/// What has been read from the rows so far.
+/// The bindings in the rows so far.
 #[derive(Drop)]
 pub struct SavedRows {
     kept: KeptEntries,
-    /// The numbers of the entries without an end that the piece has neither repeated nor ended, by their external
-    /// endpoints.
+    /// The numbers of the entries without an end that the piece has neither repeated nor ended, by
+    /// their external endpoints.
     unrepeated: BTreeMap<ExternalEnd, u64>,
     /// The number of the last binding.
     made: u64,
@@ -61,14 +61,14 @@ impl SavedRows {
         })
     }
 
-    /// Begins a later piece. One with the names of the fields has to repeat or end each entry without an end.
+    /// Begins a later piece. After the names, it must repeat or end each entry without an end.
     pub fn begin_piece(&mut self, has_names: bool) -> Result<(), RowFault> {
         self.unrepeated.clear();
         if !has_names {
             return Ok(());
         }
         for (number, entry) in self.kept.unended() {
-            // two at one external endpoint: the end of the first one is missing
+            // Two entries have one external endpoint, so the end of the first one is missing.
             if let Some(first) = self.unrepeated.insert(end_of(&entry.binding), *number)? {
                 return Err(RowFault::NotRepeated(first));
             }
@@ -76,7 +76,7 @@ impl SavedRows {
         Ok(())
     }
 
-    /// Ends a piece, whose rows are all there.
+    /// Ends a piece, all of whose rows were read.
     pub fn end_piece(&self) -> Result<(), RowFault> {
         match self.unrepeated.values().min() {
             Some(number) => Err(RowFault::NotRepeated(*number)),
@@ -84,7 +84,7 @@ impl SavedRows {
         }
     }
 
-    /// Returns the bindings that are asked about.
+    /// Returns the bindings that requests ask about.
     pub fn into_bindings(self, alloc: Global) -> Result<SavedBindings, AllocError>
         ensures { (asked : List Asked) (events : List Told) →
             logs.RowsTrackEvents asked self events →
@@ -100,7 +100,7 @@ impl SavedRows {
         })
     }
 
-    /// Takes a row after the names. Returns the binding that it makes, if it makes one.
+    /// Adds a row after the names. Returns the binding that it makes, if it makes one.
     pub fn take(&mut self, row: &LogRow) -> Result<Option<Row>, RowFault>
         ensures { (asked : List Asked) (events : List Told) (event : Told) →
             logs.RowsTrackEvents asked self.old events → row.now ≡ rows.saved_row event →
@@ -122,8 +122,8 @@ impl SavedRows {
         Ok(None)
     }
 
-    /// Begins the entry of a binding, unless the piece repeats it. One that it replaces, of the same external
-    /// endpoint, ends: of a log that begins new entries in a new file, no row ends the ones before.
+    /// Begins the entry of a binding, unless the piece repeats it. An entry of the same external
+    /// endpoint ends then, since no row ends it if a log begins new entries in a new file.
     fn add_made(&mut self, row: &LogRow) -> Result<Row, RowFault>
         ensures { (asked : List Asked) (events : List Told) (listed : Listed) →
             logs.RowsTrackEvents asked self.old events → row.now ≡ rows.saved_row (Made listed) →
@@ -153,8 +153,7 @@ impl SavedRows {
         Ok(())
     }
 
-    /// Returns whether the binding of a row has an entry without an end that was made at the time
-    /// of the row.
+    /// Returns whether the binding of a row has an entry without an end, made at the row's time.
     fn is_open_since(&self, row: &LogRow, binding: Row) -> bool {
         match self.open_entry(row.number, binding) {
             Some((_, made)) => row.time == LogField::Number(u128::from(made)),
@@ -174,8 +173,8 @@ impl SavedRows {
         self.end_at(row.number, binding, u128::from(at))
     }
 
-    /// Takes a binding that is live at the end of the log, with the time at which it ends if no packet arrives. A
-    /// redirect does not end.
+    /// Adds a binding that is live at the end of the log, with the time at which it ends if no
+    /// packet arrives. A redirect does not end.
     fn add_living(&mut self, row: &LogRow) -> Result<(), RowFault>
         ensures { (asked : List Asked) (events : List Told) (listed : Listed) →
             logs.RowsTrackEvents asked self.old events → row.now ≡ rows.saved_row (Living listed) →
@@ -211,7 +210,7 @@ impl SavedRows {
         Ok(())
     }
 
-    /// The number of a binding's entry and the time when it was made, if a row above made it and none ended it.
+    /// Returns the number of a binding's entry and its time, if a row made it and none ended it.
     fn open_entry(&self, number: LogField, binding: Row) -> Option<(u64, u64)>
         ensures { (asked : List Asked) (entries : List Listed) (listed : Listed) →
             logs.RowsTrackEntries asked self.now entries → number ≡ LogField.Number listed.number →
@@ -233,8 +232,8 @@ impl SavedRows {
     }
 }
 
-/// Returns whether it is the natEvent of a packet that got no binding (RFC 8158): ports exhausted,
-/// or quota exceeded.
+/// Returns whether a number is the natEvent of a packet that got no binding (RFC 8158): ports
+/// exhausted, or quota exceeded.
 fn is_refusal(event: u128) -> bool
     ensures { result ≡ true → 12 ≤ event }
 {
@@ -253,7 +252,7 @@ fn binding_of(row: &LogRow) -> Result<Row, RowFault>
     }
 }
 
-/// The entry of a binding that was made at a time, without an end and counts.
+/// Returns the entry of a binding that was made at a time, without an end and counts.
 fn unused_entry(binding: Row, made: u64) -> Entry
     ensures { result ≡ logs.unused binding made }
 {
@@ -268,7 +267,7 @@ fn unused_entry(binding: Row, made: u64) -> Entry
     }
 }
 
-/// The protocol and the external endpoint of a binding.
+/// Returns the protocol and the external endpoint of a binding.
 fn end_of(binding: &Row) -> ExternalEnd {
     let Endpoint { address, number } = binding.external;
     (binding.protocol, address, number)

@@ -1,4 +1,4 @@
-//! Times as users write them. Each stands for its whole last digit: for every moment that begins with its digits.
+//! Times as users write them. Each means the span of all moments that begin with its digits.
 
 ghost use Rattle.std.specs.Prelude.{◌≡◌, ◌+◌, IfSome};
 
@@ -11,8 +11,8 @@ const MINUTE: u64 = 60 * SECOND;
 
 const HOUR: u64 = 60 * MINUTE;
 
-/// The greatest number that is taken for seconds since 1970, in the year 5138. A greater one must be milliseconds,
-/// microseconds or nanoseconds.
+/// The greatest number that is read as seconds since 1970, in the year 5138. A greater number must
+/// be milliseconds, microseconds or nanoseconds.
 const LAST: u64 = 100_000_000_000;
 
 /// The greatest number of decimals of a second.
@@ -31,7 +31,7 @@ pub enum TimeFault {
 }
 
 impl TimeFault {
-    /// The message, if `wanted` was expected.
+    /// Returns the message for a time that is refused, if `wanted` was expected.
     pub fn message(self, wanted: &'static str) -> &'static str {
         match self {
             TimeFault::Unread => wanted,
@@ -42,7 +42,7 @@ impl TimeFault {
     }
 }
 
-/// Returns the span that a time stands for: seconds since 1970, or a date in RFC 3339.
+/// Returns the span that a time means: seconds since 1970, or a date of RFC 3339.
 pub fn span_of(text: &str) -> Result<TimeSpan, TimeFault> {
     match span_of_seconds(text) {
         Some(span) if span.first / u128::from(SECOND) > u128::from(LAST) => Err(TimeFault::TooLate),

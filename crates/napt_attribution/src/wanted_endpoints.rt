@@ -9,10 +9,10 @@ use napt_wire::Endpoint;
 use std::alloc::{AllocError, Global};
 use std::collections::{BTreeMap, BTreeSet};
 
-/// The endpoints that requests name, and the addresses all of whose endpoints they ask about.
+/// The endpoints that requests name, and the addresses of which they ask about every endpoint.
 #[derive(Drop)]
 pub struct WantedEndpoints {
-    /// Addresses with a number, and without one where every number is wanted.
+    /// Addresses with a number, or without one if every number is wanted.
     parties: BTreeSet<(u32, Option<u16>)>,
 }
 

@@ -1,10 +1,12 @@
 //! Calls of the libraries, for the bench and for tests from outside.
 //!
-//! `napt_calls HOW [CONFIG]`: `copy`, `merged`, `plain`, `workers` and `slow` do a part of a run over the capture on
-//! standard input ([`runs`]). `napt_calls refused CALL` makes a call that may be refused memory or a thread
-//! ([`refused`]). `napt_calls play` makes the calls in the lines of standard input ([`play`]).
+//! `napt_calls HOW [CONFIG]`, where HOW is `copy`, `merged`, `plain`, `workers` or `slow`, makes a
+//! part of a run over the capture on standard input ([`runs`]). `napt_calls refused CALL` makes a
+//! call that may be refused memory or a thread ([`refused`]). `napt_calls play` makes the calls in
+//! the lines of standard input ([`play`]).
 //!
-//! Statuses: 0 done, 1 wrong, 2 usage, 3 configuration, 4 capture, 5 memory, 6 files and writing; not of `refused`.
+//! Statuses, except for `refused`: 0 done, 1 wrong, 2 usage, 3 configuration, 4 capture, 5 memory,
+//! 6 files and writing.
 #![tactic(auto)]
 
 mod play;
@@ -18,12 +20,12 @@ use std::process::ExitCode;
 /// The reason why the program stops early.
 #[derive(Clone, Copy)]
 enum CallFault {
-    /// The arguments of a call are not allowed.
+    /// The arguments of a call violate its precondition.
     Unsent,
     Usage,
     Config,
     Capture,
-    /// A call is refused because memory is, or a run fails.
+    /// A call was refused memory, or a run failed.
     Call,
     File,
 }

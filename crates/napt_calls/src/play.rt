@@ -1,12 +1,13 @@
-//! Makes the calls in the lines of standard input, and prints the answer to each in a line: tests that need no proof.
+//! Makes the calls in the lines of standard input, and prints their answers, for unproved tests.
 //!
-//! `tests/played` writes these lines from the texts of `tests/calls`, and compares the answers. A line has words
-//! separated by blanks, the first of which names the call. All numbers are decimal: bytes one by one, times in ns, an
-//! address as one number, an endpoint as its address and its number. An answer is what `{:?}` prints of it.
+//! `tests/played` writes these lines from the texts of `tests/calls`, and compares the answers. A
+//! line contains words separated by blanks, the first of which names the call. All numbers are
+//! decimal: bytes one by one, times in ns, an address as one number, an endpoint as its address and
+//! its number. An answer is printed by `{:?}`.
 //!
-//! [`packets`] reads and changes the current packet, [`table`] calls the current table, [`translators`] the current
-//! translators, over the current packet, [`captures`] reads and writes captures, [`merging`] merges two, [`settings`]
-//! reads configurations, and [`logs`] logs runs.
+//! [`packets`] reads and changes the current packet, [`table`] calls the current table,
+//! [`translators`] the current translators, over the current packet, [`captures`] reads and writes
+//! captures, [`merging`] merges two, [`settings`] reads configurations, and [`logs`] logs runs.
 
 mod captures;
 mod line;

@@ -1,14 +1,16 @@
-//! Makes a call that may be refused memory or a thread, and checks what a refusal left or changed.
-//! `tests/refused_calls` runs it again and again, each time with another growth of memory refused.
+//! Makes a call that may be refused memory or a thread, and checks that a refusal changed nothing.
+//! `tests/refused_calls` runs it repeatedly, each time with another growth of memory refused.
 //!
-//! `pool` starts a pool of three workers, fills it and closes it. `run` runs over captures on two workers, `workers`
-//! over their inputs, and `plain` on one thread. `streams` runs over captures as they are read, and `devices` refuses
-//! each call of each device in turn. `dispatch` dispatches these inputs to a pool that was started before, and `merge`
-//! merges them. `capture` and `configuration` read one. `bindings`, `flows` and `ends` send packets through a table: of
-//! new bindings, of new flows of existing bindings, and of bindings that have ended.
+//! `pool` starts a pool of three workers, fills it and closes it. `run` runs over captures on two
+//! workers, `workers` over their inputs, and `plain` on one thread. `streams` runs over captures as
+//! they are read, and `devices` refuses each call of each device in turn. `dispatch` dispatches
+//! these inputs to a pool that was started before, and `merge` merges them. `capture` and
+//! `configuration` read one. `bindings`, `flows` and `ends` send packets through a table: of new
+//! bindings, of new flows of existing bindings, and of bindings that have ended.
 //!
-//! One line on standard output says how it ended. Statuses: 0 done, 1 something is left, changed or wrong, 2 usage, 3
-//! memory was refused before the call, 4 after it, 5 memory or a thread was refused to it, 6 no line.
+//! One line on standard output says how it ended. Statuses: 0 done, 1 something is left, changed or
+//! wrong, 2 usage, 3 memory was refused before the call, 4 memory was refused after it, 5 memory or
+//! a thread was refused to it, 6 no line.
 
 mod captures;
 mod dispatching;
@@ -30,7 +32,7 @@ pub(crate) trait System: Files + AllocGlobal + Threads + Wait + Copy + Send + 's
 
 impl<R: Files + AllocGlobal + Threads + Wait + Copy + Send + 'static> System for R {}
 
-/// The ends of a call other than its usual answer.
+/// The ways in which a call ends without its usual answer.
 #[derive(Clone, Copy)]
 pub(crate) enum CallResult {
     /// Memory was refused to the call, and nothing is left or changed.

@@ -1,10 +1,12 @@
-//! A part of a run, over the capture on standard input: what the bench measures in addition to the program.
+//! Makes a part of a run over the capture on standard input, which the bench measures in addition
+//! to the program.
 //!
-//! `copy` reads the capture and writes its records to standard output, with times in nanoseconds in little-endian
-//! order. The others take the capture as the packets of inside hosts, without outside packets, and write no captures:
-//! `merged` only reads and merges, `plain` runs on one thread, and `workers` with a worker on a thread of its own for
-//! each external address; `slow` does the same, but holds the first worker for two seconds at its first leg. Without a
-//! file the configuration is the built-in one. One line on standard output has the counts of packets, of their
+//! `copy` reads the capture and writes its records to standard output, with times in nanoseconds in
+//! little-endian order. The others read the capture as the packets of inside hosts, without outside
+//! packets, and write no captures: `merged` only reads and merges, `plain` runs on one thread, and
+//! `workers` runs with a worker on its own thread for each external address; `slow` does the same,
+//! but delays the first worker by two seconds at its first leg. Without a file, the configuration
+//! is the built-in one. One line on standard output contains the counts of packets, of their
 //! outcomes, and of the legs of each address.
 
 use crate::CallFault;
@@ -22,7 +24,7 @@ use std::{fs, io, thread};
 /// The size of reads and writes in bytes.
 const BUFFERED: usize = 65_536;
 
-/// What to do with the capture.
+/// The part of a run to make.
 #[derive(Clone, Copy)]
 enum Measurement {
     Copy,
@@ -32,7 +34,7 @@ enum Measurement {
     Merged,
 }
 
-/// Holds worker 0 for two seconds at its first leg.
+/// Delays worker 0 by two seconds at its first leg.
 #[derive(Drop)]
 struct SlowStart<R> {
     rt: R,
@@ -72,7 +74,7 @@ pub(crate) fn measure<
     print_counts(rt, &run).map_err(|_| CallFault::File)
 }
 
-/// Returns what a word names.
+/// Returns the part of a run that a word names.
 fn measurement_of(word: Option<&String>) -> Result<Measurement, CallFault> {
     match word.ok_or(CallFault::Usage)?.as_str() {
         "copy" => Ok(Measurement::Copy),

@@ -1,4 +1,4 @@
--- A run of which only the outcomes are needed, by the inputs that it has taken.
+-- A run whose outcomes alone are needed, by the inputs that it has processed.
 use Rattle.std.specs.Prelude.{◌≡◌, Bool, List, [], ◌∷◌, ◌++◌, false}
 use Rattle.napt_rules.specs.Prelude.{Arrival, Rules, State, effect_from, with_redirects}
 use Rattle.napt_rules.specs.declared.Outcome.{Outcome}
@@ -6,10 +6,10 @@ use Rattle.napt_commands.specs.Starts.{RunStartModel}
 
 pub record PlainRunModel : Type 0 where
   pub rules : Rules
-  -- The state from which the run goes on.
+  -- The state from which the run continues.
   pub state : State
   pub inputs : List Arrival
-  -- Whether a step has failed, after which the run does not go on.
+  -- Whether a step has failed, after which the run does not continue.
   pub is_stopped : Bool
 
 abbrev pub plain_from : RunStartModel → PlainRunModel

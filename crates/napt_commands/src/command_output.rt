@@ -7,7 +7,7 @@ use napt_config::Config;
 
 /// The output of a command about one run under a configuration.
 pub trait CommandOutput<R> {
-    /// Takes the next packet, and appends its lines for standard output to `text`.
+    /// Processes the next packet, and appends its lines for standard output to `text`.
     fn take(
         &mut self,
         rt: &R,
@@ -16,7 +16,7 @@ pub trait CommandOutput<R> {
         text: &mut String,
     ) -> Result<(), Exit>;
 
-    /// Flushes the files that the output writes, before the program waits for more packets or prints a fault.
+    /// Flushes the output's files, before the program waits for packets or prints a fault.
     fn settle(&mut self, _rt: &R) -> Result<(), Exit> {
         Ok(())
     }

@@ -26,6 +26,7 @@ impl<'a> CountedRun<'a> {
         })
     }
 
+    /// Returns the configuration of the run.
     pub fn config(&self) -> &'a Config {
         self.run.config()
     }

@@ -1,4 +1,4 @@
-//! Whether captures contain what the figures of a run need.
+//! Checks whether captures contain the packets that the figures of a run need.
 
 use napt_account::{LogEntry, LogStep};
 use napt_sequential::{Input, Outcome};
@@ -6,12 +6,12 @@ use napt_wire::{Cause, Side};
 
 const SECOND: u64 = 1_000_000_000;
 
-/// The packets of the captures, and how many bindings were made and ended in them. Redirects do not count.
+/// The packets of the captures, and the bindings made and ended in them. Redirects do not count.
 #[derive(Clone, Copy, Default)]
 pub struct Coverage {
     from_inside: u64,
     from_outside: u64,
-    /// Packets with fewer bytes than their headers say.
+    /// The number of packets with fewer bytes than their headers say.
     truncated: u64,
     made: u64,
     ended: u64,
@@ -23,7 +23,7 @@ pub struct Coverage {
 }
 
 impl Coverage {
-    /// Counts the next packet, and what it did to the bindings.
+    /// Counts the next packet, and the bindings that it made and ended.
     pub fn count_packet(&mut self, input: &Input, step: &LogStep) {
         let many = match input.side {
             Side::Inside => &mut self.from_inside,
@@ -40,15 +40,15 @@ impl Coverage {
         self.last = self.last.max(input.clock);
     }
 
-    /// Prints what the captures lack under any configuration.
+    /// Prints which packets the captures lack under any configuration.
     pub fn print<R: Eprint>(self, rt: &R) {
         if self.from_inside == 0 {
             let _ = eprintln!(rt;
-                "explain: no packet comes from inside: figures of bindings mean nothing"
+                "explain: no packet comes from inside: figures of bindings have no meaning"
             );
         } else if self.from_outside == 0 {
             let _ = eprintln!(rt;
-                "explain: no packet comes from outside: connections count as never answered, and end early"
+                "explain: no packet comes from outside: connections count as never answered, and expire early"
             );
         }
         let all = self.from_inside.saturating_add(self.from_outside);
@@ -60,7 +60,7 @@ impl Coverage {
         }
     }
 
-    /// Takes bindings that have ended, or that would end if no more packets came.
+    /// Counts bindings that have ended, or that would end if no more packets came.
     fn end(&mut self, entries: &[LogEntry]) {
         for LogEntry { entry, .. } in entries {
             let end = u64::try_from(entry.end.unwrap_or(0)).unwrap_or(u64::MAX);
@@ -68,8 +68,8 @@ impl Coverage {
         }
     }
 
-    /// Takes the bindings that are live at the end, and prints a warning if more than half of all bindings are, or if
-    /// the captures span less time than the longest time to an end.
+    /// Counts the bindings that are live at the end, and prints a warning if more than half of all
+    /// bindings are, or if the captures span less time than the longest time to an end.
     pub fn print_living<R: Eprint>(mut self, rt: &R, entries: &[LogEntry]) {
         self.end(entries);
         let (living, made) = (self.made.saturating_sub(self.ended), self.made);
@@ -81,7 +81,7 @@ impl Coverage {
         let (span, longest) = (span / SECOND, self.longest / SECOND);
         let _ = match is_half {
             true => eprintln!(rt;
-                "explain: {living} of {made} bindings have not ended when the captures do, after {span} s: the greatest number at once may be higher"
+                "explain: {living} of {made} bindings are live when the captures end, after {span} s: the greatest number at once may be higher"
             ),
             false => eprintln!(rt;
                 "explain: the captures span {span} s, less than the {longest} s that a binding lives after its last packet: \

@@ -10,9 +10,9 @@ use std::io::ErrorKind;
 /// The reason why the program stops.
 #[derive(Drop)]
 pub enum Exit {
-    /// A stop of `napt` whose reason has already been printed.
+    /// A stop of `napt`, whose reason has already been printed.
     Printed(Stop),
-    /// A stop of `napt` whose fault line is to be printed.
+    /// A stop of `napt`, whose fault line has not been printed yet.
     Unprinted(Stop),
     /// Standard output was closed at startup.
     NoOutput,
@@ -22,15 +22,16 @@ pub enum Exit {
     Differences,
     /// Nobody had the endpoint in question.
     NoHolder,
-    /// The gateway of the captures used other numbers, which has already been printed.
+    /// The captured gateway used other numbers than the run, as has already been printed.
     OtherNumbers,
     /// A saved log is refused, and the reason has already been printed.
     Log,
 }
 
 impl Exit {
-    /// Returns the status of `napt`; 6 if standard output fails, as for a file; 4 if a saved log is refused, as for a
-    /// capture; 7 if the captured gateway used other numbers; 1 if packets differ or nobody had the endpoint.
+    /// Returns the status of `napt`; 6 if standard output fails, as for a file; 4 if a saved log is
+    /// refused, as for a capture; 7 if the captured gateway used other numbers; or 1 if packets
+    /// differ or nobody had the endpoint.
     pub fn status(&self) -> u8 {
         match self {
             Exit::Printed(stop) | Exit::Unprinted(stop) => stop_status(stop),

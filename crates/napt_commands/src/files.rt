@@ -1,4 +1,4 @@
-//! Files that commands read or write in addition to captures, and the reasons why one cannot be used.
+//! Files that commands read or write in addition to captures, and why one cannot be used.
 
 use crate::exit::Exit;
 use either::Either;
@@ -11,24 +11,24 @@ pub fn print_failed<R: Eprint>(rt: &R, name: &str, path: &str, error: &io::Error
     let _ = eprintln!(rt; "explain: {name} {path}: {error}");
 }
 
-/// Prints that a file cannot be written, with the system's reason, and returns how the program stops.
+/// Prints that a file cannot be written, with the system's reason, and returns the stop.
 pub fn print_unwritten<R: Eprint>(rt: &R, name: &str, path: &str, error: &io::Error) -> Exit {
     print_failed(rt, name, path, error);
     unwritten()
 }
 
-/// Prints that a file cannot be written if the system gives no reason, and returns how the program stops.
+/// Prints that a file cannot be written if the system gives no reason, and returns the stop.
 pub fn print_unexplained<R: Eprint>(rt: &R, name: &str, path: &str) -> Exit {
-    let _ = eprintln!(rt; "explain: {name} {path}: it cannot be written whole");
+    let _ = eprintln!(rt; "explain: {name} {path}: it cannot be written completely");
     unwritten()
 }
 
-/// Returns how the program stops if a file cannot be written, which is how `napt` stops for an output.
+/// Returns the stop if a file cannot be written, which is that of `napt` for an output.
 pub fn unwritten() -> Exit {
     Exit::Printed(Stop::File(FileRole::Report))
 }
 
-/// Opens a file for reading, or standard input for `-`, and prints the reason if that fails. `name` names its option.
+/// Opens the file of the option `name` for reading, or standard input for `-`, or prints why not.
 pub fn open_file<R: Files + Input + Eprint + AllocGlobal>(
     rt: &R,
     name: &str,
@@ -40,7 +40,7 @@ pub fn open_file<R: Files + Input + Eprint + AllocGlobal>(
     }
 }
 
-/// Reads a file, which may have as many bytes as a configuration, and prints the reason if that fails.
+/// Reads a file of at most 64 MiB, as a configuration, and prints the reason if that fails.
 pub fn text_at<R: Files + Input + Eprint + AllocGlobal>(
     rt: &R,
     name: &str,
@@ -52,7 +52,7 @@ pub fn text_at<R: Files + Input + Eprint + AllocGlobal>(
     }
 }
 
-/// Prints why a file cannot be used (it is missing, cannot be read, or is too long), and returns how `napt` would stop.
+/// Prints why a file (missing, unreadable, or too long) cannot be used, and returns the stop.
 fn print_unread<R: Files + Eprint + AllocGlobal>(
     rt: &R,
     name: &str,

@@ -1,5 +1,5 @@
-//! What the commands of `explain` share: the reasons why they stop, their output, the packets of a run, and the counts
-//! of packets from outside that are dropped.
+//! The parts that the commands of `explain` share: the reasons why they stop, their output, the
+//! packets of a run, and the counts of packets from outside that are dropped.
 #![tactic(auto)]
 
 mod command_output;

@@ -1,4 +1,4 @@
-//! Counts of dropped packets from outside, which show whether the captures and the configuration belong together.
+//! Counts of dropped packets from outside, which show whether captures belong to the configuration.
 
 ghost use Rattle.std.specs.Prelude.{◌≡◌, ◌+◌, ◌-◌, ◌/◌, ◌^◌, ◌<◌, ◌↔◌, min, true};
 
@@ -7,22 +7,23 @@ use napt_sequential::{Input, Outcome};
 use napt_wire::{Cause, Side};
 use std::alloc::{AllocError, Global};
 
-/// The number of packets from each side, and how many of those from outside were dropped for some causes.
+/// The number of packets from each side, and of packets from outside that some causes dropped.
 #[derive(Drop)]
 pub struct LossCounts {
+    /// The number of packets from outside.
     pub all: u64,
-    /// The number of packets that came from inside, and how many of them had an inside address.
+    /// The number of packets that came from inside, and the number of them with an inside address.
     pub inside: u64,
     pub from_hosts: u64,
-    /// The number of packets from inside that got no binding, because of the quota or for want of a free number.
+    /// The number of packets from inside without a binding, due to the quota or a lack of numbers.
     pub refused: u64,
-    /// Packets for an endpoint without a live binding.
+    /// The number of packets for an endpoint without a live binding.
     pub no_binding: u64,
-    /// Packets for an address that is not the gateway's.
+    /// The number of packets for an address that is not the gateway's.
     pub not_ours: u64,
-    /// Packets whose source is an inside address.
+    /// The number of packets whose source is an inside address.
     pub from_inside: u64,
-    /// Packets whose source is an address of the pool: a count for each address, in the order of the pool.
+    /// The number of packets from each address of the pool, in the order of the pool.
     pub from_pool: Vec<u64>,
 }
 
@@ -75,20 +76,19 @@ impl LossCounts {
         }
     }
 
-    /// The number of packets that found no binding or were not for the gateway.
+    /// Returns the number of packets that found no binding or were not for the gateway.
     pub fn unmet(&self) -> u64
         ensures { result ≡ min (self.now.no_binding + self.now.not_ours) (2 ^ 64 - 1) }
     {
         self.no_binding.saturating_add(self.not_ours)
     }
 
-    /// Returns whether more than a fifth, and more than one, found no binding or were not for the
-    /// gateway.
+    /// Returns whether more than a fifth of those from outside, and more than one, are unmet.
     pub fn exceeds_fifth_unmet(&self) -> bool {
         self.unmet() > self.all / 5 && self.unmet() > 1
     }
 
-    /// Returns whether more than a fifth, and more than one, found no binding.
+    /// Returns whether more than a fifth from outside, and more than one, found no binding.
     pub fn exceeds_fifth_unbound(&self) -> bool
         ensures { (result ≡ true)
             ↔ ((self.now.all / 5 < self.now.no_binding) × (1 < self.now.no_binding)) }
@@ -102,7 +102,7 @@ impl LossCounts {
         self.inside > 0 && self.from_hosts == 0 && self.from_inside > self.all / 2
     }
 
-    /// Returns whether more than half were not for the gateway.
+    /// Returns whether more than half of the packets from outside were not for the gateway.
     pub fn exceeds_half_not_ours(&self) -> bool
         ensures { (result ≡ true) ↔ (self.now.all / 2 < self.now.not_ours) }
     {
@@ -137,17 +137,17 @@ impl SourceKind {
     }
 }
 
-/// Returns the source address of an IPv4 header, or `None` if the bytes end before it does.
+/// Returns the source address of an IPv4 header, in host order, if there are enough bytes.
 pub fn source_of(bytes: &[u8]) -> Option<u32> {
     address_at(bytes, 12)
 }
 
-/// Returns the destination address of an IPv4 header, or `None` if the bytes end before it does.
+/// Returns the destination address of an IPv4 header, in host order, if there are enough bytes.
 pub fn destination_of(bytes: &[u8]) -> Option<u32> {
     address_at(bytes, 16)
 }
 
-/// Returns the address at an offset, if there are enough bytes.
+/// Returns the address at an offset, in host order, if there are enough bytes.
 fn address_at(bytes: &[u8], at: usize) -> Option<u32> {
     let rest = bytes.get(at..)?;
     let four = rest.first_chunk::<4>()?;

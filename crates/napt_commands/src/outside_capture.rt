@@ -1,20 +1,20 @@
-//! The kinds of outside capture: packets as the gateway received them, or replies that follow the run.
+//! The kinds of outside capture: packets that the gateway received, or replies that follow the run.
 
 use napt_config::Config;
 use napt_sequential::{Input, RunFault, followed};
 use std::alloc::{AllocError, Global};
 
-/// What the outside capture contains.
+/// The kind of packets in the outside capture.
 #[derive(Clone, Copy, PartialEq, Eq)]
 pub enum OutsideCapture {
     /// Packets for external endpoints, as the gateway received them.
     Packets,
-    /// Packets for inside endpoints, as inside hosts received them. They follow the run.
+    /// Replies: packets for inside endpoints, as inside hosts received them. They follow the run.
     Replies,
 }
 
 impl OutsideCapture {
-    /// The name of the capture's option, without its dashes.
+    /// Returns the name of the capture's option, without its dashes.
     pub fn name(self) -> &'static str {
         match self {
             OutsideCapture::Packets => "outside",
@@ -22,7 +22,7 @@ impl OutsideCapture {
         }
     }
 
-    /// The option of the capture.
+    /// Returns the option of the capture.
     pub fn option(self) -> &'static str {
         match self {
             OutsideCapture::Packets => "--outside",
@@ -35,7 +35,7 @@ impl OutsideCapture {
         self == OutsideCapture::Replies
     }
 
-    /// Returns the inputs of the run under a configuration: replies follow it, and other packets stay as they are.
+    /// Returns the inputs of the run under a configuration, in which replies follow the run.
     pub fn inputs_under(
         self,
         alloc: Global,

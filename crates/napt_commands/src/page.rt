@@ -3,7 +3,7 @@
 use crate::exit::Exit;
 use std::alloc::Global;
 
-/// The size in bytes from which on the buffer is written.
+/// The size in bytes at which the buffer is written.
 const BUFFERED: usize = 65_536;
 
 /// The lines that have not been written yet.
@@ -13,6 +13,7 @@ pub struct Page {
 }
 
 impl Page {
+    /// Returns a buffer without lines.
     pub fn new(alloc: Global) -> Page {
         Page {
             text: String::new(alloc),

@@ -16,9 +16,9 @@ use std::marker::Model;
 pub struct PlainRun<'a> {
     config: &'a Config,
     run: SequentialRun,
-    /// The state from which the run goes on. It takes no memory: only proofs read it.
+    /// The state from which the run continues. It takes no memory, since only proofs read it.
     begun: Log<u64, State>,
-    /// The packets that the run has taken. They take no memory: only proofs read them.
+    /// The packets so far. They take no memory, since only proofs read them.
     past: Log<u64, Input>,
     /// Whether a step failed. All later steps then fail too.
     is_stopped: bool,
@@ -69,14 +69,15 @@ impl<'a> PlainRun<'a> {
         })
     }
 
+    /// Returns the configuration of the run.
     pub fn config(&self) -> &'a Config
         ensures { result.now ≡ self.now.rules }
     {
         self.config
     }
 
-    /// Passes the next packet through the run, and returns the last outcome of the sequential run over all packets so
-    /// far. After a fault each later step fails with `RunFault::Memory`.
+    /// Passes the next packet through the run, and returns the last outcome of the sequential run
+    /// over all packets so far. After a fault, each later step fails with `RunFault::Memory`.
     pub fn step(&mut self, alloc: Global, input: &Input) -> Result<Outcome, RunFault>
         ensures tells { self.old.is_stopped ≡ false →
             IfOk result (IsOutcome self.old input.now) }

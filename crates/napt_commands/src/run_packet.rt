@@ -8,7 +8,7 @@ use napt_records::CutFlags;
 use napt_rules::Row;
 use napt_sequential::Input;
 
-/// A packet of a run, and what the run did with it.
+/// A packet of a run, and its outcome.
 #[derive(Clone, Copy)]
 pub struct RunPacket<'a> {
     /// The number of the packet, from 1.
@@ -23,16 +23,16 @@ pub struct EndedRun<'a> {
     pub config: &'a Config,
     /// The number of packets.
     pub packets: u64,
-    /// The clock of the state from which the run went on, in ns, or 0.
+    /// The clock of the state from which the run continued, in ns, or 0.
     pub first: u64,
     /// The latest time of a packet, in ns, or `first` if there was none.
     pub last: u64,
-    /// How far packets step back in time, in ns.
+    /// The greatest step back in time between packets, in ns.
     pub later: u64,
     pub cuts: CutFlags,
     /// The counts of dropped packets from outside.
     pub losses: LossCounts,
-    /// Whether those that found no binding, or were not for the gateway, seem to be answers.
+    /// Whether the packets that found no binding, or were not for the gateway, seem to be answers.
     pub are_answers: bool,
     /// The live bindings, in the order of the report.
     pub rows: Vec<Row>,
@@ -40,9 +40,9 @@ pub struct EndedRun<'a> {
     pub living: Vec<LogEntry>,
 }
 
-/// Takes the packets of the captures, one after another, and keeps none.
+/// Processes the packets of the captures, one after another, and retains none.
 pub trait PacketConsumer<R> {
-    /// Takes the next packet, which has this number, from 1.
+    /// Processes the next packet, which has this number, from 1.
     fn take(&mut self, rt: &R, number: u64, input: &Input) -> Result<(), Exit>;
 
     /// Flushes the output so far, before the program waits for more packets or prints a fault.

@@ -2,7 +2,7 @@
 
 use std::fmt;
 
-/// A time in nanoseconds, which is printed in seconds with six decimals, as `tcpdump -tt` prints it.
+/// A time in ns, which is printed in seconds with six decimals, as `tcpdump -tt` prints it.
 #[derive(Clone, Copy)]
 pub struct Seconds(pub u64);
 

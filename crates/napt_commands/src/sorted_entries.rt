@@ -4,16 +4,17 @@ use napt_account::Entry;
 use napt_wire::{Endpoint, Protocol};
 use std::alloc::AllocError;
 
-/// Entries sorted by their external endpoints. Entries of one endpoint stay in the order in which they were given.
+/// Entries sorted by their external endpoints. Entries of one endpoint retain their given order.
 #[derive(Drop)]
 pub struct SortedEntries {
     entries: Vec<Entry>,
 }
 
 impl SortedEntries {
+    /// Sorts entries by their external endpoints. Fails only if memory is refused.
     pub fn from_entries(entries: Vec<Entry>) -> Result<SortedEntries, AllocError> {
         let mut entries = entries;
-        // The sort is stable: entries of one endpoint keep their order.
+        // The sort is stable, so that entries of one endpoint retain their order.
         entries.sort_by_key(|entry| place_of(entry.binding.external))?;
         Ok(SortedEntries { entries })
     }
@@ -38,7 +39,7 @@ impl SortedEntries {
     }
 }
 
-/// The key by which endpoints are sorted.
+/// Returns the key by which endpoints are sorted.
 fn place_of(endpoint: Endpoint) -> (u32, u16) {
     (endpoint.address, endpoint.number)
 }

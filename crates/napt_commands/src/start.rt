@@ -1,4 +1,4 @@
-//! Where a run starts.
+//! The start of a run.
 
 ghost use Rattle.std.specs.Prelude.{◌≡◌, [], false, true, IfOk};
 ghost use Rattle.napt_rules.specs.Prelude.{TakesState, with_redirects};
@@ -12,8 +12,8 @@ use napt_rules::State;
 use std::alloc::{AllocError, Global};
 use std::marker::Model;
 
-/// A configuration, and the state from which a run under it starts, with what the state keeps of a log. A new run
-/// starts from a state without bindings.
+/// A configuration, and the state from which a run under it starts, with the accounts of a log that
+/// the state contains. A new run starts from a state without bindings.
 #[derive(Drop)]
 pub struct RunStart<'a> {
     config: &'a Config,
@@ -40,6 +40,7 @@ impl<'a> Model for RunStart<'a> {
 }
 
 impl<'a> RunStart<'a> {
+    /// Returns the start of a run from a state that the configuration accepts, with its saved log.
     pub fn new(config: &'a Config, state: State, saved: SavedLogState) -> RunStart<'a>
         requires taken { TakesState config.now state }
         requires saved { is_saved_log_state state saved ≡ true }
@@ -52,6 +53,7 @@ impl<'a> RunStart<'a> {
         }
     }
 
+    /// Returns the configuration of the run.
     pub fn config(&self) -> &'a Config
         ensures { result.now ≡ self.now.rules }
     {
@@ -65,7 +67,7 @@ impl<'a> RunStart<'a> {
         self.state.clock
     }
 
-    /// Returns whether the log begins new entries for the bindings of the state, which has no accounts of them.
+    /// Returns whether the log begins new entries for bindings that have no accounts in the state.
     pub fn begins_entries(&self) -> bool {
         self.saved.lacks_all(self.config, &self.state)
     }

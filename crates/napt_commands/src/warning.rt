@@ -1,10 +1,10 @@
-//! Warnings about a run whose captures and configuration seem not to belong together.
+//! Warnings about a run whose captures do not seem to belong to the configuration.
 
 use crate::loss_counts::LossCounts;
 use crate::outside_capture::OutsideCapture;
 
-/// Prints that the captures are swapped, or that many packets from outside were dropped, what that says about the
-/// captures, and what to do. `under` names the configuration, if there are several.
+/// Prints that the captures are swapped, or that many packets from outside were dropped, the
+/// probable cause, and what to do. `under` names the configuration, if there are several.
 pub fn print_warning<R: Eprint>(
     rt: &R,
     outside: OutsideCapture,
@@ -40,14 +40,14 @@ fn print_losses<R: Eprint>(rt: &R, outside: OutsideCapture, losses: &LossCounts)
         OutsideCapture::Packets => eprintln!(rt;
             "{unmet} of {all} packets from outside are dropped as no-binding or not-ours
   the captured gateway seems to have chosen other numbers or addresses: connections count as never answered here,
-  and figures of bindings are wrong. Give what inside hosts got as --replies, in place of --outside"
+  and figures of bindings are wrong. Give the packets that inside hosts received as --replies, instead of --outside"
         ),
         OutsideCapture::Replies if losses.exceeds_half_not_ours() => eprintln!(rt;
             "{} of {all} replies are not to an inside host: is this an outside capture? (--outside)",
             losses.not_ours
         ),
         OutsideCapture::Replies if losses.refused > 0 => eprintln!(rt;
-            "{} of {all} replies find no binding: {} packets from inside got none, because of the quota or for want of a free number",
+            "{} of {all} replies find no binding: {} packets from inside got none, because of the quota or for lack of a free number",
             losses.no_binding, losses.refused
         ),
         OutsideCapture::Replies => eprintln!(rt;

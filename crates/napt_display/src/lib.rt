@@ -1,4 +1,4 @@
-//! Why napt refuses a file or drops packets, in words for people to read. It makes no run.
+//! The reasons why napt refuses a file or drops packets, in words for people. It makes no run.
 #![tactic(auto)]
 
 pub mod reasons;

@@ -1,5 +1,5 @@
-//! Why napt refuses a capture, or drops packets, for people to read: what a capture seems to be, what a cause means,
-//! and what to do.
+//! The reasons why napt refuses a capture or drops packets, for people to read: the probable form
+//! of a capture, the meaning of a cause, and what to do.
 
 mod capture;
 mod cause;

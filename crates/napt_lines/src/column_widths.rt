@@ -2,7 +2,7 @@
 
 use napt_sequential::Input;
 
-/// The least widths of the column of a packet as it arrived, and of the column of what happened to it.
+/// The least widths of the column of a packet as it arrived, and of the column of its outcome.
 pub const BEFORE: usize = 50;
 
 pub const HAPPENED: usize = 21;
@@ -22,18 +22,18 @@ impl ColumnWidths {
         self.seconds = self.seconds.max(input.clock / 1_000_000_000);
     }
 
-    /// The width of the column of packet numbers.
+    /// Returns the width of the column of packet numbers.
     pub fn number(self) -> usize {
         digits(self.number)
     }
 
-    /// The width of the column of times, before the point.
+    /// Returns the width of the column of times, before the point.
     pub fn seconds(self) -> usize {
         digits(self.seconds)
     }
 }
 
-/// The number of decimal digits of a number.
+/// Returns the number of decimal digits of a number.
 pub fn digits(number: u64) -> usize {
     (number.checked_ilog10().unwrap_or(0) as usize).saturating_add(1)
 }

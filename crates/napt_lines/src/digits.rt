@@ -1,4 +1,4 @@
-//! Appends numbers and spaces to a text. They take most of the time of a million lines, so they avoid `write!`.
+//! Appends numbers and spaces to a text, without `write!`, to save most of the time of many lines.
 
 use itoa::Buffer;
 pub use napt_log_text::{add_address, add_endpoint, add_number};
@@ -18,10 +18,10 @@ pub fn add_number_within(text: &mut String, number: u64, wide: usize) -> Result<
     text.push_str(shown)
 }
 
-/// Appends a time in ns as seconds with six decimals, padded to at least this width before the point.
+/// Appends a time in ns as seconds with six decimals, padded to this width before the point.
 pub fn add_seconds(text: &mut String, time: u64, wide: usize) -> Result<(), AllocError> {
     add_number_within(text, time / 1_000_000_000, wide)?;
-    // The 1 in front keeps the leading zeros of the microseconds.
+    // The leading 1 preserves the leading zeros of the microseconds.
     let mut digits = Buffer::new();
     let micros = digits.format(1_000_000 + time % 1_000_000_000 / 1000);
     text.push_str(".")?;
@@ -36,8 +36,8 @@ pub fn add_spaces(text: &mut String, many: usize) -> Result<(), AllocError> {
     text.push_str(SPACES_AND_BAR.get(..many.min(SPACES)).unwrap_or(""))
 }
 
-/// Ends the column that starts at `begin`: pads it with spaces to this width, at most that of the widest column, and
-/// appends the bar.
+/// Ends the column that starts at `begin`: pads it with spaces to this width, at most that of the
+/// widest column, and appends the bar.
 pub fn end_column(text: &mut String, begin: usize, wide: usize) -> Result<(), AllocError> {
     let many = wide.saturating_sub(text.len().saturating_sub(begin));
     text.push_str(

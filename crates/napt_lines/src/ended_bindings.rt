@@ -7,7 +7,7 @@ use napt_records::protocol_name;
 use napt_table::Row;
 use std::alloc::AllocError;
 
-/// Appends the line of a binding that expired, aligned with those of packets.
+/// Appends the line of a binding that expired, aligned with the lines of packets.
 pub fn add_end(text: &mut String, widths: ColumnWidths, entry: &Entry) -> Result<(), AllocError> {
     // The end of an expired binding is a time in 64 bits.
     let at = u64::try_from(entry.end.unwrap_or(0)).unwrap_or(u64::MAX);

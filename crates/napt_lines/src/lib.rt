@@ -1,4 +1,4 @@
-//! The lines of packets, in the style of tcpdump, which the commands `show` and `compare` of `explain` print of a run.
+//! The lines of packets, in the style of tcpdump, that the commands `show` and `compare` print.
 #![tactic(auto)]
 
 mod column_widths;

@@ -60,8 +60,7 @@ impl<'a> PacketLine<'a> {
         }
     }
 
-    /// Returns whether the packet arrives or leaves with this host or endpoint, or was sent to it
-    /// as a reply.
+    /// Returns whether the packet arrives, leaves or is a reply with this host or endpoint.
     pub fn has_host(self, alloc: Global, host: Party) -> Result<bool, AllocError> {
         let input = self.run_packet.input;
         Ok(
@@ -71,8 +70,8 @@ impl<'a> PacketLine<'a> {
         )
     }
 
-    /// Appends the line. The columns of all lines align, except after an ICMP error whose quotation is wider than its
-    /// column, and where a number or a time first needs one more digit.
+    /// Appends the line. The columns of all lines align, except after an ICMP error whose quotation
+    /// is wider than its column, and when a number or a time first needs one more digit.
     pub fn add(
         self,
         alloc: Global,
@@ -91,7 +90,7 @@ impl<'a> PacketLine<'a> {
         text.push_str("\n")
     }
 
-    /// Appends what happened to the packet, and the packet as it leaves.
+    /// Appends the outcome of the packet, and the packet as it leaves.
     fn add_rest(self, text: &mut String) -> Result<(), AllocError> {
         let RunPacket { input, step, .. } = self.run_packet;
         let (packet, is_hairpin) = match &step.outcome {
@@ -144,7 +143,7 @@ pub fn has_party(row: &Row, host: Option<Party>) -> bool {
     host.is_none_or(|host| host.has(row.inside) || host.has(row.external))
 }
 
-/// Returns what a forwarded packet did to a binding.
+/// Returns the effect of a forwarded packet on a binding.
 fn binding_effect(packet: &Packet, note: LogNote) -> &'static str {
     match (packet.kind(), note) {
         (Kind::ErrorOf(_), _) => "error about a binding",

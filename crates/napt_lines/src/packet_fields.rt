@@ -70,7 +70,7 @@ fn is_reply(bytes: &[u8]) -> bool {
     }
 }
 
-/// Appends a space and the flags in brackets as tcpdump prints them, such as `[S]`, `[S.]`, `[F.]`, `[R]` and `[.]`.
+/// Appends a space and the flags in brackets as tcpdump prints them, such as `[S.]` and `[.]`.
 fn add_flags(text: &mut String, flags: Flags) -> Result<(), AllocError> {
     text.push_str(" [")?;
     text.push_str(if flags.fin { "F" } else { "" })?;
@@ -79,13 +79,13 @@ fn add_flags(text: &mut String, flags: Flags) -> Result<(), AllocError> {
     text.push_str(if flags.ack { ".]" } else { "]" })
 }
 
-/// Reads the packet that arrived with these bytes, if they are one.
+/// Reads the packet that arrived with these bytes, if they are a packet.
 fn arrival(alloc: Global, side: Side, bytes: &[u8]) -> Result<Option<Packet>, AllocError> {
     let copy = Vec::from_slice(alloc, bytes)?;
     Ok(Packet::read(side, copy).ok())
 }
 
-/// Appends the packet that arrived with these bytes, or what can be read from bytes that are not a packet.
+/// Appends the packet that arrived with these bytes, or the fields in bytes that are no packet.
 pub fn add_arrival(
     alloc: Global,
     text: &mut String,
@@ -98,7 +98,7 @@ pub fn add_arrival(
     }
 }
 
-/// Appends what can be read from bytes that are not a packet.
+/// Appends the fields that can be read from bytes that are not a packet.
 fn add_unread(text: &mut String, bytes: &[u8]) -> Result<(), AllocError> {
     if is_arp(bytes) {
         text.push_str("arp, ")?;

@@ -4,7 +4,7 @@ ghost use Rattle.std.specs.Prelude.{◌≡◌, ◌↔◌, ◌⊎◌, true, false
 
 use napt_account::Party;
 
-/// The selection of packets that get a line: those that meet every condition given.
+/// The selection of packets that get a line: the packets that meet every condition given.
 #[derive(Clone, Copy)]
 pub struct PacketSelection {
     /// The packet with this number, from 1.

@@ -1,5 +1,5 @@
-//! Finds packets from outside that answer packets which left just before. Only the remotes of the last minutes and
-//! those of live bindings are kept.
+//! Finds packets from outside that answer packets which left just before. Only the remotes of the
+//! last minutes and of live bindings are retained.
 
 use napt_account::LogNote;
 use napt_commands::{Exit, LossCounts, RunPacket, destination_of, source_of};
@@ -8,19 +8,19 @@ use napt_wire::{Cause, Protocol, Side};
 use std::alloc::{AllocError, Global};
 use std::collections::BTreeMap;
 
-/// How long after an inside packet to a remote a packet from that remote counts as an answer, in ns.
+/// The time in ns, after an inside packet to a remote, for which its packets count as answers.
 const JUST_BEFORE: u64 = 60_000_000_000;
 
-/// The number of remotes from which on old ones are forgotten.
+/// The number of remotes at which old ones are removed.
 const FEW: usize = 1024;
 
-/// The greatest number of remotes that are kept for a binding. Nothing is known about a binding that sent to more.
+/// The greatest number of remotes of a binding. Nothing is known about a binding that sent to more.
 const MOST: usize = 64;
 
-/// A remote endpoint: its protocol, its address, and its port, 0 for echoes; or a whole address, without a protocol.
+/// A remote endpoint: its protocol, address and port, 0 for echoes; or an address alone.
 type Remote = (Option<Protocol>, u32, u16);
 
-/// What inside hosts sent to a remote.
+/// The packets that inside hosts sent to a remote.
 #[derive(Clone, Copy)]
 struct SentCounts {
     /// The time in ns of the last packet.
@@ -35,13 +35,13 @@ struct SentCounts {
 #[derive(Drop)]
 pub struct Remotes {
     sent: BTreeMap<Remote, SentCounts>,
-    /// The number of remotes at which old ones are forgotten next.
+    /// The number of remotes at which old ones are removed next.
     full: usize,
     /// The remotes of each live binding that the run made, by the number of its entry in the log.
     of_bindings: BTreeMap<u64, Vec<Remote>>,
     /// The number of answers among the packets that found no binding or were not for the gateway.
     unmet_answers: u64,
-    /// The number of answers for the gateway, and how many of them found no binding, or one that had not asked.
+    /// The number of answers for the gateway, and of those without a binding that sent the request.
     answers: u64,
     astray: u64,
     /// The number of the first packet that `astray` counts, or 0.
@@ -69,14 +69,14 @@ impl Remotes {
         self.unmet_answers > 0 && self.unmet_answers >= others
     }
 
-    /// Returns whether more than one in a thousand answers, and more than one, go astray: the
+    /// Returns whether more than one in a thousand answers, and more than one, go astray, since the
     /// captured gateway had other numbers.
     pub fn are_astray(&self) -> bool {
         self.astray > 1 && self.astray > self.answers / 1_000
     }
 
-    /// Prints that the captured gateway used other numbers than the run, which therefore says nothing about it, and
-    /// returns how the program stops.
+    /// Prints that the captured gateway used other numbers than the run, which therefore does not
+    /// show what the gateway did, and returns the stop.
     pub fn print_astray<R: Eprint>(&self, rt: &R) -> Exit {
         let (astray, answers, first) = (self.astray, self.answers, self.first_astray);
         let _ = eprintln!(rt;
@@ -86,7 +86,7 @@ impl Remotes {
         Exit::OtherNumbers
     }
 
-    /// Adds the next packet.
+    /// Counts the next packet.
     pub fn add_packet(&mut self, alloc: Global, passing: RunPacket<'_>) -> Result<(), AllocError> {
         let step = passing.step;
         for listed in &step.part.ended {
@@ -127,7 +127,7 @@ impl Remotes {
         self.note(remote, host, now)
     }
 
-    /// Notes that a host sent to a remote.
+    /// Records that a host sent to a remote.
     fn note(&mut self, remote: Remote, host: u32, now: u64) -> Result<(), AllocError> {
         let mut sent = SentCounts {
             at: now,
@@ -147,7 +147,7 @@ impl Remotes {
         Ok(())
     }
 
-    /// Forgets the remotes to which nothing was sent for a minute, once there are twice as many as after the last time.
+    /// Removes the remotes to which nothing was sent for a minute, once their number has doubled.
     fn remove_stale(&mut self, now: u64) {
         if self.sent.len() < self.full {
             return;
@@ -157,13 +157,13 @@ impl Remotes {
         self.full = self.sent.len().saturating_mul(2).max(FEW);
     }
 
-    /// Returns what was sent to a remote, if a packet was sent to it within the minute before.
+    /// Returns the packets sent to a remote, if one was sent to it within the minute before.
     fn recently_sent(&self, remote: Remote, now: u64) -> Option<SentCounts> {
         let sent = self.sent.get(&remote).copied()?;
         (now.saturating_sub(sent.at) <= JUST_BEFORE).then_some(sent)
     }
 
-    /// Counts a packet from outside, which is an answer if a packet left for its remote just before.
+    /// Counts a packet from outside, as an answer if a packet left for its remote just before.
     fn count_from_outside(&mut self, passing: RunPacket<'_>, outcome: &Outcome) {
         let input = passing.input;
         let (bytes, now) = (&input.bytes, input.clock);
@@ -180,7 +180,7 @@ impl Remotes {
         }
     }
 
-    /// Counts a packet from a remote to which this was sent just before.
+    /// Counts a packet from a remote to which these packets were sent just before.
     fn answer(
         &mut self,
         passing: RunPacket<'_>,
@@ -207,8 +207,7 @@ impl Remotes {
         }
     }
 
-    /// Returns whether a packet of the binding with a number went to a remote, or this is not
-    /// known.
+    /// Returns whether a packet of the binding with a number went to a remote, or may have.
     fn has_sent(&self, number: Option<u64>, remote: Remote) -> bool {
         match number.and_then(|number| self.of_bindings.get(&number)) {
             Some(remotes) => remotes.len() >= MOST || remotes.contains(&remote),

@@ -20,12 +20,12 @@ const FROM_POOL: &str =
 #[derive(Clone, Copy)]
 pub struct Replies<'a> {
     config: &'a Config,
-    /// For each input, the inside endpoint that was its destination if it is a valid reply.
+    /// The inside endpoint that was the destination of each input, if the input is a valid reply.
     ends: &'a [Option<Endpoint>],
 }
 
-/// Returns the inside endpoint to which each input is sent, if it comes from outside and is a valid packet. Bytes after
-/// the packet's end are cut off, as they are when it follows the run.
+/// Returns the inside endpoint to which each input is sent, if it comes from outside and is a valid
+/// packet. Bytes after the packet's end are removed, as they are when it follows the run.
 pub fn inside_endpoints_of(
     alloc: Global,
     inputs: &mut [Input],
@@ -56,7 +56,7 @@ fn inside_endpoint_of(alloc: Global, input: &mut Input) -> Option<Endpoint> {
 }
 
 impl<'a> Replies<'a> {
-    /// Returns the replies of a run under a configuration, with their inside endpoints, if the capture has replies.
+    /// Returns the replies of a run under a configuration, with their inside endpoints, if any.
     pub fn new(
         outside: OutsideCapture,
         config: &'a Config,
@@ -65,14 +65,14 @@ impl<'a> Replies<'a> {
         outside.follows().then_some(Replies { config, ends })
     }
 
-    /// Returns the inside endpoint to which the packet with this number, from 1, was sent, if it is a valid reply.
+    /// Returns the inside endpoint of the packet with this number, from 1, if it is a valid reply.
     pub fn inside_endpoint_at(self, number: u64) -> Option<Endpoint> {
         let at = usize::try_from(number.checked_sub(1)?).ok()?;
         *self.ends.get(at)?
     }
 
-    /// Appends why the reply with these bytes, which was sent to this inside endpoint, was dropped. Returns whether
-    /// there is a text for this cause.
+    /// Appends why the reply with these bytes, which was sent to this inside endpoint, was dropped.
+    /// Returns whether there is a text for this cause.
     pub fn add_loss(
         self,
         text: &mut String,

@@ -12,7 +12,7 @@ use napt_wire::Cause;
 use std::alloc::{AllocError, Global};
 use std::fmt::Write;
 
-/// Runs under two configurations over the same packets, and how many packets had different outcomes so far.
+/// Runs under two configurations over the same packets, and the number of different outcomes.
 #[derive(Drop)]
 pub struct RunComparison<'a> {
     choice: PacketSelection,
@@ -46,7 +46,7 @@ impl<'a> RunComparison<'a> {
         })
     }
 
-    /// Passes the inputs through both runs. Those from outside follow each run separately if they are replies.
+    /// Passes the inputs through both runs. Replies follow each run separately.
     pub fn follow<R: Print + AllocGlobal>(
         &mut self,
         rt: &R,
@@ -68,8 +68,8 @@ impl<'a> RunComparison<'a> {
         Ok(())
     }
 
-    /// Passes the next packet through each run, as that run receives it, and prints its line if the outcomes differ and
-    /// it is selected.
+    /// Passes the next packet through each run, as that run receives it, and prints its line if the
+    /// outcomes differ and it is selected.
     fn take_both<R: Print + AllocGlobal>(
         &mut self,
         rt: &R,
@@ -93,8 +93,8 @@ impl<'a> RunComparison<'a> {
         pair.print(rt, self.choice)
     }
 
-    /// Prints the warnings and the counts of both runs; `names` are the paths of their configurations. Fails with
-    /// `Differences` if the outcomes of any packet, selected or not, differ.
+    /// Prints the warnings and the counts of both runs; `names` are the paths of their
+    /// configurations. Fails with `Differences` if the outcomes of any packet, selected or not, differ.
     pub fn print<R: Print + Eprint>(
         &self,
         rt: &R,
@@ -130,7 +130,7 @@ impl<R: Print + AllocGlobal> PacketConsumer<R> for RunComparison<'_> {
     }
 }
 
-/// Prints for each cause how many packets were dropped for it under each configuration, if any were.
+/// Prints for each cause the number of packets dropped under each configuration, unless both are 0.
 fn print_drops<R: Print>(
     rt: &R,
     first: &OutcomeCounts,
@@ -184,7 +184,7 @@ impl<'a> OutcomePair<'a> {
         matches!(self.first, Outcome::Dropped(_)) || matches!(self.second, Outcome::Dropped(_))
     }
 
-    /// Returns the line of the packet, with its outcome under the first and the second configuration.
+    /// Returns the line of the packet, with its outcome under each configuration.
     fn text(self, alloc: Global) -> Result<String, AllocError> {
         let input = self.input;
         let mut text = String::new(alloc);

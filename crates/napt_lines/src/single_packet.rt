@@ -12,7 +12,7 @@ use napt_program::Stop;
 use std::alloc::AllocError;
 use std::fmt::Write;
 
-/// A binding that the packet used: its number in the log, from 1, and its entry once the binding has ended.
+/// A binding that the packet used: its number in the log, from 1, and its entry once it has ended.
 #[derive(Clone, Copy)]
 struct UsedBinding {
     number: u64,
@@ -27,7 +27,7 @@ impl UsedBinding {
         }
     }
 
-    /// Takes the binding's entry, if it is among these.
+    /// Records the binding's entry, if it is among these.
     fn take(&mut self, listed: &[LogEntry]) {
         if let Some(found) = listed.iter().find(|listed| listed.number == self.number) {
             self.entry = Some(found.entry);
@@ -35,7 +35,7 @@ impl UsedBinding {
     }
 }
 
-/// The packet of which alone the line is printed.
+/// The one packet whose line is printed.
 #[derive(Clone, Copy)]
 pub struct SinglePacket<'a> {
     /// The number of the packet, from 1.
@@ -69,7 +69,7 @@ impl<'a> SinglePacket<'a> {
         }
     }
 
-    /// Takes the entries of the packet's bindings, if they are among these.
+    /// Records the entries of the packet's bindings, if they are among these.
     fn take_entries(&mut self, listed: &[LogEntry]) {
         if let Some(used) = &mut self.out {
             used.take(listed);
@@ -81,7 +81,7 @@ impl<'a> SinglePacket<'a> {
 }
 
 impl<R: Print + Eprint + AllocGlobal> CommandOutput<R> for SinglePacket<'_> {
-    /// Takes the next packet. If it is the one to print, its line is appended if it meets the other conditions.
+    /// Processes the next packet. Appends its line if it is the one and meets the other conditions.
     fn take(
         &mut self,
         rt: &R,
@@ -117,7 +117,7 @@ impl<R: Print + Eprint + AllocGlobal> CommandOutput<R> for SinglePacket<'_> {
         if !self.is_found {
             let (number, packets) = (self.number, ending.packets);
             let _ = eprintln!(rt;
-                "explain: --only {number}: the captures contain fewer packets: {packets}"
+                "explain: --only {number}: the captures contain {packets} packets"
             );
             return Err(Exit::Printed(Stop::Usage));
         }

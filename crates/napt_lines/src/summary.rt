@@ -15,7 +15,7 @@ use napt_wire::Cause;
 use std::alloc::AllocError;
 use std::fmt::Write;
 
-/// The advice if many packets from outside find no binding although inside packets left for their remotes.
+/// The advice if many packets from outside find no binding, but were requested from inside.
 const OTHER_NUMBERS: &str =
     "inside packets left for their remotes just before, so the captured gateway seems to have chosen other numbers or \
 addresses: give what inside hosts got as --replies";
@@ -46,8 +46,8 @@ impl<'a> PacketLines<'a> {
         !self.choice.dropped && has_party(&entry.binding, self.choice.host)
     }
 
-    /// Prints the bindings that are live at the last packet's time, with their ages; if a host or endpoint is selected,
-    /// only its bindings.
+    /// Prints the bindings that are live at the last packet's time, with their ages, or only the
+    /// bindings of the host or endpoint that is selected.
     fn print_bindings<R: Print + AllocGlobal>(
         &self,
         rt: &R,
@@ -69,7 +69,7 @@ impl<'a> PacketLines<'a> {
         Ok(())
     }
 
-    /// Appends the counts of outcomes, and advice if more than a fifth of the packets were dropped for one cause.
+    /// Appends the counts of outcomes, and advice if a cause dropped over a fifth of the packets.
     fn add_counts(&self, text: &mut String, ending: &EndedRun<'_>) -> Result<(), AllocError> {
         let counts = &self.counts;
         writeln!(text, "packets: {}", counts.packets())?;
@@ -102,8 +102,8 @@ impl<'a> PacketLines<'a> {
         Ok(())
     }
 
-    /// Appends advice if many packets were dropped for a cause. If they seem to be answers, it first says that the
-    /// captured gateway chose other numbers.
+    /// Appends advice if many packets were dropped for a cause. If they seem to be answers, the
+    /// advice first says that the captured gateway chose other numbers.
     fn add_advice(
         &self,
         text: &mut String,
@@ -130,8 +130,8 @@ impl<'a> PacketLines<'a> {
 }
 
 impl<R: Print + AllocGlobal> CommandOutput<R> for PacketLines<'_> {
-    /// Takes the next packet: appends its line if it is selected, after the lines of the bindings that have expired by
-    /// then.
+    /// Processes the next packet: appends the lines of the bindings that have expired by then, and
+    /// its own line if it is selected.
     fn take(
         &mut self,
         rt: &R,

@@ -6,7 +6,7 @@ use napt_account::{LogEntry, Party};
 use napt_config::Address;
 use std::alloc::{AllocError, Global};
 
-/// A selected host or endpoint without a packet and a binding so far; none if it has had one, or if none is selected.
+/// The selected host or endpoint, as long as it has no packet and no binding.
 #[derive(Clone, Copy)]
 pub struct UnmatchedSelection {
     host: Option<Party>,
@@ -20,7 +20,7 @@ impl UnmatchedSelection {
         unmatched
     }
 
-    /// Adds the next packet, and the bindings that it made.
+    /// Checks the next packet, and the bindings that it made.
     pub fn add_packet(
         &mut self,
         alloc: Global,
@@ -45,7 +45,7 @@ impl UnmatchedSelection {
         }
     }
 
-    /// Prints that the selected host or endpoint has no packet and no binding, if that is so.
+    /// Prints that the selected host or endpoint has no packet and no binding, if it has none.
     pub fn print<R: Eprint>(self, rt: &R) {
         let Some(host) = self.host else {
             return;
@@ -55,9 +55,7 @@ impl UnmatchedSelection {
             Some(number) => eprintln!(rt;
                 "explain: --host {address}:{number}: no packet or binding has this endpoint"
             ),
-            None => eprintln!(rt;
-                "explain: --host {address}: no packet or binding has this address"
-            ),
+            None => eprintln!(rt; "explain: --host {address}: no packet or binding matches"),
         };
     }
 }

@@ -42,7 +42,7 @@ next_month days year month is =
     (let d : Date = record { year = year; month = month; day = (month_length year month - 1) + 1 + 1 } in d)
     (first_after year month)) test)
 
--- The same, over the days of a span of which some are left.
+-- The steps are the same over the days of a span of which some remain.
 months_on : (begin days left long year month : ℕ) → long ≡ month_length year month → long ≤ left → left ≤ days →
     date_on (begin + (days - left)) ≡ first_of_month year month →
     date_on (begin + (days - (left - long))) ≡ first_after year month

@@ -19,7 +19,7 @@ module _ {X : Type 0} where
   added-append adds before (x ∷ xs) ys =
       grind (arith, common_steps, nat_tests, append_assoc, added-append adds (before ++ x ∷ []) xs ys)
 
-  -- If inputs add the same after other ones, their texts are the same.
+  -- If inputs add the same text after other inputs, their texts are the same.
   added_as : (adds others : List X → X → TimeText) (front also all : List X) →
       ((more : List X) (x : X) → adds (front ++ more) x ≡ others (also ++ more) x) →
       log_added adds front all ≡ log_added others also all

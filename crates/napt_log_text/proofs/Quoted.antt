@@ -1,4 +1,4 @@
--- A text between quotes, appended in three pieces whose ends the quotes are.
+-- A text between quotes is appended in three pieces: a quote, the text, and a quote.
 use Rattle.std.proofs.Common.{◌≡◌, ◌++◌, ℕ, List, codes, append_assoc}
 use Rattle.napt_log_text.specs.Objects.{quoted}
 

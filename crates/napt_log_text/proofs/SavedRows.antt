@@ -1,5 +1,5 @@
--- A row is split into its fields again, since no text in one has a comma, and a log into its rows, since none has a
--- line feed.
+-- A row is split into its fields again, since no field contains a comma, and a log into its rows, since no row contains
+-- a line feed.
 use Rattle.std.proofs.lemmas.{Grind.common_steps, Bool.Decides.nat_tests}
 use Rattle.std.proofs.Common.{ℕ, zero, suc, ◌≡◌, ◌≢◌, ◌<◌, ◌^◌, get_or, ◌==◌, ◌||◌, ◌/◌, ◌%◌, ◌∙◌, Bool, true, false, List, [], ◌∷◌, ◌++◌, codes, decimal, length, Option, Some, None, IfSome, refl, sym, ap, subst, append_assoc, append-nil, length-append, replicate, if◌then◌else◌, lit<, arith}
 use Rattle.std.{proofs.{BufReadLemmas.{take_through-append, drop_through-append}, Math.Seq.get_or-append_seam}, specs.Fmt.{digit_glyph, digits, digits_onto}}

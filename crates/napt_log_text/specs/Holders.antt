@@ -14,7 +14,7 @@ abbrev pub times_text : ℕ → ℕ → ℕ → TimeText
 times_text last made end =
     codes " from " ++ moment_text made ++ codes " until " ++ moment_text end ++ end_condition_text last end
 
--- A binding has no end if it is a redirect, or if a saved log is incomplete and does not have the end.
+-- A binding has no end if it is a redirect, or if a saved log is incomplete and does not contain the end.
 abbrev pub why_open : Bool → TimeText
 why_open true = codes " on, a redirect"
 why_open false = codes " on, with no end in the log"
@@ -24,7 +24,7 @@ abbrev pub open_text : Bool → ℕ → TimeText
 open_text fixed made = if fixed && (made == 0) then codes " always, a redirect"
     else codes " from " ++ moment_text made ++ why_open fixed
 
--- The times between which a binding had its endpoint.
+-- Returns the times between which a binding had its endpoint.
 abbrev pub span_text : ℕ → Bool → ℕ → Option ℕ → TimeText
 span_text last fixed made None = open_text fixed made
 span_text last fixed made (Some end) = times_text last made end
@@ -38,7 +38,7 @@ holder_text last entry =
 abbrev pub holder_line : ℕ → Entry → TimeText
 holder_line last entry = holder_text last entry ++ codes "\n"
 
--- The beginning of each line of a request that is one of several.
+-- Returns the beginning of each line of a request that is one of several.
 abbrev pub mark_text : ℕ → TimeText
 mark_text number = decimal number ++ codes ": "
 
@@ -55,31 +55,31 @@ abbrev pub protocol_text : Option Protocol → TimeText
 protocol_text None = []
 protocol_text (Some protocol) = protocol_name protocol ++ codes " "
 
--- Whether a span is one ns.
+-- Returns whether a span is one ns.
 abbrev pub is_single : TimeSpan → Bool
 is_single span = span.until - 1 == span.first
 
--- A single ns, or the two times of the span.
+-- Returns a single ns, or the two times of the span.
 abbrev pub asked_text : Option TimeSpan → TimeText
 asked_text None = []
 asked_text (Some span) = if is_single span then codes " at " ++ moment_text span.first
     else codes " from " ++ moment_text span.first ++ codes " until " ++ moment_text span.until
 
--- The distance of a holder's entry from a span, in ns, and the entry.
+-- Returns the distance of a holder's entry from a span, in ns, and the entry.
 abbrev pub near_text : ℕ → TimeText → ℕ → Entry → TimeText
 near_text apart words last entry = codes "; " ++ seconds_text apart ++ words ++ holder_text last entry
 
--- The last holder before a span, and how long before it the holder's binding had ended.
+-- Returns the last holder before a span, and how long before it the holder's binding had ended.
 abbrev pub before_text : TimeSpan → ℕ → Option Entry → TimeText
 before_text span last None = []
 before_text span last (Some entry) =
     near_text (span.first - unwrap_or entry.end 0) (codes " s before: ") last entry
 
--- The last time in the text of a span.
+-- Returns the last time in the text of a span.
 abbrev pub shown_last : TimeSpan → ℕ
 shown_last span = if is_single span then span.first else span.until
 
--- The first holder after a span, and how long after it the holder's binding was made.
+-- Returns the first holder after a span, and how long after it the holder's binding was made.
 abbrev pub after_text : TimeSpan → ℕ → Option Entry → TimeText
 after_text span last None = []
 after_text span last (Some entry) = near_text (entry.made - shown_last span) (codes " s after: ") last entry
@@ -88,7 +88,7 @@ abbrev pub nearest_text : Option TimeSpan → ℕ → NearestEntries → TimeTex
 nearest_text None last nearest = []
 nearest_text (Some span) last nearest = before_text span last nearest.before ++ after_text span last nearest.after
 
--- Whether an address is known not to be in the pool; without a configuration none is.
+-- Returns whether an address is known not to be in the pool; without a configuration none is.
 abbrev pub is_foreign : Option Rules → ℕ → Bool
 is_foreign None address = false
 is_foreign (Some rules) address = not (is_some (pool_place rules address))

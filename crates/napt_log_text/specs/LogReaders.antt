@@ -1,4 +1,4 @@
--- A log that is read back: its header, and after it the rows of its events.
+-- A log that is read back consists of its header, followed by the rows of its events.
 use Rattle.std.specs.Prelude.{◌≡◌, Bool, if◌then◌else◌, List, [], ◌∷◌, ◌++◌, None, Result, Err, flat_map, map}
 use Rattle.napt_config.specs.Rules.{Rules}
 use Rattle.napt_rules.specs.Prelude.{Arrival, State}
@@ -9,14 +9,14 @@ use Rattle.napt_log_text.specs.{Logs.{LogOrigin, log_text}, Rows.{csv_row, csv_h
 abbrev pub part_events : LogDelta → List LogEvent
 part_events part = map Ended part.ended ++ (map Made part.made ++ map Refused part.refused)
 
--- The events of the inputs that come after the given ones, in order.
+-- Returns the events of the inputs that come after the given ones, in order.
 abbrev pub events_after : Rules → State → LogModel → List Arrival → List Arrival → List LogEvent
 events_after rules state log before [] = []
 events_after rules state log before (input ∷ inputs) =
     part_events (part_of rules state log before input) ++ events_after rules state log (before ++ input ∷ []) inputs
 
--- The events of the log of a run from a state: where its text begins there, the makings of what lived before; what is
--- told before the first input, and with the inputs; and where no run goes on, the bindings that are live at its end.
+-- Returns the events of the log of a run from a state: in a new text, those of the saved bindings; those before the
+-- first input, and with the inputs; and if no other run continues the log, the bindings that are live at its end.
 abbrev pub log_events : Rules → State → LogOrigin → Bool → List Arrival → List LogEvent
 log_events rules state origin goes_on inputs =
     (if origin.is_new then map Made origin.before.entries else [])
@@ -28,7 +28,7 @@ LogHasRows = (rules : Rules) (state : State) (origin : LogOrigin) (goes_on : Boo
     log_text rules state origin None goes_on inputs ≡ (if origin.is_new then csv_header else [])
     ++ flat_map (csv_row rules) (log_events rules state origin goes_on inputs)
 
--- The fact holds, unless a read failed.
+-- The fact is true, unless a read failed.
 abbrev pub LogUnlessUnread : {A : Type 0} → Result A LogFileFault → Type 0 → Type 0
 LogUnlessUnread (Err (Unread _)) fact = Unit {0}
 LogUnlessUnread _ fact = fact

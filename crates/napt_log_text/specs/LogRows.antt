@@ -12,7 +12,7 @@ is_comma byte = byte == 44
 abbrev pub fields_in : TimeText → List TimeText
 fields_in row = slice_split is_comma row
 
--- The numbers fit the types of the fields.
+-- A time fits its field, which has 128 bits.
 abbrev pub IsTimeField : Option ℕ → Type 0
 IsTimeField time = IfSome time (λ ns. ns < 2 ^ 128)
 
@@ -38,7 +38,7 @@ abbrev pub flag_number : Bool → ℕ
 flag_number true = 1
 flag_number false = 0
 
--- The values in the row of a binding, without its counts and its last use.
+-- Returns the values in the row of a binding, without its counts and its last use.
 abbrev pub binding_row : Option ℕ → Option ℕ → LogEntry → LogRow
 binding_row time event listed = record {
   time = number_field time;
@@ -50,7 +50,7 @@ binding_row time event listed = record {
   redirect = Number (flag_number listed.entry.binding.fixed);
 }
 
--- The values in the row of a packet that got no binding, without its host.
+-- Returns the values in the row of a packet that got no binding, without its host.
 abbrev pub refusal_row : Shortage → LogRow
 refusal_row shortage = record {
   time = Number shortage.at;

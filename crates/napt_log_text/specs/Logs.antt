@@ -1,6 +1,6 @@
 -- The text of the log of a run, as it grows while packets come. It begins with a row for each live binding. Each input
--- adds the bindings that ended before it, those that it made, and itself if it got no binding. At the end come the live
--- bindings. A row has the counts and the last use up to its event.
+-- adds the bindings that ended before it, the bindings that it made, and itself if it got no binding. The live bindings
+-- come last. A row contains the counts and the last use up to its event.
 use Rattle.std.specs.Prelude.{◌≡◌, ℕ, ◌*◌, ◌/◌, ◌^◌, nat_lt, max, Bool, true, false, if◌then◌else◌, List, [], ◌∷◌, ◌++◌, flat_map, Option, Some, None}
 use Rattle.napt_config.specs.Rules.{Rules, RulesInvariant}
 use Rattle.napt_rules.specs.Prelude.{Arrival, IsStateInOrder, State, TakesState, initial_state, last_clock, next_state, with_redirects}
@@ -21,32 +21,32 @@ living_rows rules living = flat_map (λ numbered. csv_row rules (Living numbered
 abbrev pub refused_rows : Rules → List Shortage → TimeText
 refused_rows rules refused = flat_map (λ shortage. csv_row rules (Refused shortage)) refused
 
--- The rows that an input adds.
+-- Returns the rows that an input adds.
 abbrev pub part_rows : Rules → LogDelta → TimeText
 part_rows rules part = ended_rows rules part.ended ++ (made_rows rules part.made ++ refused_rows rules part.refused)
 
--- The beginning of a log, or of a piece of one: the names of the fields, and a row for each binding that is live there.
+-- Returns the beginning of a log or of a piece: the names of the fields, and a row for each binding that is live there.
 abbrev pub opening_text : Rules → LogModel → TimeText
 opening_text rules log = csv_header ++ made_rows rules log.entries
 
--- What a log goes on from: the log as it was saved, the log with which the run begins, what is added before the first
--- input, and whether a new text begins there.
+-- The origin of a log: the log as it was saved, the log with which the run begins, the part that is added before the
+-- first input, and whether a new text begins there.
 pub record LogOrigin : Type 0 where
   pub before : LogModel
   pub log : LogModel
   pub told : LogDelta
   pub is_new : Bool
 
--- The entries that end there, and the new ones.
+-- Returns the part before the first input: the entries that end there, and the new entries.
 abbrev pub first_part : List LogEntry → List LogEntry → LogDelta
 first_part ended made = record { ended = ended; made = made; refused = [] }
 
--- A new text begins with the log as it was saved, as a piece does.
+-- Returns the beginning of the text. A new text begins with the log as it was saved, as a piece does.
 abbrev pub first_text : Rules → LogOrigin → TimeText
 first_text rules origin =
     (if origin.is_new then opening_text rules origin.before else []) ++ part_rows rules origin.told
 
--- Whether a piece of this many seconds begins at a time: the clock has passed a multiple of them since the last input.
+-- Returns whether a piece of this many seconds begins: the clock has passed a multiple of them since the last input.
 abbrev pub begins_piece : Option ℕ → Option ℕ → ℕ → Bool
 begins_piece (Some seconds) (Some last) now = nat_lt (last / (seconds * 10 ^ 9)) (now / (seconds * 10 ^ 9))
 begins_piece each last now = false
@@ -56,17 +56,17 @@ piece_opening rules each last now log = if begins_piece each last now then openi
 
 -- INPUT BY INPUT
 
--- The text of the inputs that come after the given ones, in order, by what each adds.
+-- Returns the text of the inputs that come after the given ones, in order, from the text that each adds.
 abbrev pub log_added : {X : Type 0} → (List X → X → TimeText) → List X → List X → TimeText
 log_added adds before [] = []
 log_added adds before (next ∷ more) = adds before next ++ log_added adds (before ++ next ∷ []) more
 
--- The clock after these inputs, if there are any.
+-- Returns the clock after these inputs, if there are any.
 abbrev pub clock_after : ℕ → List Arrival → Option ℕ
 clock_after clock [] = None
 clock_after clock (input ∷ inputs) = Some (last_clock clock (input ∷ inputs))
 
--- What an input adds after those before it, to a log in pieces of this many seconds, or in one piece.
+-- Returns the text that an input adds after the inputs before it, to a log in pieces of this many seconds, or in one.
 abbrev pub text_of : Rules → State → Option ℕ → LogModel → List Arrival → Arrival → TimeText
 text_of rules state each log before input = piece_opening rules each (clock_after state.clock before)
     (max (last_clock state.clock before) input.clock) (left_of rules state log before)
@@ -75,11 +75,11 @@ text_of rules state each log before input = piece_opening rules each (clock_afte
 unfoldable pub rows_from : Rules → State → Option ℕ → LogModel → List Arrival → TimeText
 rows_from rules state each log inputs = log_added (text_of rules state each log) [] inputs
 
--- The text of a run from a state, after these inputs.
+-- Returns the text of a run from a state, after these inputs.
 unfoldable pub log_so_far : Rules → State → LogOrigin → Option ℕ → List Arrival → TimeText
 log_so_far rules state origin each inputs = first_text rules origin ++ rows_from rules state each origin.log inputs
 
--- The text at the end of the run: if no other run goes on from there, it has rows of the live bindings.
+-- Returns the text at the end of the run: if no other run continues it, it has rows of the live bindings.
 unfoldable pub log_text : Rules → State → LogOrigin → Option ℕ → Bool → List Arrival → TimeText
 log_text rules state origin each goes_on inputs = log_so_far rules state origin each inputs
     ++ (if goes_on then [] else living_rows rules
@@ -88,14 +88,14 @@ log_text rules state origin each goes_on inputs = log_so_far rules state origin 
 abbrev pub empty_part : LogDelta
 empty_part = record { ended = []; made = []; refused = [] }
 
--- A new log of a configuration before any input.
+-- Returns a new log of a configuration before any input.
 abbrev pub log_anew : Rules → LogOrigin
 log_anew rules =
     let log : LogModel = begun_after 0 rules (initial_state rules) in
     let none : LogModel = record { made = 0; entries = []; shortages = [] } in
     record { before = none; log = log; told = first_part [] log.entries; is_new = true }
 
--- A log that goes on where a run left it.
+-- Returns the origin of a log that another run continues where a run left it.
 abbrev pub grown_log : Rules → State → LogOrigin → List Arrival → LogOrigin
 grown_log rules state origin inputs =
     let log : LogModel = left_of rules state origin.log inputs in
@@ -103,13 +103,13 @@ grown_log rules state origin inputs =
 
 -- LAWS
 
--- The log of a longer run begins with that of a shorter one.
+-- The log of a longer run begins with the log of a shorter one.
 abbrev pub LogGrows : Type 0
 LogGrows = (rules : Rules) (state : State) (origin : LogOrigin) (each : Option ℕ) (inputs more : List Arrival) →
     log_so_far rules state origin each (inputs ++ more)
     ≡ log_so_far rules state origin each inputs ++ log_added (text_of rules state each origin.log) inputs more
 
--- The texts of a run and of the one that goes on from a later state are that of the run over all inputs.
+-- The text of a run, and then that of the run that continues from its state, are the text of the run over all inputs.
 abbrev pub Join : Rules → State → State → LogOrigin → List Arrival → List Arrival → Type 0
 Join rules state later origin first rest = (goes_on : Bool) →
     log_text rules state origin None goes_on (first ++ rest)
@@ -127,7 +127,7 @@ SavedLogsJoin = (rules : Rules) → RulesInvariant rules → (state saved : Stat
     IsStateInOrder rules (next_state rules (with_redirects rules state) first) saved →
     Join rules (with_redirects rules state) (with_redirects rules saved) origin first rest
 
--- From where a piece begins the text is that of the run that goes on there with a new log.
+-- From the beginning of a piece, the text is that of a run that continues there with a new log.
 abbrev pub PiecesStandAlone : Type 0
 PiecesStandAlone = (rules : Rules) (state : State) (origin : LogOrigin) → IsNumbered origin.log → (each : Option ℕ)
     (first : List Arrival) (input : Arrival) (rest : List Arrival) →
@@ -137,7 +137,7 @@ PiecesStandAlone = (rules : Rules) (state : State) (origin : LogOrigin) → IsNu
     ≡ log_text rules state origin each true first ++ log_text rules (next_state rules state first)
     (record (grown_log rules state origin first) { is_new = true }) each goes_on (input ∷ rest)
 
--- BY THE EFFECTS, as the code writes it: from a log and a time, which is that of the last input if there was one
+-- BY THE EFFECTS, as the code writes it: from a log and a time, the time of the last input if there was one
 
 abbrev pub rows_by : Rules → Option ℕ → Option ℕ → ℕ → LogModel → List Trace → TimeText
 rows_by rules each last was log [] = []

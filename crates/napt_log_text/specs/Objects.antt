@@ -1,5 +1,5 @@
 -- The object of a packet of a run in JSON (RFC 8259), with the end of its line. Its members are always in this order,
--- and what does not apply is null.
+-- and a member that does not apply is null.
 --
 -- No text in it is escaped (RFC 8259, section 7), since each is a name that is listed here or in the report, or an
 -- address in dotted decimal: plain ASCII without a quote, a backslash or a control character.
@@ -27,17 +27,17 @@ boolean false = codes "false"
 unfoldable pub quoted : TimeText → TimeText
 quoted text = codes "\"" ++ text ++ codes "\""
 
--- A name and its value.
+-- Returns the member with a name and a value.
 abbrev pub json_member : TimeText → TimeText → TimeText
 json_member name value = codes "\"" ++ name ++ codes "\":" ++ value
 
--- Members with commas between them.
+-- Returns members with commas between them.
 abbrev pub members : List TimeText → TimeText
 members [] = []
 members (last ∷ []) = last
 members (first ∷ (next ∷ more)) = first ++ (codes "," ++ members (next ∷ more))
 
--- The same, and the end of their object.
+-- Returns members with commas between them, and the end of their object.
 abbrev pub closed : List TimeText → TimeText
 closed [] = codes "}"
 closed (last ∷ []) = last ++ codes "}"
@@ -48,14 +48,14 @@ object list = codes "{" ++ closed list
 
 -- ENDPOINTS
 
--- UDP and TCP have ports, echo messages have an identifier, and an ICMP error has no number of its own.
+-- UDP and TCP have ports, an echo message has an identifier, and an ICMP error has no number of its own.
 abbrev pub packet_numbers : Kind → PacketNumbers
 packet_numbers kinds.Udp = Ports
 packet_numbers (kinds.Tcp flags) = Ports
 packet_numbers kinds.Echo = Identifier
 packet_numbers (kinds.ErrorOf inner) = Absent
 
--- An ICMP error does not quote an error: of ICMP it quotes only echo messages (RFC 5508).
+-- An ICMP error does not quote an error: the only ICMP messages that it quotes are echo messages (RFC 5508).
 abbrev pub numbers_in : Protocol → PacketNumbers
 numbers_in protocols.Icmp = Identifier
 numbers_in protocols.Tcp = Ports
@@ -104,7 +104,7 @@ form_name forms.Request = codes "icmp-echo-request"
 form_name forms.Reply = codes "icmp-echo-reply"
 form_name forms.Error = codes "icmp-error"
 
--- The packet that an ICMP error quotes.
+-- Returns the packet that an ICMP error quotes.
 unfoldable pub quoted_object : Inner → TimeText
 quoted_object inner =
     object (json_member (codes "protocol") (quoted (protocol_name inner.protocol)) ∷ end_members (ends_in inner) ∷ [])
@@ -148,13 +148,13 @@ note_text Made = quoted (codes "made")
 note_text Found = quoted (codes "found")
 note_text Redirect = quoted (codes "redirect")
 
--- What a packet that left did to the first binding that it used.
+-- Returns the effect of a packet that left on the first binding that it used.
 abbrev pub binding_text : Outcome → LogNote → TimeText
 binding_text (ToOutside packet) note = note_text note
 binding_text (ToInside packet) note = note_text note
 binding_text (Dropped cause) note = null
 
--- Whether a packet came from the inside and goes back in (RFC 4787, REQ-9).
+-- Returns whether a packet came from the inside and goes back in (RFC 4787, REQ-9).
 abbrev pub is_hairpin : Side → Outcome → Bool
 is_hairpin Inside (ToInside packet) = true
 is_hairpin Inside (ToOutside packet) = false
@@ -170,17 +170,17 @@ fate_members side outcome note = members (
     ∷ json_member (codes "hairpin") (boolean (is_hairpin side outcome))
     ∷ [])
 
--- The packet of an input, if its bytes can be read as one.
+-- Returns the packet of an input, if its bytes can be read as one.
 abbrev pub arrival_member : Arrival → Option (List ℕ)
 arrival_member input = result_ok (reading input.side input.bytes)
 
--- The packet that leaves.
+-- Returns the packet that leaves.
 abbrev pub packet_sent : Outcome → Option (List ℕ)
 packet_sent (ToOutside packet) = Some packet
 packet_sent (ToInside packet) = Some packet
 packet_sent (Dropped cause) = None
 
--- The time in ns since 1970-01-01 UTC, and the packet as it arrived and as it leaves.
+-- Returns the object of a packet: its time in ns since 1970-01-01 UTC, and the packet as it arrived and as it leaves.
 unfoldable pub object_of : ℕ → Arrival → Outcome → LogNote → TimeText
 object_of number input outcome note = object (
     json_member (codes "number") (decimal number)

@@ -1,6 +1,6 @@
 -- The rows of the log as CSV (RFC 4180, but with only a line feed at the end of a line), in the terms of RFC 8158: one
--- for each event, and then one for each binding that is live at the end. No field has a comma, a quote or the end of a
--- line, so none is quoted.
+-- for each event, and then one for each binding that is live at the end. No field contains a comma, a quote or the end
+-- of a line, so no field is quoted.
 use Rattle.std.specs.Prelude.{ℕ, nat_lt, ◌||◌, Bool, true, false, List, [], ◌∷◌, ◌++◌, codes, decimal, Option, Some, None, if◌then◌else◌}
 use Rattle.napt_wire.specs.declared.{Cause.{Cause, TheVariants.OverQuota}, Endpoint.Endpoint, Protocol.{Protocol, TheVariants.{Icmp, Tcp, Udp}}}
 use Rattle.napt_config.specs.{Rules.{Rules, pair_of}, Text.address_text}
@@ -13,13 +13,13 @@ row_text [] = codes "\n"
 row_text (last ∷ []) = last ++ codes "\n"
 row_text (field ∷ (next ∷ more)) = field ++ codes "," ++ row_text (next ∷ more)
 
--- The fields with a comma after each.
+-- Returns the fields with a comma after each.
 abbrev pub before_more : List TimeText → TimeText
 before_more [] = []
 before_more (field ∷ []) = field ++ codes ","
 before_more (field ∷ (next ∷ more)) = field ++ codes "," ++ before_more (next ∷ more)
 
--- What does not apply is empty.
+-- Returns a number in decimal, or an empty text if there is none.
 abbrev pub number_if_any : Option ℕ → TimeText
 number_if_any None = []
 number_if_any (Some number) = decimal number
@@ -28,24 +28,24 @@ abbrev pub date_of_any : Option ℕ → TimeText
 date_of_any None = []
 date_of_any (Some time) = date_if_any time
 
--- A time in ns, and as a date in UTC.
+-- Returns the two fields of a time: in ns, and as a date in UTC.
 abbrev pub time_fields : Option ℕ → List TimeText
 time_fields time = number_if_any time ∷ date_of_any time ∷ []
 
 abbrev pub time_text : Option ℕ → TimeText
 time_text time = number_if_any time ++ codes "," ++ date_of_any time
 
--- NatEvent: 8, NAT44 BIB create; 9, NAT44 BIB delete; 12, NAT ports exhausted; 13, quota exceeded (RFC 8158).
+-- Returns the natEvent of a shortage (RFC 8158): 12, NAT ports exhausted, or 13, quota exceeded.
 abbrev pub shortage_number : Cause → ℕ
 shortage_number OverQuota = 13
 shortage_number _ = 12
 
--- NatQuotaExceededEvent: 3, maximum entries per user (RFC 8158).
+-- Returns the natQuotaExceededEvent of a shortage, if it has one: 3, maximum entries per user (RFC 8158).
 abbrev pub quota_text : Cause → TimeText
 quota_text OverQuota = codes "3"
 quota_text _ = []
 
--- ProtocolIdentifier (IANA).
+-- Returns the protocolIdentifier of a protocol (IANA).
 abbrev pub csv_protocol : Protocol → ℕ
 csv_protocol Icmp = 1
 csv_protocol Tcp = 6
@@ -58,11 +58,11 @@ abbrev pub csv_flag : Bool → TimeText
 csv_flag true = codes "1"
 csv_flag false = codes "0"
 
--- The time when a packet last went through a binding, if one did.
+-- Returns the time when a packet last went through a binding, if one did.
 abbrev pub last_use : Entry → Option ℕ
 last_use entry = if nat_lt 0 entry.sent || nat_lt 0 entry.received then Some entry.last else None
 
--- The fields of a binding from natEvent on. What comes after the run's last packet is not an event.
+-- Returns the fields of a binding from natEvent on. An end after the run's last packet is not an event.
 abbrev pub binding_fields : Option ℕ → Row → List TimeText
 binding_fields event binding =
     number_if_any event ∷ decimal (csv_protocol binding.protocol) ∷ endpoint_fields binding.inside
@@ -76,7 +76,7 @@ entry_fields listed =
 abbrev pub listed_fields : Option ℕ → LogEntry → List TimeText
 listed_fields event listed = binding_fields event listed.entry.binding ++ [] ∷ entry_fields listed
 
--- The fields of a packet that got no binding: its host has an external address nevertheless, but no number there.
+-- Returns the fields of a packet that got no binding: its host has an external address, but no number there.
 abbrev pub refusal_fields : Shortage → List TimeText
 refusal_fields shortage =
     decimal (shortage_number shortage.cause) ∷ decimal (csv_protocol shortage.protocol)
@@ -97,7 +97,7 @@ fields rules (Refused shortage) =
 unfoldable pub csv_row : Rules → LogEvent → TimeText
 csv_row rules event = row_text (fields rules event)
 
--- The first row: the names of the fields. Those in mixed case are IPFIX information elements (IANA).
+-- The first row contains the names of the fields. Names in mixed case are IPFIX information elements (IANA).
 abbrev pub names : List TimeText
 names =
     codes "observationTimeNanoseconds" ∷ codes "time" ∷ codes "natEvent" ∷ codes "protocolIdentifier"

@@ -5,7 +5,7 @@ use Rattle.napt_log_text.specs.{declared.date.Date.Date, Calendar.{date_on, date
 abbrev pub TimeText : Type 0
 TimeText = List ℕ
 
--- A number in decimal, padded with zeros up to a width.
+-- Returns a number in decimal, padded with zeros up to a width.
 unfoldable pub padded : ℕ → ℕ → TimeText
 padded width number = replicate (width - length (decimal number)) 48 ++ decimal number
 
@@ -15,13 +15,13 @@ ns_per_log_second = 1000000000
 unfoldable pub day_text : Date → TimeText
 day_text date = padded 4 date.year ++ codes "-" ++ padded 2 date.month ++ codes "-" ++ padded 2 date.day
 
--- The hours, minutes and seconds of the second of a day.
+-- Returns a second of the day as hours, minutes and seconds.
 unfoldable pub clock_text : ℕ → TimeText
 clock_text seconds =
     padded 2 (seconds / 3600) ++ codes ":" ++ padded 2 (seconds / 60 % 60) ++ codes ":" ++ padded 2 (seconds % 60)
 
--- The date and the time of day in UTC (RFC 3339, section 5.6), always with nine decimals, so that texts are ordered as
--- times.
+-- Returns the date and the time of day in UTC (RFC 3339, section 5.6), always with nine decimals, so that texts are
+-- ordered as times.
 unfoldable pub date_text : ℕ → TimeText
 date_text time =
     day_text (date_on (time / ns_per_log_second / 86400)) ++ codes "T"
@@ -42,6 +42,6 @@ seconds_text time = decimal (time / ns_per_log_second) ++ codes "." ++ padded 9 
 abbrev pub date_in_brackets : ℕ → TimeText
 date_in_brackets time = if has_date time then codes " (" ++ date_text time ++ codes ")" else []
 
--- A time in seconds, and its date.
+-- Returns a time in seconds, and its date.
 unfoldable pub moment_text : ℕ → TimeText
 moment_text time = seconds_text time ++ date_in_brackets time

@@ -10,9 +10,9 @@ use std::alloc::AllocError;
 #[derive(Clone, Copy, Debug, PartialEq, Eq)]
 pub struct Date {
     pub year: u32,
-    /// From 1, January.
+    /// The month, from 1 for January.
     pub month: u32,
-    /// From 1.
+    /// The day of the month, from 1.
     pub day: u32,
 }
 
@@ -27,7 +27,7 @@ impl Date {
         Date::from_year(year, days - days_before(year))
     }
 
-    /// Returns the day that is this number of days after January 1st of a year: few, since it goes from month to month.
+    /// Returns the day that is this number of days after January 1st of a year, month by month.
     fn from_year(year: u32, days: u32) -> Date
         requires { (year < 10000) × (days < 7000) }
         ensures { (begin : ℕ) → calendar.date_on begin ≡ calendar.first_of_month year 1 →

@@ -30,7 +30,7 @@ pub(crate) fn add_padded(text: &mut String, number: u32, width: usize) -> Result
     Ok(())
 }
 
-/// Appends an address, such as `10.0.0.2`. Fails only if memory is refused.
+/// Appends an address in host order, such as `10.0.0.2`. Fails only if memory is refused.
 pub fn add_address(text: &mut String, address: u32) -> Result<(), AllocError>
     ensures { OnOk result (string_bytes text.new ≡ string_bytes text.old ++ address_text address) }
 {

@@ -20,10 +20,10 @@ const PORTS_EXHAUSTED: u64 = 12;
 
 const QUOTA_EXCEEDED: u64 = 13;
 
-/// The rest of a row after natQuotaExceededEvent if there is no binding: the fields from `binding` on, all empty.
+/// The rest of a row without a binding, after natQuotaExceededEvent: all fields are empty.
 const NO_BINDING: &str = ",,,,,,\n";
 
-/// The first row of the log: the names of its fields.
+/// Returns the first row of the log: the names of its fields.
 pub fn header() -> &'static str
     ensures { result.now ≡ rows.csv_header }
 {
@@ -39,15 +39,15 @@ pub enum LogEvent {
     Made(LogEntry),
     /// A binding expired, at the end in its entry.
     Ended(LogEntry),
-    /// No event: a binding is live at the run's last packet, and ends as its entry says if no packet comes.
+    /// No event: a binding is live at the last packet. It ends as its entry says if none comes.
     Living(LogEntry),
     /// A packet got no binding.
     Refused(Shortage),
 }
 
 impl LogEvent {
-    /// Appends the row of the event. The configuration has the external address of a host that got no binding. Fails
-    /// only if memory is refused.
+    /// Appends the row of the event. The configuration contains the external address of a host that
+    /// got no binding. Fails only if memory is refused.
     #[tactic(auto, unfolding(crate::specs::Rows::csv_row))]
     pub fn add_row(&self, config: &Config, text: &mut String) -> Result<(), AllocError>
         ensures { OnOk result (string_bytes text.new ≡ string_bytes text.old

@@ -1,4 +1,4 @@
-//! The lines that say who had an external endpoint, and when (RFC 6888, section 4; RFC 6269, section 12).
+//! The lines about holders of external endpoints (RFC 6888, section 4; RFC 6269, section 12).
 ghost use Rattle.std.specs.Prelude.{◌≡◌, ◌++◌, OnOk, false, option_map, string_bytes};
 ghost use Rattle.napt_log_text.specs.Holders as holders;
 
@@ -11,8 +11,8 @@ use napt_records::protocol_name;
 use napt_wire::Protocol;
 use std::alloc::AllocError;
 
-/// Appends the line of a binding that had an endpoint. `last` is the time of the run's last packet, in ns: an end after
-/// it comes only if no packet does. Fails only if memory is refused.
+/// Appends the line of a binding that had an endpoint. `last` is the time of the run's last packet,
+/// in ns; a later end comes only if no packet does. Fails only if memory is refused.
 pub fn add_holder(entry: &Entry, last: u64, text: &mut String) -> Result<(), AllocError>
     ensures { OnOk result (string_bytes text.new
         ≡ string_bytes text.old ++ holders.holder_line last entry.now) }
@@ -22,8 +22,8 @@ pub fn add_holder(entry: &Entry, last: u64, text: &mut String) -> Result<(), All
     Ok(())
 }
 
-/// Appends the number of a request, with which each of its lines begins if there are several requests. Fails only if
-/// memory is refused.
+/// Appends the number of a request, with which each of its lines begins if there are several
+/// requests. Fails only if memory is refused.
 pub fn add_mark(number: u64, text: &mut String) -> Result<(), AllocError>
     ensures { OnOk result (string_bytes text.new
         ≡ string_bytes text.old ++ holders.mark_text number) }
@@ -106,9 +106,9 @@ fn end_condition(end: u128, last: u64) -> &'static str
     }
 }
 
-/// Appends the line that says that nobody had the endpoint, and who had it last before and first after. The
-/// configuration has the pool; without one no address is called foreign. `last` is the time of the run's last packet,
-/// in ns. Fails only if memory is refused.
+/// Appends the line that says that nobody had the endpoint, and who had it last before and first
+/// after. The configuration contains the pool; without one, no address is called foreign. `last` is
+/// the time of the run's last packet, in ns. Fails only if memory is refused.
 #[tactic(auto, unfolding(crate::specs::Holders::nobody_line))]
 pub fn add_nobody(
     request: &Request,
@@ -154,8 +154,8 @@ fn add_party(party: Party, text: &mut String) -> Result<(), AllocError>
     Ok(())
 }
 
-/// Appends that the address is not in the pool, or the time at which nobody had it, and who had it last before and
-/// first after.
+/// Appends that the address is not in the pool, or the time at which nobody had the endpoint, and
+/// who had it last before and first after.
 fn add_reason(
     request: &Request,
     nearest: &NearestEntries,

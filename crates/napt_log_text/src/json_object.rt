@@ -22,7 +22,7 @@ pub struct JsonObject<'a> {
     /// The packet as it arrived, or bytes that are not a packet.
     pub input: &'a Input,
     pub outcome: &'a Outcome,
-    /// What the packet did to the first binding that it used.
+    /// The effect of the packet on the first binding that it used.
     pub note: LogNote,
 }
 
@@ -44,7 +44,7 @@ enum PacketNumbers {
 }
 
 impl JsonObject<'_> {
-    /// Appends the object, on its own line. Its time is in ns since 1970-01-01 UTC. Fails only if memory is refused.
+    /// Appends the object and a line feed; its time is in ns. Fails only if memory is refused.
     pub fn add_to(&self, alloc: Global, text: &mut String) -> Result<(), AllocError>
         ensures { OnOk result (string_bytes text.new ≡ string_bytes text.old ++ objects.object_text
             self.now.number self.now.input.now self.now.outcome.now self.now.note) }
@@ -124,7 +124,7 @@ fn side_text(side: Side) -> &'static str
     }
 }
 
-/// Returns what a packet that left did to the first binding that it used.
+/// Returns the effect of a packet that left on the first binding that it used.
 #[tactic(auto, unfolding(crate::specs::Objects::quoted))]
 fn binding(outcome: &Outcome, note: LogNote) -> &'static str
     ensures { result.now ≡ objects.binding_text outcome.now note }
@@ -137,7 +137,7 @@ fn binding(outcome: &Outcome, note: LogNote) -> &'static str
     }
 }
 
-/// Returns the member that says whether a packet came from the inside and goes back in, with a comma before it.
+/// Returns the member that says whether a packet is a hairpin, with a comma before it.
 fn hairpin(side: Side, outcome: &Outcome) -> &'static str
     ensures { result.now ≡ codes ",\"hairpin\":"
         ++ objects.boolean (objects.is_hairpin side outcome.now) }
@@ -194,7 +194,7 @@ fn add_packet(packet: &Packet, text: &mut String) -> Result<(), AllocError>
     Ok(())
 }
 
-/// Appends the member with what an ICMP error is about, with a comma before it.
+/// Appends the member with the subject of an ICMP error, with a comma before it.
 fn add_about(kind: Kind, text: &mut String) -> Result<(), AllocError>
     ensures { OnOk result (string_bytes text.new ≡ string_bytes text.old
         ++ (codes ",\"about\":" ++ objects.about_text kind)) }
@@ -324,8 +324,8 @@ fn kind_text(packet: &Packet) -> &'static str
     }
 }
 
-/// Returns the type of an ICMP message: the first byte after the IP header (RFC 792), whose length is in units of four
-/// bytes (RFC 791, section 3.1).
+/// Returns the type of an ICMP message: the first byte after the IP header (RFC 792), whose length
+/// is in units of four bytes (RFC 791, section 3.1).
 fn icmp_type(bytes: &[u8]) -> u8
     ensures { result ≡ byte_at (transport_start 0 bytes.now) bytes.now }
 {

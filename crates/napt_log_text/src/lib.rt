@@ -1,5 +1,5 @@
-//! The texts of the log of a run: rows of CSV, and lines that say who had an endpoint; and an object in JSON for each
-//! packet. `specs/` defines each to its last character, and the functions here write exactly these.
+//! The texts of the log of a run: rows of CSV, lines that say who had an endpoint, and a JSON
+//! object for each packet. `specs/` defines every character that the functions write.
 #![tactic(auto)]
 
 mod date;

@@ -31,7 +31,7 @@ pub struct LogReader<R> {
 }
 
 impl<R: BufRead + Drop> LogReader<R> {
-    /// Reads the names of the fields.
+    /// Reads the header, the names of the fields. An error says why the log is refused.
     pub fn open(alloc: Global, reader: R) -> Result<LogReader<R>, LogFileFault>
         ensures { (rest : List ℕ) → R.remaining reader ≡ Some (rows.csv_header ++ rest) →
             logs.LogUnlessUnread result (IsOkAnd result (λ log. R.remaining log.reader ≡ Some rest)) }
@@ -52,7 +52,7 @@ impl<R: BufRead + Drop> LogReader<R> {
         }
     }
 
-    /// Returns the reader of a later piece of a log, before anything of it has been read.
+    /// Returns the reader of a later piece of a log, and reads nothing yet.
     pub fn for_piece(alloc: Global, reader: R) -> LogReader<R>
         ensures { R.remaining result.reader ≡ R.remaining reader }
     {
@@ -62,13 +62,13 @@ impl<R: BufRead + Drop> LogReader<R> {
         }
     }
 
-    /// Returns whether the line that was read last has the names of the fields, with which a piece
-    /// may begin.
+    /// Returns whether the line that was read last is the header, with which a piece may
+    /// begin.
     pub fn is_at_header(&self) -> bool {
         self.line.as_str() == header()
     }
 
-    /// Reads the next row, or returns `None` at the end. If the line is not a row, the error says what was expected.
+    /// Reads the next row, or returns `None` at the end. An error says what was expected.
     pub fn next(&mut self) -> Result<Option<LogRow>, LogFileFault>
         ensures row { (rules : Rules) (event : Told) (rest : List ℕ) → saved.IsEvent event →
             R.remaining self.old.reader ≡ Some (rows.csv_row rules event ++ rest) →
@@ -98,8 +98,8 @@ impl<R: BufRead + Drop> LogReader<R> {
     }
 }
 
-/// A log that is begun has its header, and each has the rows of its events, so that [`LogReader`] reads these events, in
-/// order. The run may go on from a state.
+/// Proves that a new log begins with its header, and that any log contains the rows of its events,
+/// so that [`LogReader`] reads these events, in order. The run may continue from a state.
 #[tactic(auto, using(crate::proofs::SavedLogs::has_rows))]
 pub fn log_has_rows()
     ensures { logs.LogHasRows }

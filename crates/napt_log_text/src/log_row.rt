@@ -28,12 +28,12 @@ pub enum LogField {
 pub struct LogRow {
     /// The time, in ns.
     pub time: LogField,
-    /// natEvent (RFC 8158): 8, a binding was made; 9, one ended; 12 and 13, a packet got none; empty, a binding is live
-    /// at the end of the log, and ends at the time of the row if no packet comes.
+    /// natEvent (RFC 8158): 8, a binding was made; 9, one ended; 12 and 13, a packet got none;
+    /// empty, a binding is live at the end of the log, and ends at this time if no packet comes.
     pub event: LogField,
     /// The number of the protocol (IANA).
     pub protocol: LogField,
-    /// `None` also if the row has only an address.
+    /// The inside endpoint, or `None` if the row has no number for it.
     pub inside: Option<Endpoint>,
     pub external: Option<Endpoint>,
     /// The number of the binding, from 1.
@@ -43,7 +43,7 @@ pub struct LogRow {
 }
 
 impl LogRow {
-    /// Reads a row without the line feed at its end. Returns `None` if it does not have the number of fields of a row.
+    /// Reads a row without its line feed. Returns `None` if the number of fields is wrong.
     pub fn read(row: &str) -> Option<LogRow>
         ensures { (rules : Rules) (event : Told) → saved.IsEvent event →
             rows.csv_row rules event ≡ row.now ++ codes "\n" →
@@ -57,7 +57,8 @@ impl LogRow {
         }
     }
 
-    /// Returns the values of the fields in the order of [`header`](crate::header), up to the redirect, and the fields after it.
+    /// Returns the values of the fields up to the redirect, in the order of
+    /// [`header`](crate::header), and the text of the fields after it.
     fn from_fields(row: &str) -> (LogRow, &str)
         ensures binding { (time event : Option ℕ) (listed : Logged) →
             saved.IsTimeField time → saved.IsTimeField event → saved.IsEntryField listed →
@@ -93,7 +94,7 @@ impl LogRow {
         (read, row)
     }
 
-    /// Returns the binding of a row. If there is none, the error says what was expected, and in which field.
+    /// Returns the binding of a row. The error names an invalid field, and the expected value.
     pub fn binding(&self) -> Result<Row, &'static str>
         ensures { (time event : Option ℕ) (listed : Logged) →
             self.now ≡ saved.binding_row time event listed → result ≡ Ok listed.entry.binding }
@@ -130,7 +131,7 @@ fn field_count(row: &str) -> usize
     row.split(',').count()
 }
 
-/// Returns the first field of a row, and the text of the fields after it, which is empty if there are none.
+/// Returns the first field of a row, and the text of the fields after it, which may be empty.
 fn first_field(row: &str) -> (&str, &str)
     ensures { (field next : List ℕ) (others : List (List ℕ)) →
         saved.fields_in row.now ≡ field ∷ next ∷ others →

@@ -11,8 +11,8 @@ use std::num::NonZeroU32;
 
 const NANOSECONDS_A_SECOND: u64 = 1_000_000_000;
 
-/// Appends the beginning of a log, or of a piece of one: the names of its fields, and a row for each entry that has not
-/// ended. Fails only if memory is refused.
+/// Appends the beginning of a log, or of a piece of one: the names of its fields, and a row for
+/// each entry that has not ended. Fails only if memory is refused.
 pub fn add_opening(config: &Config, log: &OpenLog, text: &mut String) -> Result<(), AllocError>
     ensures { OnOk result (string_bytes text.new ≡ string_bytes text.old
         ++ logs.opening_text config.now log.now) }
@@ -21,7 +21,7 @@ pub fn add_opening(config: &Config, log: &OpenLog, text: &mut String) -> Result<
     add_made(config, &log.entries, text)
 }
 
-/// Appends the rows of entries that end, and of new ones, before the first input. Fails only if memory is refused.
+/// Appends the rows of ended and new entries before any input. Fails only if memory is refused.
 pub fn add_first(
     config: &Config,
     ended: &[LogEntry],
@@ -61,7 +61,7 @@ pub fn begins_piece(each: Option<NonZeroU32>, last: Option<u64>, now: u64) -> bo
     last / length < now / length
 }
 
-/// Appends the end of a log: a row without an event for each live binding. Fails only if memory is refused.
+/// Appends the final row of each live binding, without an event. Fails only if memory is refused.
 pub fn add_living(config: &Config, living: &[LogEntry], text: &mut String) -> Result<(), AllocError>
     ensures { OnOk result (string_bytes text.new ≡ string_bytes text.old
         ++ logs.living_rows config.now living.now) }
@@ -72,14 +72,14 @@ pub fn add_living(config: &Config, living: &[LogEntry], text: &mut String) -> Re
     Ok(())
 }
 
-/// The log of a longer run begins with that of a shorter one, so no row ever has to be changed.
+/// Proves that the log of a longer run begins with that of a shorter one, so that no row changes.
 pub fn log_grows()
     ensures { logs.LogGrows }
 {}
 
-/// The log of a run without its rows of live bindings, followed by the log of the run that goes on from there, is the
-/// log of the run over all inputs. The same holds if the state was saved and taken up. From where a piece begins, the
-/// log is that of the run that goes on there with a new log.
+/// Proves that the log of a run without its rows of live bindings, followed by the log of the run
+/// that continues from there, also from a saved state, is the log of the run over all inputs. From
+/// the beginning of a piece, the log is that of a run that continues with a new log.
 pub fn logs_join()
     ensures join { logs.LogsJoin }
     ensures saved { logs.SavedLogsJoin }
@@ -88,7 +88,7 @@ pub fn logs_join()
     logs_go_on();
 }
 
-/// The rows that follow from the effects of a run's inputs are those of its log.
+/// Proves that the rows that follow from the effects of a run's inputs are those of its log.
 pub fn effects_have_the_rows()
     ensures { logs.EffectsHaveTheRows }
 {

@@ -11,7 +11,7 @@ const SECOND: u64 = 1_000_000_000;
 
 const MINUTES: u32 = 60;
 
-/// The first time of the year 10000, from which on a year has more than the four digits of RFC 3339.
+/// The first time of the year 10000, in ns. RFC 3339 has years of four digits.
 const UNDATED: u128 = 253_402_300_800_000_000_000;
 
 /// A time, in ns since 1970-01-01 UTC.
@@ -29,7 +29,7 @@ impl TimeStamp {
         }
     }
 
-    /// Returns the ns after the last whole second.
+    /// Returns the number of ns after the last whole second.
     fn subsec_nanos(self) -> u32
         ensures { result ≡ self.0 % times.ns_per_log_second }
     {

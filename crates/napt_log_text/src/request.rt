@@ -1,4 +1,4 @@
-//! Requests to a log: who had an external endpoint, and when (RFC 6888, section 4; RFC 6269, section 12).
+//! Requests for the holders of external endpoints (RFC 6888, section 4; RFC 6269, section 12).
 ghost use Rattle.std.specs.Prelude.{◌≡◌, IfOk};
 ghost use Rattle.napt_log_text.specs.Requests as requests;
 
@@ -6,34 +6,34 @@ use napt_account::{Entry, Party};
 use napt_wire::Protocol;
 use std::alloc::{AllocError, Global};
 
-/// A span of time in ns since 1970-01-01 UTC: from its first moment until the first one after it.
+/// A span of time in ns since 1970-01-01 UTC. It contains `first`, and ends before `until`.
 #[derive(Clone, Copy, Debug, PartialEq, Eq)]
 pub struct TimeSpan {
     pub first: u128,
     pub until: u128,
 }
 
-/// Who had an external endpoint, or any endpoint of an external address?
+/// A request for the holders of an external endpoint, or of any endpoint of an external address.
 #[derive(Clone, Copy)]
 pub struct Request {
-    /// Any protocol if absent.
+    /// The protocol, or any protocol if absent.
     pub protocol: Option<Protocol>,
     pub party: Party,
-    /// At some moment of this span, or at any time if absent.
+    /// The span of time at some moment of which the endpoint was in use, or any time if absent.
     pub at: Option<TimeSpan>,
 }
 
-/// The entries of those who had the endpoint last before the span of a request, and first after it.
+/// The entries of the last holder of an endpoint before a span, and of the first holder after it.
 #[derive(Clone, Copy)]
 pub struct NearestEntries {
-    /// The entry that ended last; of several that ended then, the one that was made last.
+    /// The entry that ended last, or the one that was made last if several ended at the same time.
     pub before: Option<Entry>,
     /// The entry that was made first.
     pub after: Option<Entry>,
 }
 
 impl Request {
-    /// Returns the entries of a log that answer the request, in their order; `AllocError` if memory is refused.
+    /// Returns the entries that answer the request, in order. Fails only if memory is refused.
     pub fn holders_among(&self, alloc: Global, entries: &[Entry]) -> Result<Vec<Entry>, AllocError>
         ensures { IfOk result (λ found. found.items ≡ requests.holders self.now entries.now) }
     {
@@ -96,7 +96,7 @@ impl Request {
             }
     }
 
-    /// Returns the entry that ended last of those that had the endpoint and had ended before the span.
+    /// Returns the entry that ended last among the holders that had ended before the span.
     fn last_before(&self, entries: &[Entry]) -> Option<Entry>
         ensures { result ≡ requests.last_before self.now entries.now }
     {
@@ -105,7 +105,7 @@ impl Request {
             .fold(None, |last, entry| self.last_so_far(last, entry))
     }
 
-    /// Returns the same up to an entry.
+    /// Returns the last holder before the span among the entries up to this one.
     fn last_so_far(&self, last: Option<Entry>, entry: &Entry) -> Option<Entry>
         ensures { result ≡ requests.last_so_far self.now last entry.now }
     {

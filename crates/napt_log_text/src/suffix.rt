@@ -7,10 +7,10 @@ use std::alloc::AllocError;
 use std::marker::Model;
 use std::str;
 
-/// The capacity in bytes: an endpoint needs 21.
+/// The capacity in bytes. An endpoint needs 21.
 const ROOM: usize = 40;
 
-/// The end of an ASCII text, which grows to the front and takes no memory. Many numbers are then appended at once.
+/// The end of an ASCII text, which grows to the front and takes no memory from the heap.
 #[derive(Drop)]
 pub(crate) struct Suffix {
     bytes: [u8; ROOM],
@@ -37,7 +37,7 @@ impl Suffix {
         }
     }
 
-    /// Puts an ASCII byte in front.
+    /// Puts an ASCII byte before the suffix.
     pub(crate) fn push_byte(&mut self, byte: u8)
         requires { (byte < 128) × (length self.old < 40) }
         ensures { self.new ≡ byte ∷ self.old }
@@ -46,7 +46,7 @@ impl Suffix {
         self.bytes[self.start] = byte;
     }
 
-    /// Puts a number in front, in decimal.
+    /// Puts a number before the suffix, in decimal.
     pub(crate) fn push_number(&mut self, number: u16)
         requires { length self.old ≤ 35 }
         ensures text { self.new ≡ decimal number ++ self.old }
@@ -55,7 +55,7 @@ impl Suffix {
         self.start = write_digits(u64::from(number), &mut self.bytes, self.start);
     }
 
-    /// Puts an address in front.
+    /// Puts an address before the suffix, in dotted decimal.
     pub(crate) fn push_address(&mut self, address: u32)
         requires { length self.old ≤ 10 }
         ensures { self.new ≡ address_text address ++ self.old }

@@ -1,4 +1,4 @@
--- The text that is read of a configuration's file.
+-- The text that is read from a configuration's file is all of it, or too long.
 use Rattle.std.proofs.{lemmas.{Grind.common_steps, Bool.Decides.nat_tests}, Common.{◌≡◌, ◌≤◌, ◌+◌, ℕ, List, [], ◌++◌, length, take, arith}}
 use Rattle.std.{specs.Prelude.{Option, IfSome, option_map}, proofs.lemmas.List.{length-take, take_all}}
 

@@ -1,4 +1,4 @@
--- The meaning of a command line, from the answer of clap.
+-- The meaning of a command line follows from the answer of clap.
 use Rattle.std.{proofs.lemmas.{Grind.common_steps, Bool.Decides.nat_tests}, specs.Prelude.{◌≢◌, ℕ, IfOk, Option, Some, None, Result, codes}}
 use Rattle.std.proofs.Common.{◌≡◌, ◌≤◌, Bool, true, false, List, [], ◌∷◌, length, refl, sym, ap, inl, inr, arith}
 use Rattle.clap.specs.Words.{App, HasKind, HasMatchesOf, IsAmong, Kinds, Row, Text, fault_of, first_value, found_of, is_simple, is_simple_and_free, kind_of, rows_of}

@@ -1,4 +1,4 @@
--- The first option of which a condition holds, where the log comes after all others.
+-- The first option that meets a condition is an option before the log, or the log.
 use native.Mathlib.Omega.{arith}
 use Rattle.std.proofs.lemmas.{Grind.common_steps, Bool.Decides.nat_tests}
 use Rattle.std.proofs.Common.{◌≡◌, ◌&&◌, ◌||◌, ℕ, List, option_map, Bool, true, false, not, is_some, Option, Some, None, if◌then◌else◌}
@@ -6,7 +6,7 @@ use Rattle.napt_program.specs.{CommandLine.{CommandLineFiles, files_of, files_wi
 use Rattle.napt_program.specs.{Streams.closed_stream, declared.{options_with_log.OptionsWithLog.OptionsWithLog, role.FileRole.FileRole, streams.StandardStreams.StandardStreams}}
 use Rattle.napt_program.specs.declared.role.FileRole.TheVariants as role
 
--- The role of the first condition that holds, or `behind` if none does.
+-- Returns the role of the first condition that is true, or `behind` if none is.
 abbrev pub first_role : (a b c d e f : Bool) (j k l m n o : FileRole) → Option FileRole → Option FileRole
 first_role a b c d e f j k l m n o behind =
     if a then Some j
@@ -14,12 +14,12 @@ first_role a b c d e f j k l m n o behind =
     else (if c then Some l
     else (if d then Some m else (if e then Some n else (if f then Some o else behind)))))
 
--- If a condition holds, `behind` has no effect.
+-- If a condition is true, `behind` has no effect.
 pub first_kept : (a b c d e f : Bool) (j k l m n o found : FileRole) (behind : Option FileRole)
     → first_role a b c d e f j k l m n o None ≡ Some found → first_role a b c d e f j k l m n o behind ≡ Some found
 first_kept a b c d e f j k l m n o found behind is = grind (arith, common_steps, nat_tests)
 
--- If no condition holds, the result is `behind`.
+-- If no condition is true, the result is `behind`.
 pub first_behind : (a b c d e f : Bool) (j k l m n o : FileRole) (behind : Option FileRole)
     → first_role a b c d e f j k l m n o None ≡ None → first_role a b c d e f j k l m n o behind ≡ behind
 first_behind a b c d e f j k l m n o behind is = grind (arith, common_steps, nat_tests)

@@ -52,7 +52,7 @@ last_row_whole text none =
     ap (λ (l : List (List ℕ)). unwrap_or (last_or None l) text)
     (slice_split_none is_line_feed text (All-from_get_or IsOfRow text 0 (λ k inside. ne_eqb _ 10 (none k inside))))
 
--- What follows the last line feed is the last row.
+-- The bytes after the last line feed are the last row.
 pub last_row_behind : (text : List ℕ) (place : ℕ) → place < length text → get_or text place 0 ≡ 10
     → ((k : ℕ) → place + 1 ≤ k → k < length text → get_or text k 0 ≢ 10) → last_row text ≡ drop (place + 1) text
 last_row_behind text place inside here behind =

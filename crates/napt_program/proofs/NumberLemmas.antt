@@ -1,4 +1,4 @@
--- The numbers in texts, as `parse` reads them.
+-- `parse` reads the numbers in texts as the definition does.
 use Rattle.std.proofs.lemmas.{Grind.common_steps, Bool.{Decides.nat_tests}}
 use Rattle.std.proofs.lemmas.Fmt.{decimal-digits_value, decimal_is_IsNumeral, decimal_nonempty, first_decimal, parse-decimal}
 use Rattle.std.proofs.lemmas.Str.Parse.{IsNumeralModel, numerals_by_value, parse_digits, parse_plain, digit_at}

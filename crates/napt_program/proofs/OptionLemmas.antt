@@ -1,4 +1,4 @@
--- One more of the options that the command is to have.
+-- One more option is added to the command.
 use native.Mathlib.Omega.{arith}
 use Rattle.std.proofs.{lemmas.{Grind.common_steps, Bool.Decides.nat_tests}, Common.{◌≡◌, ◌<◌, ◌+◌, ℕ, List, map, drop, length, get_or, add-one, drop-cons}}
 use Rattle.clap.specs.Words.{App, Text, with_rule}

@@ -1,4 +1,4 @@
--- An output that is lost is one that is named.
+-- An output that is lost is named by an option.
 use native.Mathlib.Omega.{arith}
 use Rattle.std.proofs.{lemmas.{Grind.common_steps, Bool.Decides.nat_tests}, Common.{◌≡◌, ◌∙◌, sym, refl, true, is_some, List, ℕ}}
 use Rattle.std.specs.Prelude.{IfSome, Option, Some, None, option_map}

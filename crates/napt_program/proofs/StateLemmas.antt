@@ -5,7 +5,7 @@ use Rattle.napt_program.specs.{CommandLine.{files_of, files_with_log}, Command.I
 use Rattle.napt_program.specs.declared.{options.RunOptions.RunOptions, options_with_log.OptionsWithLog.OptionsWithLog, stop.Stop.Stop, streams.StandardStreams.StandardStreams}
 use Rattle.napt_state.specs.{StateContents.unless_for, declared.fault.StateReason.{StateReason, TheVariants.{Unread, Memory}}}
 
--- A text was not read if what would hold after reading it does not hold.
+-- A text was not read if a fact that reading it would imply is false.
 pub unread : (reason : StateReason) (fact : Type 0) (told : Bool) → (fact → ⊥) → unless_for reason fact
     → (unless_for reason ⊥ → told ≡ false) → told ≡ false
 unread (Unread error) fact told not is told_so = told_so is

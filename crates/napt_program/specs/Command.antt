@@ -1,4 +1,4 @@
--- The stops of a program: by its arguments, by what it opens, or by its run.
+-- The stops of a program: by its arguments, by the files that it opens, or by its run.
 use Rattle.std.specs.Prelude.{◌≡◌, ◌||◌, Bool, true, false, not, is_some, if◌then◌else◌}
 use Rattle.napt_program.specs.{CommandLine.{CommandLineFiles, CommandLineMeaning, files, help, mistake, version}, Standard.names_file, declared.role.FileRole.FileRole}
 use Rattle.napt_program.specs.declared.{stop.{Stop.Stop, TheConstants.MEMORY}, streams.StandardStreams.StandardStreams}
@@ -25,8 +25,8 @@ abbrev pub IsOfLog : CommandLineFiles → Fault → Type 0
 IsOfLog named (Write Log fault) = is_some named.log ≡ true
 IsOfLog named other = Unit {0}
 
--- The stop after a fault of a run over these files. The device in place of an outside capture that is not named has no
--- fault of its own, so memory was refused.
+-- Returns the stop after a fault of a run over these files. The device in place of an outside capture that is not named
+-- has no fault of its own, so memory was refused.
 abbrev pub stop_after : CommandLineFiles → Fault → Stop
 stop_after named (Capture Outside fault) = if is_some named.outside then stop.Run (Capture Outside fault) else MEMORY
 stop_after named fault = stop.Run fault
@@ -61,7 +61,7 @@ HelpIsRequested (fault.Help text) = Unit {0}
 HelpIsRequested (fault.Version text) = Unit {0}
 HelpIsRequested other = ⊥
 
--- The stop of the program if the command line does not request a run.
+-- This is the stop of the program if the command line does not request a run.
 abbrev pub IsLineAnswer : LineFault → Stop → Type 0
 IsLineAnswer (fault.Help text) s = s ≡ stop.Help
 IsLineAnswer (fault.Version text) s = s ≡ stop.Help
@@ -80,7 +80,7 @@ abbrev pub LineIsAccepted : CommandLineMeaning → Type 0
 LineIsAccepted mistake = ⊥
 LineIsAccepted other = Unit {0}
 
--- The stop is not that of a shut gate.
+-- The stop is not due to a shut gate.
 abbrev pub IsStopUnderOpenGate : Stop → Type 0
 IsStopUnderOpenGate (stop.Run fault) = is_shut_gate_fault fault ≡ false
 IsStopUnderOpenGate other = Unit {0}

@@ -8,12 +8,12 @@ use Rattle.napt_program.specs.declared.{options.{RunOptions.RunOptions, LineFaul
 use Rattle.napt_program.specs.declared.{options.LineFault.TheVariants.{Help, Version}, role.FileRole.FileRole}
 use Rattle.napt_program.specs.declared.role.FileRole.TheVariants as role
 
--- The option `--name FILE`: a plain option that takes one value, the name of a file or another text.
+-- Returns the option `--name FILE`: a plain option that takes one value, the name of a file or another text.
 abbrev pub file_option : Text → Rule
 file_option name =
     record (new_rule name) { long = Some name; action = Some Set; value_names = 1 }
 
--- The command with an option for each name.
+-- Returns the command with an option for each name.
 abbrev pub with_options : App → List Text → App
 with_options a [] = a
 with_options a (name ∷ more) = with_options (with_rule a (file_option name)) more
@@ -22,13 +22,13 @@ abbrev pub option_names : List Text
 option_names = codes "config" ∷ codes "resume" ∷ codes "inside" ∷ codes "outside" ∷ codes "to-outside"
     ∷ codes "to-inside" ∷ codes "report" ∷ codes "save" ∷ []
 
--- The program's command, with a version. clap adds `-h` and `--help`, `-V` and `--version` to it.
+-- The program's command has a version. clap adds `-h` and `--help`, `-V` and `--version` to it.
 abbrev pub napt_app : App
 napt_app =
     let bare : App = new_app (codes "napt") in
     with_options (record bare { top = record bare.top { has_version = true } }) option_names
 
--- The command of a program that has `--log` and `--log-each` too, or does not.
+-- Returns the command of a program, with `--log` and `--log-each` or without them.
 abbrev pub app_for : Bool → App
 app_for false = napt_app
 app_for true = with_options napt_app (codes "log" ∷ codes "log-each" ∷ [])
@@ -66,24 +66,24 @@ files_with_log o = record (files_of o.files) {
   log_each = option_map non_zero_u32_get o.log_each;
 }
 
--- The value of `--log`, if the program has that option.
+-- Returns the value of `--log`, if the program has that option.
 abbrev pub log_in : Bool → List Row → Option Text
 log_in false rows = None
 log_in true rows = first_of (codes "log") rows
 
--- The whole number below 2 ^ 32 that the text is in decimal digits, with or without a plus sign; 0 if it is none.
+-- Returns the whole number below 2 ^ 32 that a text is in decimal, with or without a plus sign, or 0 for another text.
 abbrev pub seconds_of : Text → ℕ
 seconds_of text =
     let digits = without_leading_plus text in
     let number = digits_value 10 digits in
     if (nat_lt 0 (length digits) && list_all is_ascii_digit digits) && nat_lt number (2 ^ 32) then number else 0
 
--- The value of `--log-each` in seconds, if the program has that option.
+-- Returns the value of `--log-each` in seconds, if the program has that option.
 abbrev pub seconds_in : Bool → List Row → Option ℕ
 seconds_in false rows = None
 seconds_in true rows = option_map seconds_of (first_of (codes "log-each") rows)
 
--- The values in clap's matches.
+-- Returns the values in clap's matches.
 abbrev pub files_in : Bool → List Row → CommandLineFiles
 files_in takes_log rows = record {
   config = first_of (codes "config") rows;
@@ -126,14 +126,14 @@ misuses_pieces (Some path) (Some seconds) = seconds == 0 || is_dash path
 abbrev pub is_misused : CommandLineFiles → Bool
 is_misused named = misuses_state named || misuses_pieces named.log named.log_each
 
--- Clap finds no fault in arguments that it accepts, and reports help and the version as faults of those kinds.
+-- Returns the meaning of a command line by clap's result, which reports help and the version as faults of those kinds.
 abbrev pub line_by : Kinds → CommandLineFiles → CommandLineMeaning
 line_by [] named = if is_misused named then mistake else files named
 line_by (DisplayHelp ∷ more) named = help
 line_by (DisplayVersion ∷ more) named = version
 line_by (other ∷ more) named = mistake
 
--- The meaning of a command line to a program with or without a log. The first argument is the program's name.
+-- Returns the meaning of a command line to a program with or without a log. The first argument is the program's name.
 unfoldable pub line_for : Bool → List Text → CommandLineMeaning
 line_for takes_log words =
     line_by (fault_of (app_for takes_log) words) (files_in takes_log (matches_of (app_for takes_log) words))
@@ -144,7 +144,7 @@ line_of_words words = line_for false words
 abbrev pub line_with_log : List Text → CommandLineMeaning
 line_with_log words = line_for true words
 
--- The name of the file's option, without its dashes.
+-- Returns the name of the file's option, without its dashes.
 abbrev pub role_name : FileRole → Text
 role_name role.Config = codes "config"
 role_name role.Resume = codes "resume"

@@ -9,15 +9,15 @@ use Rattle.napt_program.specs.declared.{devices.RunDevices.RunDevices, files.Run
 abbrev pub Bytes : Type 0
 Bytes = Option (List ℕ)
 
--- The bytes that reads of the device will return, from those of the reader in it.
+-- Returns the bytes that reads of the device will return, from those of the reader in it.
 abbrev pub device_bytes_left : {D A : Type 0} → (D → Bytes) → Watched (BufReader D A) → Bytes
 device_bytes_left remaining made = reader_remaining remaining (device_of made)
 
--- The bytes that were written to the device, from those of the writer in it.
+-- Returns the bytes that were written to the device, from those of the writer in it.
 abbrev pub bytes_written : {D A : Type 0} → (D → Bytes) → Watched (BufWriter D A) → Bytes
 bytes_written contents made = writer_contents contents (device_of made)
 
--- The bytes that were written to the device of a log, from those of the writer in it or of its pieces.
+-- Returns the bytes that were written to the device of a log, from those of the writer in it or of its pieces.
 abbrev pub log_written : {D P A : Type 0} → (D → Bytes) → (P → Bytes) → Watched (Either (BufWriter D A) P) → Bytes
 log_written contents pieces made = either (writer_contents contents) pieces (device_of made)
 

@@ -1,4 +1,4 @@
--- When two locations are of one file.
+-- The locations of files, and whether two of them are of one file.
 use Rattle.std.specs.{Prelude.{◌≡◌, ◌==◌, ◌&&◌, ℕ, Bool, false, List, Option, Some, bytes_eq, codes, if◌then◌else◌, length, option_map}, Fs.IsFile}
 use Rattle.std.specs.{Path.{path_file_name, path_parent}, declared.fs.attrs.FileType.FileType}
 use Rattle.napt_program.specs.declared.file_location.{FileId.FileId, FileLocation.{FileLocation, TheVariants.{Existing, New, PathOnly, Special}}}
@@ -20,13 +20,13 @@ IsOfPath path (New folder name) = path_file_name path ≡ Some name.now
 IsOfPath path (PathOnly words) = words.now ≡ path
 IsOfPath path Special = Unit {0}
 
--- Of what exists, a regular file has a location of its own, and all else is `Special`.
+-- A regular file that exists has a location of its own, and the location of any other kind is `Special`.
 abbrev pub IsOfKind : FileType → FileLocation → Type 0
 IsOfKind kind (Existing node) = IsFile kind
 IsOfKind kind (New folder name) = ⊥
 IsOfKind kind (PathOnly words) = Unit {0}
 IsOfKind kind Special = ¬ IsFile kind
 
--- The folder of a path, "." if the path is only a name.
+-- Returns the folder of a path, "." if the path is only a name.
 abbrev pub folder_of : List ℕ → Option (List ℕ)
 folder_of path = option_map (λ folder. if length folder == 0 then codes "." else folder) (path_parent path)

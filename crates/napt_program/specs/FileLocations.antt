@@ -36,7 +36,7 @@ is_save_lost p (Some save) =
     is_special_file save.file || is_special_file save.new || is_taken p save.file || is_taken p save.new
     || is_there save.new p.resume
 
--- The first output that is a file of an earlier option.
+-- Returns the first output that is a file of an earlier option.
 abbrev pub output_named_again : FileLocations → Option FileRole
 output_named_again p =
     if is_named_elsewhere p p.to_outside None None then Some role.ToOutside

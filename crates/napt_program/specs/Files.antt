@@ -18,14 +18,14 @@ AreOpen named files = (is_left files.inside ≡ is_standard named role.Inside)
 abbrev pub is_stream_log : {T F P : Type 0} → Either (Either T F) P → Bool
 is_stream_log device = either is_left (λ pieces. false) device
 
--- The same with a log, which is in pieces if they are requested.
+-- Exactly the named files are open, with the log, which is in pieces if they are requested.
 abbrev pub AreOpenWithLog : {S T F P : Type 0} → CommandLineFiles → FilesWithLog S T F P → Type 0
 AreOpenWithLog named opened =
     AreOpen named opened.files
     × (option_map (λ log. is_stream_log log.device) opened.log ≡ option_map is_dash named.log)
     × IfSome opened.log (λ log. is_left log.device ≡ not (has_pieces named))
 
--- The same of the captures alone.
+-- Exactly the named captures are open, and standard input for `-` and in place of an inside capture that is not named.
 abbrev pub AreInputsOpen : {S F : Type 0} → CommandLineFiles → InputFiles S F → Type 0
 AreInputsOpen named files = (is_left files.inside ≡ is_standard named role.Inside)
     × (option_map is_left files.outside ≡ option_map is_dash named.outside)
@@ -36,8 +36,8 @@ IsFileStop named (stop.File role) = names_file named role ≡ true
 IsFileStop named (stop.LogFile why) = names_file named role.Log ≡ true
 IsFileStop named other = ⊥
 
--- The same, or memory was refused to the reader of standard input for a capture, to the path of a state's new file, or
--- to the end of a log.
+-- The stop is a fault of a named file, or memory was refused to the reader of standard input for a capture, to the path
+-- of a state's new file, or to the end of a log.
 abbrev pub IsOpenStop : CommandLineFiles → Stop → Type 0
 IsOpenStop named s = ((s ≡ MEMORY)
     × ((is_standard named role.Inside || is_stream named role.Outside || names_file named role.Save

@@ -14,11 +14,11 @@ is_line_feed byte = byte == 10
 abbrev pub is_torn : List ℕ → Bool
 is_torn end = nat_lt (length end) MOST_TORN && not (list_any is_line_feed end)
 
--- The bytes after the last line feed.
+-- Returns the bytes after the last line feed.
 abbrev pub last_row : List ℕ → List ℕ
 last_row text = unwrap_or (last_or None (slice_split is_line_feed text)) text
 
--- FNV-1a, of 64 bits (the hash of Fowler, Noll and Vo): of each byte the exclusive or, and then the product.
+-- Returns the FNV-1a hash of a row (Fowler, Noll and Vo), of 64 bits: for each byte the exclusive or, then the product.
 abbrev pub row_hash : List ℕ → ℕ
 row_hash row = fold (λ hash byte. (bit_xor hash byte * 1099511628211) % 2 ^ 64) 14695981039346656037 row
 
@@ -28,12 +28,12 @@ is_last_row hash text =
     nat_lt 0 (length text) && (is_line_feed (slice_index text (length text - 1))
     && (row_hash (last_row (take (length text - 1) text)) == hash))
 
--- How many bytes before a place are looked at.
+-- Returns the number of bytes before a place that are looked at.
 abbrev pub bytes_before : ℕ → ℕ
 bytes_before place = min place MOST_TORN
 
--- Why a run must not append to a log, if so. The state says that the log ends at a length with a row. The list has the
--- log's bytes around that place: the row before it must be that one, and at most a partial row may follow it.
+-- Returns why a run must not append to a log, if it must not. The state records the length and the last row of the log.
+-- The list contains the bytes around that length: that row must be before it, and at most a partial row after it.
 abbrev pub refusal_at : LogEnd → List ℕ → Option LogRefusal
 refusal_at told text =
     let before : ℕ = bytes_before told.length in
@@ -41,7 +41,7 @@ refusal_at told text =
     else (if not (is_last_row told.row (take before text)) then Some (refusal.OtherLog told.length)
     else (if is_torn (drop before text) then None else Some (refusal.ExtraText told.length)))
 
--- The name of the piece with a number: the path of the log, a dot and the number.
+-- Returns the name of the piece with a number: the path of the log, a dot and the number.
 abbrev pub piece_name : List ℕ → ℕ → List ℕ
 piece_name log number = log ++ (codes "." ++ decimal number)
 
@@ -49,7 +49,7 @@ piece_name log number = log ++ (codes "." ++ decimal number)
 abbrev pub IsOfNoPiece : List ℕ → List ℕ → Type 0
 IsOfNoPiece log name = (number : ℕ) → 0 < number → number < 2 ^ 64 → name ≢ piece_name log number
 
--- The number of the piece that is being written.
+-- Returns the number of the piece that is being written.
 abbrev pub piece_of : {R F A : Type 0} → LogPieces R F A → ℕ
 piece_of pieces = pieces.number
 
@@ -57,7 +57,7 @@ piece_of pieces = pieces.number
 abbrev pub needs_new_piece : {R F A : Type 0} → LogPieces R F A → List ℕ → Bool
 needs_new_piece pieces bytes = pieces.has_text && starts_with nat_eq bytes csv_header
 
--- The bytes of the text that are kept are none, or as many as the log of the state has in one file.
+-- The number of bytes of the text that are retained is 0, or that of the log of the state in one file.
 abbrev pub LogTextIsKept : Option LogEnd → ℕ → Type 0
 LogTextIsKept None kept = kept ≡ 0
 LogTextIsKept (Some end) kept = (kept ≡ 0) ⊎ ((end.piece ≡ 0) × (end.length ≡ kept))

@@ -1,11 +1,11 @@
--- The options that are standard input or standard output, and the one whose stream another option already uses.
+-- The options that are standard input or output, and the first option whose stream another one already uses.
 use Rattle.std.specs.Prelude.{◌&&◌, ◌||◌, Bool, not, Option, Some, None, is_some, if◌then◌else◌}
 use Rattle.clap.specs.Words.{Text}
 use Rattle.napt_program.specs.{CommandLine.{CommandLineFiles, is_dash_given}, declared.role.FileRole.FileRole}
 pub use Rattle.napt_program.specs.CommandLine.{is_dash}
 use Rattle.napt_program.specs.declared.role.FileRole.TheVariants as role
 
--- The file that the option of a role names.
+-- Returns the file that the option of a role names.
 abbrev pub file_for : CommandLineFiles → FileRole → Option Text
 file_for named role.Config = named.config
 file_for named role.Resume = named.resume
@@ -37,7 +37,7 @@ is_log_again named =
     is_stream named role.Log && (is_stream named role.Report || is_stream named role.ToInside
     || is_standard named role.ToOutside)
 
--- The first output whose standard output is already in use. The log is the last.
+-- Returns the first output whose standard output is already in use. The log is the last.
 abbrev pub repeated_output : CommandLineFiles → Option FileRole
 repeated_output named =
     if is_stream named role.ToInside && is_standard named role.ToOutside then Some role.ToInside
@@ -45,8 +45,8 @@ repeated_output named =
     then Some role.Report
     else (if is_log_again named then Some role.Log else None))
 
--- The first option whose standard stream another one already uses. It is that of the configuration if the inside
--- capture is standard input by default.
+-- Returns the first option whose standard stream another one already uses. It is that of the configuration if the
+-- inside capture is standard input by default.
 abbrev pub repeated_stream : CommandLineFiles → Option FileRole
 repeated_stream named =
     if is_stream named role.Config && not (is_some named.inside) then Some role.Config

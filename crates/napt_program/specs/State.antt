@@ -18,8 +18,8 @@ IsNewRun it = (it.state ≡ record { clock = 0; list = [] }) × (it.saved ≡ no
 abbrev pub taken_start : ResumedState → TakenState
 taken_start it = record { state = it.state; log = it.saved; ended = it.ended }
 
--- It is what the text says, under the rules: the text of these contents, unless an earlier version wrote its log.
--- Misfits end if they are to.
+-- The state is that of the text under the rules: the text is that of these contents, unless an earlier version wrote
+-- its log. Misfits expire if that is requested.
 abbrev pub IsStateOf : Bool → Rules → List ℕ → ResumedState → Type 0
 IsStateOf ends rules text it = (told : StateFileModel) × IsReadAs text told
     × (taken_start it ≡ taken_of ends rules told) × (it.log ≡ log_end told.log)
@@ -36,7 +36,7 @@ is_bad_line (stop.State (refusal.Line number)) = true
 is_bad_line (stop.State (refusal.NotUtf8 number)) = true
 is_bad_line other = false
 
--- How a line is refused, by what is wrong with it.
+-- Returns the refusal of a line, by the mistake in it.
 abbrev pub line_refusal : StateReason → ℕ → StateRefusal
 line_refusal NotUtf8 number = refusal.NotUtf8 number
 line_refusal _ number = refusal.Line number

@@ -22,8 +22,8 @@ use Rattle.napt_config.specs.declared.ConfigFault.TheVariants as config
 abbrev pub Text : Type 0
 Text = List ℕ
 
--- The exit status: 2 for the command line, 3 for the configuration, 4 for a capture, 5 for the run or memory, 8 for a
--- state, and 6 for a file and other output.
+-- Returns the exit status: 2 for the command line, 3 for the configuration, 4 for a capture, 5 for the run or memory, 8
+-- for a state, and 6 for a file and other output.
 abbrev pub status_of_fault : Fault → ℕ
 status_of_fault (run.Capture side fault) = 4
 status_of_fault (run.Run fault) = 5
@@ -37,7 +37,7 @@ status_of (stop.Run fault) = status_of_fault fault
 status_of (stop.State refusal) = 8
 status_of _ = 6
 
--- The name of a fault of the configuration, in lower case with hyphens between its words.
+-- Returns the name of a fault of the configuration, in lower case with hyphens between its words.
 abbrev pub config_name : ConfigFault → Text
 config_name config.NotToml = codes "not-toml"
 config_name config.UnknownKey = codes "unknown-key"
@@ -64,7 +64,7 @@ config_name config.DoubleRedirect = codes "double-redirect"
 config_name config.TimerTooShort = codes "timer-too-short"
 config_name config.Memory = codes "memory"
 
--- The name of a fault of a capture, followed by the number of its record if it has one.
+-- Returns the name of a fault of a capture, followed by the number of its record if it has one.
 abbrev pub capture_name : CaptureFault → Text
 capture_name capture.NoHeader = codes "no-header"
 capture_name capture.BadMagic = codes "bad-magic"
@@ -88,7 +88,7 @@ run_name (refused.Pool pool.NoThread) = codes "no-thread"
 run_name (refused.Pool (pool.GateShut worker)) = codes "gate-shut " ++ decimal worker
 run_name (refused.Pool pool.Ring) = codes "ring"
 
--- The role of the file to which an output is written.
+-- Returns the role of the file to which an output is written.
 abbrev pub output_role : Which → FileRole
 output_role output.Outside = role.ToOutside
 output_role output.Inside = role.ToInside
@@ -114,7 +114,7 @@ state_name (state.Line line_number) = codes "bad-line " ++ decimal line_number
 state_name (state.NotUtf8 line_number) = codes "not-utf-8 " ++ decimal line_number
 state_name (state.Binding why) = misfit_name why
 
--- The fault line after the program's name.
+-- Returns the fault line after the program's name.
 abbrev pub stop_text : Stop → Text
 stop_text stop.Usage = codes "usage"
 stop_text stop.LineMemory = codes "run memory"
@@ -127,16 +127,16 @@ stop_text stop.Log = codes "write " ++ role_name role.Log
 stop_text (stop.State refusal) = codes "state " ++ state_name refusal
 stop_text stop.Save = codes "write " ++ role_name role.Save
 
--- The fault line of the program with this name, without its line feed.
+-- Returns the fault line of the program with this name, without its line feed.
 abbrev pub line_of : Text → Stop → Text
 line_of name s = name ++ codes ": " ++ stop_text s
 
--- The exit status of a program that succeeded or stopped.
+-- Returns the exit status of a program that succeeded or stopped.
 abbrev pub status_at_end : {A : Type 0} → Result A Stop → ℕ
 status_at_end (Ok done) = 0
 status_at_end (Err s) = status_of s
 
--- The line of the program on standard error, if that is open and the program stopped.
+-- Returns the line of the program on standard error, if that is open and the program stopped.
 abbrev pub line_at_end : {A : Type 0} → Text → Bool → Result A Stop → Option Text
 line_at_end name true (Err s) = Some (line_of name s)
 line_at_end _ _ _ = None

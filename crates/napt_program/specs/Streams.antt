@@ -3,7 +3,7 @@ use Rattle.std.specs.Prelude.{◌&&◌, not, Option, Some, None, if◌then◌els
 use Rattle.napt_program.specs.{CommandLine.CommandLineFiles, Standard.{is_standard, is_stream}, declared.{role.FileRole.FileRole, streams.StandardStreams.StandardStreams}}
 use Rattle.napt_program.specs.declared.role.FileRole.TheVariants as role
 
--- The role of the first output that needs standard output, if that is closed.
+-- Returns the role of the first output that needs standard output, if that is closed.
 abbrev pub closed_output : StandardStreams → CommandLineFiles → Option FileRole
 closed_output streams named =
     if not streams.output && is_standard named role.ToOutside then Some role.ToOutside
@@ -11,7 +11,7 @@ closed_output streams named =
     else (if not streams.output && is_stream named role.Report then Some role.Report
     else (if is_stream named role.Log && not streams.output then Some role.Log else None)))
 
--- The role of the first standard stream that is closed but needed: its option is `-`, or it replaces an absent one.
+-- Returns the role of the first standard stream that is closed but needed: its option is `-` or absent.
 abbrev pub closed_stream : StandardStreams → CommandLineFiles → Option FileRole
 closed_stream streams named =
     if not streams.input && is_stream named role.Config then Some role.Config

@@ -1,4 +1,4 @@
-//! How a program was called, and the messages that it prints at a terminal.
+//! The call of a program, and the messages that it prints at a terminal.
 
 ghost use Rattle.std.specs.{Prelude.{◌≡◌, ◌⊎◌, IfErr, OnOk}, Process.exit_status};
 ghost use Rattle.napt_program.specs.{Command.{HelpIsRequested, IsLineAnswer}, Stop.status_at_end};
@@ -33,8 +33,8 @@ pub fn answer_line(rt: &impl Print, fault: LineFault) -> Result<(), Stop>
     }
 }
 
-/// Prints on standard error that the log begins a new entry for each binding of the state, at the state's clock, in ns.
-/// Fails only if memory is refused.
+/// Prints on standard error that the log begins a new entry for each binding of the state, at the
+/// state's clock, in ns. Fails only if memory is refused.
 pub fn print_new_entries(
     rt: &impl Eprint,
     alloc: Global,
@@ -49,16 +49,16 @@ pub fn print_new_entries(
     Ok(())
 }
 
-/// Prints on standard error how many bindings of a state end at its start, if any do.
+/// Prints on standard error how many bindings of a state expire at the start, if any do.
 pub fn print_ended_bindings(rt: &impl Eprint, name: &str, ended: u64) {
     if ended > 0 {
         let _ = eprintln!(rt;
-            "{name}: bindings of the state that end at the start, since the configuration cannot keep them: {ended}"
+            "{name}: {ended} of the bindings of the state expire now: the configuration does not accept them"
         );
     }
 }
 
-/// How a program was called.
+/// The call of a program: its name, and the messages that it may print.
 #[derive(Clone, Copy, Debug)]
 pub struct ProgramCall {
     /// The name of the program.
@@ -69,7 +69,7 @@ pub struct ProgramCall {
     pub at_terminal: bool,
     /// Whether standard error gets more than the fault line: at a terminal, or with `--verbose`.
     pub is_verbose: bool,
-    /// Whether bindings of a state that the configuration cannot keep end: with `--end-misfits`.
+    /// Whether bindings of a state that the configuration refuses expire: with `--end-misfits`.
     pub ends_misfits: bool,
 }
 
@@ -147,8 +147,8 @@ impl ProgramCall {
         }
     }
 
-    /// Prints in a line after the fault line why the program stopped, if that is requested, or where help is. Why a run
-    /// must not append to a log is printed in any case.
+    /// Prints, in a line after the fault line, why the program stopped, if that is requested, or
+    /// how to get help. The reason why a run must not append to a log is printed in any case.
     fn print_reason(self, rt: &impl Eprint, stop: Stop, reason: &StopReason) {
         if !self.has_stderr {
             return;
@@ -162,8 +162,8 @@ impl ProgramCall {
         };
     }
 
-    /// Warns that the state has no accounts of its bindings, so that the log begins a new entry for each of them, at
-    /// the state's clock, in ns. Fails only if memory is refused.
+    /// Warns that the state has no accounts of its bindings, so that the log begins a new entry for
+    /// each of them, at the state's clock, in ns. Fails only if memory is refused.
     pub fn print_new_entries(
         self,
         rt: &impl Eprint,
@@ -176,7 +176,7 @@ impl ProgramCall {
         Ok(())
     }
 
-    /// Prints how many bindings of the state end at the start, if any do.
+    /// Prints how many bindings of the state expire at the start, if any do.
     pub fn print_ended_bindings(self, rt: &impl Eprint, ended: u64) {
         if self.has_stderr {
             print_ended_bindings(rt, self.name, ended);
@@ -234,7 +234,7 @@ impl ProgramCall {
         if is_cut {
             let (name, side) = (self.name, role.name());
             let _ = eprintln!(rt;
-                "{name}: the capture {side} is cut: its last packet is not whole, and is left out"
+                "{name}: the capture {side} is cut: its last packet is incomplete, and is ignored"
             );
         }
     }
@@ -267,7 +267,7 @@ impl fmt::Display for LogRefusal {
             ),
             LogRefusal::ExtraText(bytes) => write!(
                 f,
-                "goes on after the {bytes} bytes that the state records: cut it there (truncate -s {bytes}), or name a new file"
+                "continues after the {bytes} bytes that the state records: cut it there (truncate -s {bytes}), or name a new file"
             ),
         }
     }

@@ -57,9 +57,9 @@ pub struct RunResources<S, T: Write + Drop, F: Write + Drop, P> {
     pub config: Config,
     /// The state from which the run starts.
     pub state: State,
-    /// How many of its bindings end at the start, since the configuration cannot keep them.
+    /// The number of its bindings that expire at the start, since the configuration refuses them.
     pub ended: u64,
-    /// What the state keeps of its log, or nothing if there was no log.
+    /// The accounts of its log that the state contains, or none if there was no log.
     pub saved: SavedLogState,
     pub devices: RunDevices<S, T, F>,
     /// The log, if one is named.
@@ -71,9 +71,9 @@ pub struct RunResources<S, T: Write + Drop, F: Write + Drop, P> {
 /// Opens the files of the options, or the standard streams in their place: configuration, state,
 /// captures, outputs and log, each with a buffer, and last the new file of a state.
 ///
-/// Before that, fails with the role of a needed standard stream that is closed, or that another
-/// option uses; then if the configuration, of which the place is set, or the state is refused, or
-/// as `open_files` does. If `ends_misfits`, bindings that the configuration cannot keep end.
+/// Fails first with the role of a needed standard stream that is closed, or that another option
+/// uses; then if the configuration, whose place is set, or the state is refused; and then as
+/// `open_files` does. If `ends_misfits`, bindings that the configuration does not accept expire.
 pub fn open<'r, R: Files + Input + Print + AllocGlobal>(
     rt: &'r R,
     streams: StandardStreams,

@@ -19,8 +19,8 @@ pub(crate) const BUFFERED: usize = 65_536;
 /// come than both captures read ahead, so none is written before the log has been flushed.
 pub(crate) const HELD: usize = 2 * ROOM;
 
-/// A device for each file of a run, as `RunFiles` names them. `EmptySource` stands for a capture
-/// that was not given, and `NullSink` for an output that was not requested.
+/// A device for each file of a run, as `RunFiles` names them. `EmptySource` replaces a capture that
+/// was not given, and `NullSink` an output that was not requested.
 #[derive(Drop)]
 pub struct RunDevices<S, T: Write + Drop, F: Write + Drop> {
     pub inside: Watched<BufReader<Either<S, F>>>,

@@ -15,16 +15,16 @@ pub struct FileId {
     pub number: u64,
 }
 
-/// What is known of the location of a file.
+/// The location of a file, as far as it is known.
 #[derive(Clone, Copy, Debug)]
 pub enum FileLocation<'a> {
     /// An existing file.
     Existing(FileId),
     /// A file that does not exist yet: the folder in which it would be created, and its name there.
     New(FileId, &'a str),
-    /// Only the path is known.
+    /// A file of which only the path is known.
     PathOnly(&'a str),
-    /// A device, a pipe or a folder, to which writing destroys nothing.
+    /// A device, a pipe or a folder. Writing to it destroys nothing.
     Special,
 }
 
@@ -95,7 +95,7 @@ pub(crate) fn folder_of<'a>(path: &'a str) -> Option<Path<'a>>
     }
 }
 
-/// Returns whether both are of one file; also if the system cannot tell files apart.
+/// Returns whether both are of one file, as is assumed if the system cannot distinguish files.
 pub(crate) fn is_one_file(known: &Metadata, there: &Metadata) -> bool {
     match (node_of(known), node_of(there)) {
         (Some(known), Some(there)) => is_same_node(known, there),
@@ -109,7 +109,7 @@ fn is_same_node(a: FileId, b: FileId) -> bool
     a.device == b.device && a.number == b.number
 }
 
-/// Returns whether both locations are of one file. `Special` is the same as nothing.
+/// Returns whether both locations are of one file. `Special` is not the same as any location.
 pub fn is_same(a: FileLocation<'_>, b: FileLocation<'_>) -> bool
     ensures { result ≡ is_same a.entry b.entry }
 {

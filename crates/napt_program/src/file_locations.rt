@@ -65,7 +65,7 @@ fn path_of_new(alloc: Global, options: &RunOptions) -> Result<Option<String>, Al
     }
 }
 
-/// Returns the same as `lost_file`, given the path of the new file if a state is saved.
+/// Returns the result of `lost_file`, given the path of the new file if a state is saved.
 fn lost_file_with_new<R: Files>(
     rt: &R,
     options: &RunOptions,

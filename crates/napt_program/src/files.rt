@@ -23,13 +23,13 @@ use std::rt::Files;
 /// that are not named. `S` reads standard input, `T` writes standard output, and `F` is a file.
 #[derive(Drop)]
 pub struct RunFiles<S, T, F> {
-    /// The capture of what inside hosts send.
+    /// The capture of the packets that inside hosts send.
     pub inside: Either<S, F>,
-    /// The capture of what comes from the outside.
+    /// The capture of the packets that come from the outside.
     pub outside: Option<Either<S, F>>,
-    /// The capture of what goes to the outside.
+    /// The capture of the packets that go to the outside.
     pub to_outside: Either<T, F>,
-    /// The capture of what goes to inside hosts.
+    /// The capture of the packets that go to inside hosts.
     pub to_inside: Option<Either<T, F>>,
     /// The report.
     pub report: Option<Either<T, F>>,
@@ -56,17 +56,17 @@ pub type OpenFiles<'r, R> = FilesWithLog<
 /// capture that is not named.
 #[derive(Drop)]
 pub struct InputFiles<S, F> {
-    /// The capture of what inside hosts send.
+    /// The capture of the packets that inside hosts send.
     pub inside: Either<S, F>,
-    /// The capture of what comes from the outside.
+    /// The capture of the packets that come from the outside.
     pub outside: Option<Either<S, F>>,
 }
 
 /// Opens the captures, the inside first, then creates or empties the outputs: to the outside, to
-/// the inside, the report, the log. `told` is where the log of the state ends, if there is a state.
+/// the inside, the report, the log. `told` is the end of the log of the state, if there is a state.
 ///
-/// Fails with the role of a file that cannot be opened or created. Before any output is touched,
-/// fails for one that an earlier option names, or if the log or memory is refused.
+/// Fails with the role of a file that cannot be opened or created. Before any output is touched, it
+/// fails for an output that an earlier option names, or if the log or memory is refused.
 pub fn open_files<'r, R: Files + Input + Print + AllocGlobal>(
     rt: &'r R,
     options: &OptionsWithLog,
@@ -89,8 +89,8 @@ pub fn open_files<'r, R: Files + Input + Print + AllocGlobal>(
     Ok(FilesWithLog { files, log })
 }
 
-/// Returns how many bytes the log keeps, or the number of its last piece. Changes nothing.
-/// Fails with its role if another option names it, and as `bytes_to_keep` and `last_piece` do.
+/// Returns how many bytes the log retains, or the number of its last piece. Changes nothing. Fails
+/// with its role if another option names it, and as `bytes_to_keep` and `last_piece` do.
 fn saved_log_place<R: Files + AllocGlobal>(
     rt: &R,
     options: &OptionsWithLog,
@@ -139,7 +139,7 @@ fn with_outputs<'r, R: Files + Input + Print>(
 
 /// Opens the captures, the inside first. Creates and empties nothing.
 ///
-/// Fails with the role of a capture that cannot be opened, then with that of an output that an
+/// Fails with the role of a capture that cannot be opened, then with the role of an output that an
 /// earlier option also names, and with `MEMORY` if memory is refused.
 pub fn open_inputs<R: Files + Input + AllocGlobal>(
     rt: &R,
@@ -188,8 +188,8 @@ fn open_file<R: Files + Input + AllocGlobal>(
     Ok(Right(file))
 }
 
-/// Returns the reader of standard input. Its buffer of 8 KiB is on the heap: moved on a stack that
-/// cannot grow, it could end the program silently. Fails with `MEMORY` if memory is refused.
+/// Returns the reader of standard input. Its buffer of 8 KiB is on the heap, since moving it on a
+/// stack that cannot grow could end the program silently. Fails with `MEMORY` if memory is refused.
 fn standard_input<R: Input + AllocGlobal>(rt: &R) -> Result<Box<R::Reader>, Stop>
     ensures { IfErr result (λ stop. stop ≡ MEMORY) }
 {

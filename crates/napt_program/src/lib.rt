@@ -1,4 +1,4 @@
-//! What the programs share apart from their runs: the command line and its files, the
+//! The parts that the programs share apart from their runs: the command line and its files, the
 //! configuration, the standard streams, and the reasons for which a program stops.
 #![tactic(auto)]
 

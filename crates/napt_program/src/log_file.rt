@@ -16,7 +16,7 @@ use std::io::{Printer, Read, Seek, SeekFrom, Write};
 use std::rt::Files;
 use std::{fs, io};
 
-/// An upper bound for a row in bytes: fewer bytes after the last whole row may be a partial row.
+/// An upper bound for a row in bytes: fewer bytes after the last row may be a partial row.
 pub(crate) const MOST_TORN: usize = 4_096;
 
 /// A log that is open for writing.
@@ -27,9 +27,9 @@ pub struct LogOutput<D> {
     pub is_new: bool,
 }
 
-/// Returns how many bytes of its text the log at `path`, in one file, keeps, or 0 if it has no text.
-/// `told` is where the log of the state ends, or `None` if the run starts without a state. Changes
-/// nothing.
+/// Returns how many bytes of its text the log at `path`, in one file, retains, or 0 if it has no
+/// text. `told` is the end of the log of the state, or `None` if the run starts without a state.
+/// Changes nothing.
 ///
 /// Fails with `Stop::LogFile` if the run must not append to the text, with the file's role if it
 /// cannot be read, and with `MEMORY` if memory is refused.
@@ -64,8 +64,8 @@ fn bytes_at<R: Files>(rt: &R, path: &str) -> u64 {
     }
 }
 
-/// Returns the bytes of a file around a place: up to `MOST_TORN` before it, and up to as many from
-/// there on and one more. Fails as `bytes_to_keep` does.
+/// Returns the bytes of a file around a place: up to `MOST_TORN` before it, and from there on up to
+/// one more than that. Fails as `bytes_to_keep` does.
 pub(crate) fn text_around<R: Files + AllocGlobal>(
     rt: &R,
     path: &str,
@@ -83,9 +83,9 @@ pub(crate) fn text_around<R: Files + AllocGlobal>(
     Ok(text)
 }
 
-/// Returns why a run must not append to this log, if so. `text` has the bytes around the place where
-/// the log of the state ends (`text_around`): the row before it must be the last one of that log,
-/// and at most a partial row may follow it.
+/// Returns why a run must not append to this log, if it must not. `text` contains the bytes around
+/// the end of the log of the state (`text_around`): the row before it must be the last row of that
+/// log, and at most a partial row may follow it.
 pub(crate) fn refusal_at(told: LogEnd, text: &[u8]) -> Option<LogRefusal>
     ensures { result ≡ refusal_at told text.now }
 {
@@ -139,8 +139,8 @@ pub(crate) fn row_hash(row: &[u8]) -> u64
     )
 }
 
-/// Opens the file of a log for appending after the bytes that it keeps, and removes those after
-/// them, or creates it. For `-`, returns standard output. Fails with the file's role.
+/// Opens the file of a log for appending after the bytes that it retains, and removes the bytes
+/// after them, or creates it. For `-`, returns standard output. Fails with the file's role.
 pub(crate) fn open_log<'r, R: Files + Print, P>(
     rt: &'r R,
     path: &str,
@@ -172,7 +172,7 @@ pub(crate) fn open_log<'r, R: Files + Print, P>(
     })
 }
 
-/// A file of a log, the end of whose text is read after it was written.
+/// A file of a log, which is written, and whose last row is then read.
 pub trait SeekableFile: Read + Write + Seek + OpenFile {}
 
 impl<F: Read + Write + Seek + OpenFile> SeekableFile for F {}
@@ -180,8 +180,8 @@ impl<F: Read + Write + Seek + OpenFile> SeekableFile for F {}
 impl<'r, T: Write + Drop, F: SeekableFile + Drop, R: Files + AllocGlobal> LogOutput<
     LogDevice<Either<T, F>, LogPieces<'r, R>>,
 > {
-    /// Syncs the file, or the last piece, after the run. Returns where its text ends; every number is 0 if it is not a
-    /// regular file. Fails with `Stop::Log`.
+    /// Syncs the file, or the last piece, after the run. Returns the end of its text, whose numbers
+    /// are all 0 if it is not a regular file. Fails with `Stop::Log`.
     pub fn synced_end(self) -> Result<LogEnd, Stop>
         ensures { IfErr result (λ stop. stop ≡ Stop.Log) }
     {
@@ -197,7 +197,7 @@ impl<'r, T: Write + Drop, F: SeekableFile + Drop, R: Files + AllocGlobal> LogOut
     }
 }
 
-/// Syncs a file if it is a regular one, and returns its length in bytes then.
+/// Syncs a file and returns its length in bytes, if it is a regular file.
 pub(crate) fn synced_length<F: OpenFile>(file: &F) -> io::Result<Option<u64>> {
     let known = file.metadata()?;
     if !known.is_file() {
@@ -207,8 +207,8 @@ pub(crate) fn synced_length<F: OpenFile>(file: &F) -> io::Result<Option<u64>> {
     Ok(Some(known.len()))
 }
 
-/// Syncs a file of a log, which is the piece with this number, or the whole log if the number is 0. Returns where its
-/// text ends; every number is 0 if it is not a regular file.
+/// Syncs a file of a log, which is the piece with this number, or the whole log if the number is 0.
+/// Returns the end of its text, whose numbers are all 0 if it is not a regular file.
 pub(crate) fn synced_end<F: SeekableFile + Drop>(mut file: F, piece: u64) -> io::Result<LogEnd> {
     let Some(length) = synced_length(&file)? else {
         return Ok(LogEnd::default());

@@ -49,7 +49,7 @@ impl<'r, R: Files + AllocGlobal> LogPieces<'r, R> {
         })
     }
 
-    /// Returns whether these bytes begin a new piece: with the header, and the piece has text.
+    /// Returns whether these bytes begin a new piece, with the header, and this piece has text.
     fn needs_new_piece(&self, bytes: &[u8]) -> bool
         ensures { result ≡ needs_new_piece self.now bytes.now }
     {
@@ -69,7 +69,7 @@ impl<'r, R: Files + AllocGlobal> LogPieces<'r, R> {
         Ok(())
     }
 
-    /// Syncs the last piece after the run. Returns where its text ends.
+    /// Syncs the last piece after the run. Returns the end of its text.
     pub(crate) fn synced_end(self) -> io::Result<LogEnd> {
         let LogPieces { number, piece, .. } = self;
         match piece.into_inner() {
@@ -104,7 +104,7 @@ impl<'r, R: Files + AllocGlobal> Write for LogPieces<'r, R> {
     }
 }
 
-/// Creates the first piece after number `last` that does not exist. Returns its number too.
+/// Creates the first piece after number `last` that does not exist, and returns it with its number.
 fn piece_after<R: Files + AllocGlobal>(
     rt: &R,
     path: &str,
@@ -139,7 +139,7 @@ fn name_of(alloc: Global, path: &str, number: u64) -> Result<String, AllocError>
 }
 
 /// Returns the greatest number of an existing piece of the log at `path`, or 0 if there is none.
-/// `told` is where the log of the state ends, or `None` without a state. Changes nothing.
+/// `told` is the end of the log of the state, or `None` without a state. Changes nothing.
 ///
 /// Fails with the log's role if the state would be saved as a piece, or if the last piece or its
 /// folder cannot be read; with `Stop::LogFile` if there is a piece but no state, or if the last
@@ -199,7 +199,7 @@ fn greatest_number<R: Files + AllocGlobal>(rt: &R, path: &str) -> io::Result<u64
     for entry in fs::read_dir(&rt, folder)? {
         match entry {
             Ok(entry) => greatest = number_in(entry.file_name(), name).max(greatest),
-            // a name that is not UTF-8 is not the name of a piece
+            // A name that is not UTF-8 is not the name of a piece.
             Err(error) if error.kind() == ErrorKind::InvalidFilename => {}
             Err(error) => return Err(error),
         }

@@ -1,4 +1,4 @@
-//! Why a file of the command line cannot be used: what else names it, or what the system says.
+//! The reasons why a file cannot be used: another option names it, or the system refuses it.
 
 use crate::config_file::MOST_BYTES;
 use crate::file_location::{FileLocation, is_same, location_of};
@@ -17,7 +17,7 @@ const INPUT: &str = "/dev/stdin";
 
 const OUTPUT: &str = "/dev/stdout";
 
-/// What names the file of a state that is saved, and the new file next to it.
+/// The option that names the file of a state that is saved, and the new file next to it.
 const SAVE: &str = "--save";
 
 const BY_NEW: &str = "--save, by way of";
@@ -29,7 +29,7 @@ pub struct NamedFiles<'a> {
     pub outside: &'static str,
 }
 
-/// A file and what names it: an option, or a standard stream in place of an absent option.
+/// A file with its name in messages: an option, or a standard stream in place of an absent one.
 #[derive(Clone, Copy)]
 struct NamedFile<'a> {
     name: &'static str,
@@ -115,7 +115,7 @@ impl<'a> NamedFiles<'a> {
         self.output_reason(rt, alloc, "--log", path)
     }
 
-    /// Returns why a state cannot be saved to a path: by what is there, or at the new file's path.
+    /// Returns why a state cannot be saved to a path, by the file there or at the new file's path.
     fn saved_reason<R: Files>(
         self,
         rt: &R,
@@ -138,10 +138,10 @@ impl<'a> NamedFiles<'a> {
         unmade_reason(rt, alloc, SAVE, path)
     }
 
-    /// Returns what names the file of an output, of the files before it.
+    /// Returns the earlier option that names the file of an output, if there is one.
     ///
-    /// Files are compared by what they are (`is_same`), so another spelling of the path, or a link,
-    /// is the same file.
+    /// Files are compared by their identity (`is_same`), so another spelling of the path, or a
+    /// link, is the same file.
     fn named_before<R: Files>(self, rt: &R, name: &str, path: &str) -> Option<&'static str> {
         let place = location_of(rt, path_or_stream(path, OUTPUT));
         let all = self.all();
@@ -152,7 +152,7 @@ impl<'a> NamedFiles<'a> {
         again.map(|named| named.name)
     }
 
-    /// Returns the same of the file of a state that is saved, which may be that of `--resume`.
+    /// Returns another option that names the file of a saved state. That of `--resume` may name it.
     fn saved_again<R: Files>(self, rt: &R, path: &str) -> Option<&'static str> {
         let place = location_of(rt, path);
         let all = self.all();
@@ -187,7 +187,7 @@ impl<'a> NamedFiles<'a> {
 }
 
 impl<'a> NamedFile<'a> {
-    /// Returns what names the file of an option; `-` is the standard stream that it stands for.
+    /// Returns the file of an option with its name, which is the standard stream for `-`.
     fn new(name: &'static str, path: Option<&'a String>, stream: &'a str) -> NamedFile<'a> {
         NamedFile {
             name,
@@ -207,19 +207,19 @@ fn path_or_stream<'a>(path: &'a str, stream: &'a str) -> &'a str {
     if is_dash(path) { stream } else { path }
 }
 
-/// Returns that the standard stream which stands for a role is closed.
+/// Returns the message that the standard stream which a role uses is closed.
 pub fn closed_text(alloc: Global, role: FileRole) -> Result<String, AllocError> {
     let (stream, name) = (stream_of(role), role.name());
     format!(in alloc; "{stream} is closed, and --{name} needs it")
 }
 
-/// Returns that a file is `-` and another has the standard stream, after what names the file.
+/// Returns the message that a file is `-`, but another file uses the standard stream.
 pub fn shared_text(alloc: Global, name: &str, role: FileRole) -> Result<String, AllocError> {
     let stream = stream_of(role);
     format!(in alloc; "{name} -: another file is {stream} too")
 }
 
-/// Returns the name of the standard stream that may stand for a role.
+/// Returns the name of the standard stream that a role may use.
 fn stream_of(role: FileRole) -> &'static str {
     match role {
         FileRole::Config | FileRole::Resume | FileRole::Inside | FileRole::Outside =>
@@ -232,7 +232,7 @@ fn stream_of(role: FileRole) -> &'static str {
     }
 }
 
-/// Returns what else names the file of an output, after its name and path.
+/// Returns the message that another option names the file of an output, after its name and path.
 pub fn same_file_text(
     alloc: Global,
     name: &str,
@@ -242,7 +242,7 @@ pub fn same_file_text(
     format!(in alloc; "{name} {path}: it is the file of {other}")
 }
 
-/// Returns that a state cannot be saved over what is at a path, after what names it.
+/// Returns the message that a path is not that of a regular file, so that no state is saved there.
 fn not_a_file_text(alloc: Global, name: &str, path: &str) -> Result<String, AllocError> {
     format!(in alloc; "{name} {path}: expected a file, not a device, pipe or folder")
 }
@@ -260,7 +260,7 @@ fn unmade_reason<R: Files>(
     }
 }
 
-/// Returns why a file cannot be read, after what names it and its path.
+/// Returns why a file cannot be read, after its option and its path.
 pub fn input_reason<R: Files>(
     rt: &R,
     alloc: Global,

@@ -12,8 +12,8 @@ use clap::{Arg, ArgAction, ArgMatches, Command, Error};
 use std::alloc::{AllocError, Global};
 use std::num::NonZeroU32;
 
-/// The text after the program's name in the answer to `--version`: the number of the version, and
-/// on a line of its own what was proved of the program, and with which kit.
+/// The text after the program's name in the answer to `--version`: the number of the version and,
+/// on a line of its own, the proved properties of the program, and the kit that proved them.
 pub const VERSION: &str = "0.1.0
 proved with rattle-kit-13f logic dac8208d650f15bf: each function of its sources meets its contract";
 
@@ -22,7 +22,7 @@ proved with rattle-kit-13f logic dac8208d650f15bf: each function of its sources 
 pub struct Manual {
     /// The name of the program.
     pub name: &'static str,
-    /// What the program does, in one paragraph.
+    /// The purpose of the program, in one paragraph.
     pub about: &'static str,
     /// The text after the options.
     pub notes: &'static str,
@@ -49,8 +49,8 @@ Examples:
 
 --verbose adds a second line on standard error, which a terminal gets anyway: the
 option, its file, and what is wrong with it (in a configuration, with the place).
-With --end-misfits the bindings of the state that the configuration cannot keep end
-at its time, and one line on standard error counts them; all others go on.
+With --end-misfits the bindings that the configuration does not accept expire at
+the state's time, and one line on standard error counts them; all others continue.
 
 Exit status, and the line on standard error that says why:
   0  done, without a line
@@ -122,27 +122,27 @@ const OPTIONS: [(&str, &str); 8] = [
     ),
     (
         "resume",
-        "State from which the run goes on, as written by --save [default: a new run]",
+        "State from which the run continues, as written by --save [default: a new run]",
     ),
     (
         "inside",
-        "Capture of what inside hosts send [default: standard input]",
+        "Capture of the packets that inside hosts send [default: standard input]",
     ),
     (
         "outside",
-        "Capture of what comes from the outside [default: no packets]",
+        "Capture of the packets from the outside [default: no packets]",
     ),
     (
         "to-outside",
-        "Capture of what leaves for the outside [default: standard output]",
+        "Capture of the packets that leave for the outside [default: standard output]",
     ),
     (
         "to-inside",
-        "Capture of what goes to inside hosts [default: not written]",
+        "Capture of the packets that go to inside hosts [default: not written]",
     ),
     (
         "report",
-        "Counts of what became of the packets, and the live bindings [default: not written]",
+        "Counts of the packets by outcome, and the live bindings [default: not written]",
     ),
     (
         "save",
@@ -158,20 +158,20 @@ const LOG_EACH: &str =
     "Writes the log to FILE.1, FILE.2, ..: a new file when the clock of the run passes a multiple of SECONDS; each can be \
 read by itself [default: one file, FILE]";
 
-/// The file that each option names, `None` if the option is absent.
+/// The file that each option names, or `None` if the option is absent.
 #[derive(Debug, PartialEq, Eq, Drop)]
 pub struct RunOptions {
     /// The configuration. If absent, it is the built-in one.
     pub config: Option<String>,
     /// The state from which the run starts. If absent, the run starts without a state.
     pub resume: Option<String>,
-    /// The capture of what inside hosts send. If absent, it is standard input.
+    /// The capture of the packets that inside hosts send. If absent, it is standard input.
     pub inside: Option<String>,
-    /// The capture of what comes from the outside. If absent, there are no packets.
+    /// The capture of the packets that come from the outside. If absent, there are no such packets.
     pub outside: Option<String>,
-    /// The capture of what goes to the outside. If absent, it is standard output.
+    /// The capture of the packets that go to the outside. If absent, it is standard output.
     pub to_outside: Option<String>,
-    /// The capture of what goes to inside hosts. If absent, it is not written.
+    /// The capture of the packets that go to inside hosts. If absent, it is not written.
     pub to_inside: Option<String>,
     /// The report. If absent, it is not written.
     pub report: Option<String>,
@@ -271,9 +271,9 @@ pub(crate) fn is_dash(path: &str) -> bool
 /// The reason why a command line was not accepted.
 #[derive(Debug, PartialEq, Eq, Drop)]
 pub enum LineFault {
-    /// Help was requested. Holds its text for standard output; the exit status is 0.
+    /// Help was requested. The value is its text for standard output; the exit status is 0.
     Help(String),
-    /// The version was requested. Holds its text for standard output; the exit status is 0.
+    /// The version was requested. The value is its text for standard output; the exit status is 0.
     Version(String),
     /// The arguments are not understood.
     Usage,
@@ -327,7 +327,7 @@ pub fn parse_words_of(
     Ok(parse_words_for(alloc, manual, false, words)?.files)
 }
 
-/// Parses the arguments of a program with this help text, which has the log's options or not.
+/// Parses the arguments of a program with this help text, with the log's options or without them.
 pub(crate) fn parse_words_for(
     alloc: Global,
     manual: Manual,

@@ -56,8 +56,8 @@ fn refuse_unmade_file<R: Files>(rt: &R, path: Option<&String>, role: FileRole) -
 /// Returns why the file cannot be created or emptied, as far as that is known without touching it.
 ///
 /// Opens an existing file for writing, which changes nothing, but not `-`, a device or a pipe. A
-/// new file needs an existing folder. Not known beforehand: whether the folder accepts a file,
-/// whether a link leads to a missing folder, and what only writing shows, such as a full disk.
+/// new file needs an existing folder. It is not known beforehand whether the folder accepts a file,
+/// whether a link leads to a missing folder, and whether writing fails, such as on a full disk.
 pub fn unmade<R: Files>(rt: &R, path: &str) -> Option<io::Error> {
     if is_dash(path) {
         return None;
@@ -70,7 +70,7 @@ pub fn unmade<R: Files>(rt: &R, path: &str) -> Option<io::Error> {
     }
 }
 
-/// Returns whether it is a device or a pipe.
+/// Returns whether a file is a device or a pipe.
 fn is_device_or_pipe(kind: FileType) -> bool {
     kind.is_fifo() || kind.is_char_device() || kind.is_block_device()
 }
@@ -85,7 +85,7 @@ fn missing_folder<R: Files>(rt: &R, path: &str, error: io::Error) -> Option<io::
 }
 
 impl<T: Write + Drop, F: Write + OpenFile + Drop> OutputDevices<T, F> {
-    /// Syncs the outputs that are regular files to disk, before a state is saved that counts on
+    /// Syncs the outputs that are regular files to disk, before a state is saved that relies on
     /// them. Fails as if the output could not be written.
     pub fn sync(self) -> Result<(), Stop>
         ensures { (streams : StandardStreams) (named : CommandLineFiles) →

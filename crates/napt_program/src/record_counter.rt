@@ -27,14 +27,14 @@ enum CounterState {
 #[derive(Clone, Copy)]
 struct RecordCounter {
     part: CounterState,
-    /// The number of bytes of this part that are still to come.
+    /// The number of bytes of this part that have not been read.
     left: u64,
     /// The last eight bytes that were read one by one, as a little-endian number.
     word: u64,
     is_big: bool,
     /// The number of bytes of a packet after its source address.
     after_source: u64,
-    /// The length of a fraction of a second in the capture, in ns.
+    /// The unit of the fractions of a second in the capture, in ns.
     unit: u64,
     /// The time of the first record, in ns.
     first_time: Option<u64>,
@@ -59,7 +59,7 @@ impl RecordCounter {
     fn pass(&mut self, bytes: &[u8]) -> u64 {
         let mut records = 0u64;
         let mut rest = bytes;
-        // each turn consumes at least one byte
+        // Each turn consumes at least one byte.
         for _ in 0..bytes.len() {
             if let Some(tail) = self.skip_header(rest) {
                 rest = tail;
@@ -83,8 +83,8 @@ impl RecordCounter {
         records
     }
 
-    /// Skips the time and the captured length of a record whose bytes need not be noted, if all of
-    /// both is there. Returns what follows them.
+    /// Skips the time and the captured length of a record whose bytes need not be recorded, if both
+    /// are there completely. Returns the bytes after them.
     fn skip_header<'a>(&mut self, bytes: &'a [u8]) -> Option<&'a [u8]> {
         let is_at_record = matches!(self.part, CounterState::Time) && self.left == 8;
         if !is_at_record || self.first_time.is_none() || self.first_source.is_none() {
@@ -107,7 +107,7 @@ impl RecordCounter {
         }
     }
 
-    /// Moves on to the next part. Returns whether a record has ended.
+    /// Begins the next part. Returns whether a record has ended.
     fn next_part(&mut self) -> bool {
         let has_ended = matches!(self.part, CounterState::Record);
         let (part, left) = match self.part {
@@ -132,7 +132,7 @@ impl RecordCounter {
         has_ended
     }
 
-    /// Notes the byte order of the capture, and the unit of its fractions.
+    /// Records the byte order of the capture, and the unit of its fractions.
     fn note_magic(&mut self) {
         let [.., a, b, c, d] = self.word.to_le_bytes();
         let magic = u32::from_be_bytes([a, b, c, d]);
@@ -143,7 +143,7 @@ impl RecordCounter {
         };
     }
 
-    /// Returns what follows the captured length of a record, and its number of bytes.
+    /// Returns the part after the captured length of a record, and its number of bytes.
     fn begin_record(&mut self) -> (CounterState, u64) {
         let [.., a, b, c, d] = self.word.to_le_bytes();
         let captured = u64::from(self.number([a, b, c, d]));
@@ -180,7 +180,7 @@ impl RecordCounter {
     }
 }
 
-/// The device of a capture, whose records are counted as they are read, if that is asked for.
+/// The device of a capture, whose records are counted as they are read, if that is requested.
 #[derive(Drop)]
 pub struct CountedSource<S> {
     /// The device that is read.

@@ -10,13 +10,13 @@ pub enum FileRole {
     Config,
     /// The state from which the run starts.
     Resume,
-    /// The capture of what inside hosts send.
+    /// The capture of the packets that inside hosts send.
     Inside,
-    /// The capture of what comes from the outside.
+    /// The capture of the packets that come from the outside.
     Outside,
-    /// The capture of what goes to the outside.
+    /// The capture of the packets that go to the outside.
     ToOutside,
-    /// The capture of what goes to inside hosts.
+    /// The capture of the packets that go to inside hosts.
     ToInside,
     /// The report, which counts the packets by outcome.
     Report,

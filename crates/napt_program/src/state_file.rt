@@ -25,7 +25,7 @@ pub struct StateFile<F> {
     path: String,
 }
 
-/// The path of the new file, which it has until the run has ended.
+/// The path of the new file until the run has ended.
 #[derive(Drop)]
 struct NewPath {
     text: String,
@@ -42,10 +42,10 @@ impl NewPath {
 }
 
 impl<F: Write + OpenFile + Drop> StateFile<F> {
-    /// Writes the state, syncs the file, and renames it to its path.
-    /// The rename is the last step and is atomic, so that the path has the old state or the new
-    /// one, whole. Fails with `Stop::Save` and keeps the old one, also if another run has replaced
-    /// the new file since; or with `MEMORY` if memory is refused. Returns the file.
+    /// Writes the state, syncs the file, renames it to its path, and returns it. The rename is the
+    /// last step and is atomic, so that the path has the old state or the new one, whole. Fails
+    /// with `Stop::Save` and retains the old one, also if another run has replaced the new file in
+    /// the meantime; or with `MEMORY` if memory is refused.
     pub fn finish<R: Files>(
         self,
         rt: &R,
@@ -79,9 +79,9 @@ fn unsaved(error: &io::Error) -> Stop
     }
 }
 
-/// Creates the new file for a state, if one is to be saved. An existing file of that name, left by
-/// a run that broke off or used by another run, is unlinked first, so that no two runs write to one
-/// file. Fails with its role, or with `MEMORY` if memory is refused.
+/// Creates the new file for a state, if one is to be saved. An existing file of that name, from a
+/// run that was interrupted or that still uses it, is unlinked first, so that no two runs write to
+/// one file. Fails with its role, or with `MEMORY` if memory is refused.
 pub(crate) fn state_file<R: Files + AllocGlobal>(
     rt: &R,
     options: &RunOptions,

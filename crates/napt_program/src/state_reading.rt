@@ -23,11 +23,11 @@ use std::rt::Files;
 #[derive(Drop)]
 pub struct ResumedState {
     pub state: State,
-    /// What the state keeps of its log; nothing if there was no log.
+    /// The accounts of its log that the state contains, or none if there was no log.
     pub saved: SavedLogState,
-    /// Where its log ends; every number is 0 if there was none in a file.
+    /// The end of its log, whose numbers are all 0 if there was no log in a file.
     pub log: LogEnd,
-    /// How many of its bindings end at the start, since the configuration cannot keep them.
+    /// The number of its bindings that expire at the start, since the configuration refuses them.
     pub ended: u64,
 }
 
@@ -58,7 +58,7 @@ pub fn state_at<R: Files + AllocGlobal>(
 }
 
 /// Reads a state from a reader to its end. If `ends_misfits`, the bindings that the configuration
-/// cannot keep end at its clock.
+/// does not accept expire at its clock.
 ///
 /// Fails with `Stop::State` if the text is refused or a binding is not accepted, with the file's
 /// role if the reader fails, and with `MEMORY` if memory is refused.
@@ -100,7 +100,7 @@ pub fn state_from<D: Read + Drop>(
     }
 }
 
-/// Returns why a text gave no state: its file failed, memory was refused, or a line is malformed.
+/// Returns why a text is no state: its file failed, memory was refused, or a line is malformed.
 pub fn stop_of_state(fault: &StateFault) -> Stop
     ensures line { unless_for fault.now.reason
         (result ≡ Stop.State (line_refusal fault.now.reason fault.now.line)) }

@@ -42,25 +42,25 @@ pub enum Stop {
 /// The reason why a run must not write to the file of its log, which has text.
 #[derive(Clone, Copy, Debug, PartialEq, Eq)]
 pub enum LogRefusal {
-    /// The run starts without a state, and there is text or a piece.
+    /// The run starts without a state, but there is text or a piece.
     NoState,
-    /// The state was saved without a log, or with a log that was not in a file, or in pieces if this
-    /// one is not.
+    /// The state was saved without a log, or with a log that was not in a file, or in pieces if
+    /// this one is not.
     NoSavedLog,
-    /// It is not the state's log, of this length in bytes: it is shorter, or that log's last row does
-    /// not end there.
+    /// It is not the state's log, which has this length in bytes: it is shorter, or the last row of
+    /// that log does not end there.
     OtherLog(u64),
     /// More than a partial row follows the first bytes, whose number the state records.
     ExtraText(u64),
-    /// The last piece is not the one in which the state's log ends, of this number, or does not end
-    /// there.
+    /// The last piece is not the piece with this number, in which the state's log ends, or does not
+    /// end there.
     OtherPiece(u64),
 }
 
 /// The reason why a state is refused.
 #[derive(Clone, Copy, Debug, PartialEq, Eq)]
 pub enum StateRefusal {
-    /// The line with this number, from 1, is not one of a state, or the text ends before it.
+    /// The line with this number, from 1, is not a line of a state, or the text ends before it.
     Line(u64),
     /// The line with this number, from 1, is not UTF-8.
     NotUtf8(u64),

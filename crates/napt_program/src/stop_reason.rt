@@ -1,4 +1,4 @@
-//! Why a program stopped, for the second line that it prints on standard error.
+//! The reason why a program stopped, for the second line that it prints on standard error.
 
 use crate::named_files::{NamedFiles, closed_text, shared_text};
 use crate::options_with_log::OptionsWithLog;
@@ -17,10 +17,10 @@ use std::rt::Files;
 /// The word of the command line that requests the second line where there is no terminal.
 const VERBOSE: &str = "--verbose";
 
-/// The word of the command line by which bindings of a state end that the configuration cannot keep.
+/// The word of the command line by which bindings that the configuration refuses expire.
 const END_MISFITS: &str = "--end-misfits";
 
-/// Why a program stopped, in words: an option and its file, and what is wrong with it.
+/// The reason why a program stopped, in words: an option, its file, and the mistake in it.
 #[derive(Debug, Drop)]
 pub struct StopReason {
     /// Whether the reason is printed: at a terminal, or since the command line requests it.
@@ -62,7 +62,7 @@ impl StopReason {
         };
     }
 
-    /// Returns the reason of a stop other than that of a file, if more is known than its fault line says.
+    /// Returns the reason of a stop not due to a file, if it adds anything to the fault line.
     fn other_reason(&self, alloc: Global, options: &OptionsWithLog, stop: Stop) -> Option<String> {
         match stop {
             Stop::Config(ConfigFault::Memory) => None,
@@ -156,18 +156,18 @@ impl fmt::Display for StateRefusal {
         match self {
             StateRefusal::Line(line) => write!(
                 f,
-                "line {line} is not one of a state, or is missing"
+                "line {line} is not a line of a state, or is missing"
             ),
             StateRefusal::NotUtf8(line) => write!(f, "line {line} is not UTF-8"),
             StateRefusal::Binding(misfit) => {
-                f.write_str("the configuration cannot keep a binding: ")?;
+                f.write_str("the configuration does not accept a binding: ")?;
                 f.write_str(misfit_reason(*misfit))
             }
         }
     }
 }
 
-/// Returns why a configuration does not take a binding.
+/// Returns why a configuration does not accept a binding.
 pub fn misfit_reason(misfit: Misfit) -> &'static str {
     match misfit {
         Misfit::NotInside => "its host is in no prefix of inside",

@@ -11,8 +11,8 @@ use std::os::fd::AsFd;
 /// The system's error for a descriptor that is not open: EBADF of errno(3).
 const NOT_OPEN: i32 = 9;
 
-/// Which standard streams were open at startup. The next file that is opened gets the descriptor of
-/// a closed one, so a stream that was closed is neither read nor written.
+/// The standard streams that were open at startup. The next file that is opened gets the descriptor
+/// of a closed stream, so a stream that was closed is neither read nor written.
 #[derive(Clone, Copy, Debug, PartialEq, Eq)]
 pub struct StandardStreams {
     pub input: bool,
@@ -21,7 +21,7 @@ pub struct StandardStreams {
 }
 
 impl StandardStreams {
-    /// Returns the streams that are open now. To be called at startup, before any file is opened.
+    /// Returns the streams that are open now. Call it at startup, before any file is opened.
     pub fn open_now(rt: &HostRuntime) -> StandardStreams {
         StandardStreams {
             input: is_open(&rt.stdin()),
@@ -72,7 +72,7 @@ fn closed_output(streams: StandardStreams, options: &RunOptions) -> Option<FileR
     }
 }
 
-/// Returns the same for options with a log, which comes last.
+/// Returns the role of the first such stream for options with a log, which comes last.
 pub fn closed_stream_with_log(
     streams: StandardStreams,
     options: &OptionsWithLog,

@@ -1,4 +1,4 @@
--- From what passed between captures, after their headers, and outputs to what the run did.
+-- The effect of a run follows from the inputs after the headers of its captures, and from its outputs.
 use Rattle.std.proofs.lemmas.{Grind.common_steps, Bool.Decides.nat_tests}
 use Rattle.std.proofs.Common.{◌≡◌, ◌⊎◌, inl, inr, ℕ, ◌≤◌, List, [], ◌++◌, length, Option, Some, None, Result, Ok, Err, IsOk, refl, sym, ◌∙◌, ap, ap₂, subst, arith, append-nil, append_assoc}
 use Rattle.napt_wire.specs.declared.Side.{Side}
@@ -63,7 +63,7 @@ pub fault_of : (side : Side) (fault : CaptureFault) (inputs : List Arrival) (ins
 fault_of side fault inputs inside outside refused = held (λ all. Refuses side fault all inputs)
     (IsStreamFaultOf side fault) inside outside (λ all r. r.is_fault) refused
 
--- ONE OUTPUT, behind its header
+-- ONE OUTPUT, after its header
 
 module _ {D : Type 0} {S : sink.Ghosts D} (origin : OriginModel) (side : Side) (inputs : List Arrival)
     (old mid new : Output D S) (begun : OutputGrows old file_header mid) where
@@ -84,7 +84,7 @@ module _ {D : Type 0} {S : sink.Ghosts D} (origin : OriginModel) (side : Side) (
 -- If the run or its log failed, an output has at least its header.
 module _ {D : Type 0} {S : sink.Ghosts D} (origin : OriginModel) (inside outside : Option (List ℕ)) (which : Which)
     (old new : Output D S) where
-  -- It has what left of some first inputs, or a part of that if writing it failed.
+  -- It contains the records of some first inputs, or a part of them if writing it failed.
   pub record HasSome : Type 0 where
     pub inputs : List Arrival
     pub front : IfHeld inside outside (λ all. IsFrontOf inputs all.arrivals)
@@ -125,7 +125,7 @@ module _ {D : Type 0} {S : sink.Ghosts D} (origin : OriginModel) (inside outside
   halted_ends of (Err (Write Inside fault)) run p = absurd run
   halted_ends of (Err (Write Report fault)) run p = absurd run
 
-  -- Or it has all that these inputs leave, and it is flushed.
+  -- Otherwise it contains all records of these inputs, and it is flushed.
   pub settled_ends : (result : Result (Unit {0}) Fault) (inputs : List Arrival) →
       output_text_by (capture_to which origin) result inputs ≡ capture_text origin (side_of which) inputs →
       IfHeld inside outside (λ all. IsFrontOf inputs all.arrivals) →

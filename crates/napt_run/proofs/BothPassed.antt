@@ -1,4 +1,4 @@
--- From what left during a run to what its outputs took, and to what was recorded in its log.
+-- The outputs took all that left during a run, and the log recorded it.
 use Rattle.std.proofs.lemmas.{Grind.common_steps, Bool.Decides.nat_tests, List.map-append}
 use Rattle.std.proofs.Common.{◌≡◌, ◌⊎◌, inl, inr, ℕ, Bool, List, [], ◌∷◌, ◌++◌, length, map, Option, Some, None, Result, Ok, Err, refl, sym, ◌∙◌, ap, subst, arith, append_assoc}
 use Rattle.napt_wire.specs.declared.Side.{Side}
@@ -107,7 +107,7 @@ module _ {P A F W V K : Type 0} {S : sink.Ghosts W} {T : sink.Ghosts V} (tells :
       EntersTo tells origin hands ends enters fails is_settled from before.log.now left after.log.now end
   enters_to end p = grind (arith, common_steps, nat_tests, legs_left)
 
-  -- Some first ones of what leaves left.
+  -- The first of the outcomes that leave have left.
   module _ (inputs : List Arrival) (went : List (ℕ × InputResult P)) (come : HasCome hands ends from inputs left)
       (front : IsFrontOf went (Goes tells origin inputs)) where
     enters_first : enters before.log.now (legs_in went) after.log.now → First
@@ -120,7 +120,7 @@ module _ {P A F W V K : Type 0} {S : sink.Ghosts W} {T : sink.Ghosts V} (tells :
           entered = subst (λ (l : List (Legs P)). enters before.log.now l after.log.now) f.went_is entered;
         }
 
-    -- Or a fault came meanwhile.
+    -- Otherwise a fault came meanwhile.
     module _ (fault : Fault)
         (f : passing.DeparturesFail (TakesBoth enters) (FailsEither enters fails) before went fault after) where
       legs_join : legs_in f.first ++ legs_in f.others ≡ legs_in went

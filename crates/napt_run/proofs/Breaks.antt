@@ -1,4 +1,4 @@
--- A fault after what was written.
+-- A fault in a later text is a fault in the whole text.
 use Rattle.std.proofs.Common.{◌≡◌, ℕ, ◌≤◌, List, [], length, Result, Ok, Err, IfErr, false, subst, arith, append-nil}
 use Rattle.napt_capture.specs.declared.{device.Sink.Ghosts, fault.WriteFault.WriteFault}
 use Rattle.napt_run.specs.{OutputSinkLaws.breaks_more, Outputs.{OutputGrows, Breaks}, declared.output.Output.Output}

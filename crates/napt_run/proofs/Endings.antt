@@ -1,4 +1,4 @@
--- How a run ends with its report.
+-- A run ends with its report.
 use native.Mathlib.Omega.{arith}
 use Rattle.std.proofs.lemmas.{Grind.common_steps, Bool.Decides.nat_tests}
 use Rattle.std.proofs.Common.{◌≡◌, ◌∙◌, ℕ, ◌+◌, List, Option, Result, Ok, Err, ap, refl, subst}

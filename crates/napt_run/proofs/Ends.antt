@@ -1,4 +1,4 @@
--- What an output has at the end of a run: so many bytes of the text of these inputs.
+-- An output contains this number of bytes of the text of these inputs at the end of a run.
 use Rattle.std.{proofs.{Common.{◌≡◌, ◌∙◌, inl, inr, ℕ, ◌+◌, ◌≤◌, Bool, true, false, List, [], length, take, Option, None, Some, Result, Ok, Err, refl, sym, ap, subst, arith, append-nil, length-append}, Math.Seq.take-append_seam}, specs.{Prelude.IsOk, Io.KnownBytes.Appends}}
 use Rattle.napt_capture.specs.{Text.file_header, declared.{device.Sink.Ghosts, fault.WriteFault.WriteFault}}
 use Rattle.napt_wire.specs.declared.Side.{Side}
@@ -93,7 +93,7 @@ module _ {D : Type 0} {S : Ghosts D} (texts : LogTexts) (which : Which) (inside 
       OutputEnds texts which inside outside result old new
   grown p extent = grown_if p (IfHeld-all (Extent (length text)) inside outside extent)
 
-  -- Or some first bytes of it were written, and a call failed.
+  -- Otherwise some first bytes of it were written, and a call failed.
   pub broken : (fault : WriteFault) (p : Breaks old text fault new) → ((all : MergedInputs) → Extent p.count all) →
       (S.failed new.device.now ≡ S.failed old.device.now + 1 → Failed) → (IsSettledBy result → ⊥) →
       OutputEnds texts which inside outside result old new
@@ -110,7 +110,7 @@ of_device texts which inside outside result old new p start last from at = rw (a
 
 -- A CAPTURE
 
--- Its text is the same whether or not the run came to its end.
+-- The text of a capture is the same whether or not the run came to its end.
 pub same_text : (origin : OriginModel) (which : Which) (whole : Bool) (inputs : List Arrival) →
     text_if whole (capture_to which origin) inputs ≡ capture_text origin (side_of which) inputs
 same_text origin which true inputs = refl
@@ -133,7 +133,7 @@ all_of origin which all old new p = (
       p.appended)),
 )
 
--- What a fault of another output, or of the run, says of it.
+-- A fault of another output, or of the run, explains the text of a capture.
 pub record IsCapture (which : Which) : Type 0 where
   pub begun : (count : ℕ) → length file_header ≤ count → IsBegun which count
   pub log_extent : (fault : WriteFault) (count size : ℕ) → IsBegun which count → WriteExtent which Log fault count size
@@ -217,7 +217,7 @@ module _ (is_kept open_gate : Bool) (inside outside : Option (List ℕ)) where
   of_text (Write Inside fault) p = absurd p
   of_text (Write Report fault) p = absurd p
 
-  -- Or the report could not be made or written.
+  -- Otherwise the report could not be made or written.
   pub of_report : (fault : Fault) → IsReportFault fault →
       IsEndFault fault × FaultPost is_kept open_gate inside outside fault
   of_report (Write Report fault) p = (tt, record { explained = tt; gate = λ is. refl })

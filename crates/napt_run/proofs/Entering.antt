@@ -1,4 +1,4 @@
--- The rows of an input, written or not.
+-- The rows of an input are written, or writing them fails.
 use Rattle.std.proofs.lemmas.{Grind.common_steps, Bool.{Decides.nat_tests, eqb-true}}
 use Rattle.std.proofs.Common.{◌≡◌, ℕ, ◌+◌, ◌^◌, ◌<◌, ◌==◌, Bool, true, false, cond, List, [], ◌∷◌, ◌++◌, length, Option, Some, None, Result, Ok, Err, IfErr, OnOk, refl, sym, ◌∙◌, ap, arith, subst, append-nil, length-append}
 use Rattle.napt_capture.specs.declared.{device.Sink.Ghosts, fault.WriteFault.WriteFault}
@@ -52,7 +52,7 @@ module _ (from : LoggedOrigin) (before : List Trace) (trace : Trace) (old : LogB
   pub few_more : old.taken + 1 < 2 ^ 62 → length before + 1 < 2 ^ 62
   few_more few = subst (λ (l : LogBuilderModel). l.taken + 1 < 2 ^ 62) was few
 
-  -- What the input adds to it.
+  -- The log has the rows that the input adds.
   pub part_is : (part : LogDelta) → part ≡ part_between old.clock trace.now old.log (after_input old.log trace) →
       part ≡ part_between (last_trace_time from.origin.state.clock before) trace.now (log_after from.log before)
       (after_input (log_after from.log before) trace)

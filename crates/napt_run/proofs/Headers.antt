@@ -1,4 +1,4 @@
--- A header of a capture that is refused, or could not be read.
+-- A header of a capture is refused, or could not be read.
 use Rattle.std.proofs.Common.{◌≡◌, ◌∙◌, ℕ, ◌+◌, List, [], take, drop, Option, Some, Result, Ok, Err, refl, ap, subst, arith}
 use Rattle.napt_wire.specs.declared.Side.{Side}
 use Rattle.napt_wire.specs.declared.Side.TheVariants as sides

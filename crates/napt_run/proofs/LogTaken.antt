@@ -1,4 +1,4 @@
--- A log as it is taken up. Before any input it is that of a new run.
+-- A log begins from the saved log of a state. Before any input it is the log of a new run.
 use Rattle.std.proofs.{Common.{◌≡◌, ℕ, Bool, true, string_bytes, lit<, List, [], false, Option, None, refl, sym, ◌∙◌, ap, ap₂, subst, append-nil}}
 use Rattle.std.specs.{Prelude.option_map, Int.NonZero.non_zero_u32_get}
 use Rattle.napt_config.specs.Rules.{Rules}
@@ -95,7 +95,7 @@ module _ (start : Start) (log_start : LogStart) (taken : ResumedLog)
         written = written;
       }
 
-  -- Its texts are those that are promised.
+  -- The texts of the log are those of the definition.
   pub texts_taken : texts_of (record {
     origin = origin_of start;
     opening = string_bytes taken.opening;

@@ -1,4 +1,4 @@
--- What a run leaves in its log.
+-- The log of a run contains its text at the end of the run.
 use Rattle.std.proofs.lemmas.{Grind.common_steps, Bool.Decides.nat_tests}
 use Rattle.std.specs.Prelude.{if◌then◌else◌}
 use Rattle.std.proofs.Common.{◌≡◌, ◌⊎◌, inl, inr, ℕ, ◌+◌, ◌-◌, ◌^◌, ◌<◌, ◌≤◌, max, min, Bool, true, false, List, [], ◌∷◌, ◌++◌, length, map, take, Option, Result, Ok, Err, IfErr, IfOk, IsOk, OnOk, string_bytes, refl, sym, ◌∙◌, ap, subst, arith, append-nil, append_assoc, length-append}
@@ -51,7 +51,7 @@ cut_within from inputs count within =
     subst (λ (l : TimeText). count ≤ length l) (text_is from inputs)
     (omega (arith, within, length-append (text_so_far from inputs) (ending from inputs)))
 
--- Its text, by a result.
+-- A prefix of the text so far is a prefix of the text by a result.
 cut_if : (from : LoggedOrigin) (ended : Bool) (inputs : List Arrival) (count : ℕ) →
     count ≤ length (text_so_far from inputs) → (count ≤ length (text_if ended (texts_of from) inputs))
     × (take count (text_so_far from inputs) ≡ take count (text_if ended (texts_of from) inputs))
@@ -114,7 +114,7 @@ tried_by : (broken : Bool) (old mid new : ℕ) (Flushed : Type 0) → Was broken
     (broken ≡ false → Flushed ⊎ (new ≡ mid + 1)) → Flushed ⊎ (new ≡ old + 1)
 tried_by broken old mid new Flushed was more tried = grind (arith, common_steps, nat_tests)
 
--- The same at the end, where it was flushed if that was still possible.
+-- The log has some first rows at the end, and it was flushed if no call failed.
 record LogRest {L : Type 0} {S : Ghosts L} (from : LoggedOrigin) (inside outside : Option (List ℕ))
     (old new : Output L S) : Type 0 where
   inputs : List Arrival
@@ -178,7 +178,7 @@ module _ {L : Type 0} {S : Ghosts L} (origin : OriginModel) (inside outside : Op
       (λ all. ExtentPost Log (Err (Capture side fault)) all inputs size size) inside outside (λ all t. (t.1, refl))
       taken
 
-  -- Its own fault says how much of the text it has.
+  -- The log contains as much of its text as its own fault says.
   told : (count written : ℕ) → ((a : ℕ) → old.output.written ≡ min a (2 ^ 64 - 1) → written ≡
       min (a + count) (2 ^ 64 - 1)) →
       written ≡ min count (2 ^ 64 - 1)
@@ -528,7 +528,7 @@ module _ {L : Type 0} {S : Ghosts L} (origin : OriginModel) (inside outside : Op
       closed (Err (Write Inside fault)) p is = absurd p
       closed (Err (Write Report fault)) p is = absurd p
 
--- Or it could be written.
+-- Otherwise it could be written.
 pub opens_by : {L : Type 0} {S : Ghosts L} (old new : LogWriter L S) (result : Result (Unit {0}) Fault) →
     ((from : LoggedOrigin) → LogIsAt from [] old →
     Adds from [] (string_bytes old.opening) old.output result new) → OnOk result (Opens old new)

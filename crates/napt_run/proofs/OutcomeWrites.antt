@@ -1,4 +1,4 @@
--- What an outcome that leaves does to the outputs.
+-- An outcome that leaves adds a record to one output.
 use Rattle.std.{proofs.lemmas.{Grind.common_steps, Bool.Decides.nat_tests, List.Elements.All-head}, specs.Prelude.MatchResult}
 use Rattle.std.proofs.Common.{◌≡◌, ℕ, ◌-◌, ◌^◌, ◌<◌, List, [], ◌∷◌, ◌++◌, length, Result, IfErr, OnOk, false, sym, subst, arith, append-nil, length-append}
 use Rattle.napt_capture.specs.{Text.{entry_of_packet, record_text}, declared.{device.Sink.Ghosts, fault.WriteFault.WriteFault}}

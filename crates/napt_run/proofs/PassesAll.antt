@@ -1,4 +1,4 @@
--- From what passed between inputs that are all in memory and outputs to what the outputs have.
+-- The outputs of a run over inputs that are all in memory contain the records of its outcomes.
 use native.Mathlib.Omega.{arith}
 use Rattle.std.proofs.lemmas.{Grind.common_steps, Bool.Decides.nat_tests}
 use Rattle.std.{proofs.Common.{◌≡◌, ℕ, Bool, List, [], ◌++◌, All, None, Result, Ok, Err, IfOk, OnOk, subst, sym}, specs.Io.KnownBytes.Appends}

@@ -10,7 +10,7 @@ module _ {X : Type 0} (xs : List X) (f : X → List ℕ) (last : List ℕ) (i : 
   abbrev pub so_far : List ℕ
   so_far = flat_map f (take i xs)
 
-  -- One more piece.
+  -- One more piece has been written.
   so_far_more : (x : X) → i < length xs → x ≡ get_or xs i x → so_far ++ f x ≡ flat_map f (take (i + 1) xs)
   so_far_more x within is = grind (arith, common_steps, nat_tests, flat_map, take_more, flat_map-append, append-nil)
 

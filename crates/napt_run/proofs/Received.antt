@@ -1,4 +1,4 @@
--- From what was read and what was made to what the devices show.
+-- The clauses for devices follow from the captures that were read and the texts that were made.
 use native.Mathlib.Omega.{arith}
 use Rattle.std.proofs.{lemmas.{Grind.common_steps, Bool.{Decides.nat_tests, cases_Bool, le-leb, lt-leb}}, Math.Nat.lt_of_not-le}
 use Rattle.std.proofs.Common.{◌≡◌, ℕ, ◌+◌, refl, sym, ap, ap₂, ◌∙◌, subst, List, [], string_bytes, Option, Some, None, IfSome, IfErr, Result, Ok, Err}
@@ -72,7 +72,7 @@ texts_known x origin inside outside captures first second few =
 
 -- THE RESULT
 
--- What a result says of both captures, and what a fault says of each.
+-- A result explains both captures, and a fault explains each.
 pub record Answered (origin : OriginModel) (inside outside : Option (List ℕ))
     (result : Result (Unit {0}) Fault) : Type 0 where
   pub answer : IfKnown inside outside (λ bytes others. Answers (texts_from origin bytes others) result)
@@ -181,7 +181,7 @@ text_is : (which : Which) (origin : OriginModel) (captures : CaptureFiles) (outp
     AreOutputs origin captures outputs → text_of which outputs ≡ text_to which (texts_made origin captures)
 text_is which origin captures outputs made = grind (arith, common_steps, nat_tests)
 
--- What an output received of its text.
+-- An output received its share of its text.
 pub received : (which : Which) (share : OutputShare) (origin : OriginModel) (inside outside : Option (List ℕ))
     (captures : CaptureFiles) (outputs : CaptureOutputs)
     (told : List ℕ) (old new : Option (List ℕ)) → AreMade origin inside outside captures →
@@ -190,7 +190,7 @@ pub received : (which : Which) (share : OutputShare) (origin : OriginModel) (ins
 received which share origin inside outside captures outputs told old new known made is got =
     grind (arith, common_steps, nat_tests, IfKnown-more, text_is)
 
--- What a fault of writing an output says of the outputs before it.
+-- The outputs before one whose writing failed are complete.
 pub before_inside : (fault : Fault) → IsWriteFaultOf Inside fault → share_of Outside (Err fault) ≡ whole
 before_inside fault is = grind (arith, common_steps, nat_tests)
 

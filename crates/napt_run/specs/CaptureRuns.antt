@@ -1,4 +1,4 @@
--- What a run from arrivals to departures does to its outputs and its log, by its result.
+-- The effect of a run, from arrivals to departures, on its outputs and its log, by its result.
 use Rattle.std.specs.Prelude.{◌≡◌, ◌⊎◌, ◌^◌, ◌<◌, Bool, List, ◌++◌, length, Option, None, Some, Result, Ok, Err}
 use Rattle.napt_capture.specs.declared.device.Sink as sink
 use Rattle.napt_capture.specs.declared.device.Source as source
@@ -15,7 +15,7 @@ use Rattle.napt_run.specs.declared.capture_run.RunTotals.{RunTotals}
 
 -- THE OUTPUTS
 
--- The first of these outcomes were taken, and the fault came while the others were.
+-- The outputs took the first of these outcomes, and the fault came with the others.
 pub record FailsAfter {W V : Type 0} {S : sink.Ghosts W} {T : sink.Ghosts V} (before : OutcomeWriter W V S T)
     (went : List TimedOutcome) (fault : Fault) (after : OutcomeWriter W V S T) : Type 0 where
   pub first : List TimedOutcome
@@ -29,7 +29,7 @@ module _ {A F W V : Type 0} {S : sink.Ghosts W} {T : sink.Ghosts V} (origin : Or
     (hands : A → List Arrival → A → Type 0) (ends : A → Option F → A → Type 0) (from : A)
     (before : OutcomeWriter W V S T)
     (left : A) (after : OutcomeWriter W V S T) where
-  -- The arrivals ended or failed, and the outcomes of the inputs before that were taken.
+  -- The arrivals ended or failed, and the outputs took the outcomes of all inputs before that.
   pub record RunPassesTo (end : Option F) : Type 0 where
     pub inputs : List Arrival
     pub came : InputsCame hands ends from inputs end left
@@ -42,7 +42,7 @@ module _ {A F W V : Type 0} {S : sink.Ghosts W} {T : sink.Ghosts V} (origin : Or
     pub bindings : passed.bindings.items ≡ (ran_by origin whole.inputs).bindings
     pub leaves : GivesState origin whole.inputs passed
 
-  -- An output failed, and what left before is the first of what leaves.
+  -- An output failed, and the outcomes that left are the first outcomes of the run.
   pub record RunPassesEarly (fault : Fault) : Type 0 where
     pub inputs : List Arrival
     pub went : List TimedOutcome
@@ -101,14 +101,14 @@ module _ {P A F K : Type 0} (tells : Passage → P) (origin : OriginModel) (hand
     pub entered : enters old (legs_told tells origin inputs) new
     pub settled : is_settled new
 
-  -- The first of the inputs that came were recorded.
+  -- The log recorded the first of the inputs that came.
   pub record EntersFirst : Type 0 where
     pub first : List Arrival
     pub later : List Arrival
     pub come : HasCome hands ends from (first ++ later) left
     pub entered : enters old (legs_told tells origin first) new
 
-  -- Or it failed over them.
+  -- The log failed over the first of the inputs that came.
   pub record FailsFirst (fault : Fault) : Type 0 where
     pub first : List Arrival
     pub later : List Arrival
@@ -126,7 +126,7 @@ module _ {P A K : Type 0} (open_gate : Bool) (tells : Passage → P) (origin : O
     (hands : A → List Arrival → A → Type 0) (ends : A → Option SideFault → A → Type 0)
     (enters : K → List (Legs P) → K → Type 0) (fails : K → List (Legs P) → Fault → K → Type 0)
     (is_settled : K → Type 0) (from : A) (old : K) (left : A) (new : K) where
-  -- The same holds of a run over captures, whose fault may be one of its log.
+  -- The same is true for a run over captures, whose fault may be one of its log.
   abbrev pub EntersOr : Result RunTotals Fault → Type 0
   EntersOr (Ok totals) = EntersTo tells origin hands ends enters fails is_settled from old left new None
   EntersOr (Err (Capture side fault)) =

@@ -1,5 +1,5 @@
--- What a run over captures writes: texts, from texts. Nothing is claimed of the bytes of a reader or a writer that are
--- not known.
+-- The texts that a run over captures writes, from the texts that it reads. Nothing is claimed of the bytes of a reader
+-- or a writer that are not known.
 use Rattle.std.specs.Prelude.{◌≡◌, ⊤, ℕ, ◌+◌, ◌≤◌, ◌^◌, nat_le, if◌then◌else◌, List, [], length, take, IfSome, IsOk, IsOkAnd, string_bytes, Option, Result, Ok, Err}
 use Rattle.std.specs.Io.KnownBytes.{Appends}
 use Rattle.napt_wire.specs.declared.Side.{Side}
@@ -14,7 +14,7 @@ use Rattle.napt_sequential.specs.declared.fault.RunFault.TheVariants.{Memory, To
 use Rattle.napt_run.specs.{Origins.{GivesState, OriginModel, initial_origin, ran_by}, declared.captures.{CaptureFiles.CaptureFiles, CaptureOutputs.CaptureOutputs}}
 use Rattle.napt_rules.specs.Prelude.{Arrival}
 
--- WHAT IS READ: the inside capture first
+-- READING: the inside capture first
 
 abbrev pub both_by : Result CaptureModel CaptureFault → Result CaptureModel CaptureFault → Result CaptureFiles Fault
 both_by (Ok inside) (Ok outside) = Ok (record { inside = inside; outside = outside })
@@ -26,7 +26,7 @@ read_both inside outside = both_by (read_whole inside) (read_whole outside)
 
 -- FROM BYTES TO BYTES
 
--- What a run writes: the captures to both sides, and the report.
+-- The texts that a run writes: the captures to both sides, and the report.
 pub record RunTexts : Type 0 where
   pub outside : List ℕ
   pub inside : List ℕ
@@ -57,11 +57,11 @@ texts_by origin (Ok captures) =
 abbrev pub texts_from : OriginModel → List ℕ → List ℕ → Result RunTexts Fault
 texts_from origin inside outside = texts_by origin (read_both inside outside)
 
--- The texts of a run from the opening list of a configuration.
+-- Returns the texts of a run from the opening list of a configuration.
 abbrev pub texts : Rules → List ℕ → List ℕ → Result RunTexts Fault
 texts rules inside outside = texts_from (initial_origin rules) inside outside
 
--- WHAT A DEVICE GETS
+-- THE SHARE OF A DEVICE
 
 abbrev pub text_to : Which → RunTexts → List ℕ
 text_to Outside all = all.outside
@@ -69,14 +69,14 @@ text_to Inside all = all.inside
 text_to Report all = all.report
 text_to Log all = []
 
--- How much of its text an output gets.
+-- The part of its text that an output gets.
 pub data OutputShare : Type 0 where
   whole : OutputShare
   front : ℕ → OutputShare
   nothing : OutputShare
 
--- The outputs to the outside, to the inside and the report are written in this order, and nothing after a fault of a
--- capture or of the run.
+-- Returns the share of an output: to the outside, to the inside and the report are written in this order, and nothing
+-- after a fault of a capture or of the run.
 abbrev pub share_of : Which → Result (Unit {0}) Fault → OutputShare
 share_of which (Ok done) = whole
 share_of which (Err (Capture side fault)) = nothing
@@ -97,7 +97,7 @@ OutputReceives whole text old new = Appends old new text
 OutputReceives (front written) text old new = (written ≤ length text) × Appends old new (take written text)
 OutputReceives nothing text old new = new ≡ old
 
--- If the bytes of both captures are known.
+-- The relation is true of the bytes of both captures, if they are known.
 abbrev pub IfKnown : Option (List ℕ) → Option (List ℕ) → (List ℕ → List ℕ → Type 0) → Type 0
 IfKnown inside outside Holds = IfSome inside (λ bytes. IfSome outside (λ others. Holds bytes others))
 
@@ -109,7 +109,7 @@ GetsFrom origin which nothing inside outside old new = new ≡ old
 GetsFrom origin which share inside outside old new = IfKnown inside outside (λ bytes others.
     IsOkAnd (texts_from origin bytes others) (λ all. OutputReceives share (text_to which all) old new))
 
--- What is returned gives the state that the run leaves.
+-- The returned summary gives the state at the end of the run.
 abbrev pub OutputIsLeft : OriginModel → Option (List ℕ) → Option (List ℕ) → RunSummary → Type 0
 OutputIsLeft origin inside outside passed = IfKnown inside outside (λ bytes others.
     IsOkAnd (read_both bytes others) (λ captures. GivesState origin (arrivals_of captures) passed))
@@ -131,12 +131,12 @@ Answers all (Err (Run Memory)) = IsOk all
 Answers all (Err (Run (Pool fault))) = IsOk all
 Answers all (Err (Write which fault)) = IsOk all
 
--- What a fault says of each capture alone, if only its bytes are known: the inside one is read first, and the run
--- starts once both are read.
+-- The bytes of a capture, if they are known, can be read. Faults say this of each capture alone: the inside one is read
+-- first, and the run starts once both are read.
 abbrev pub IsReadable : Option (List ℕ) → Type 0
 IsReadable known = IfSome known (λ bytes. IsOk (read_whole bytes))
 
--- Reading the bytes gives this fault, unless the device failed or memory was refused, which is taken for records alone.
+-- Reading the bytes gives this fault, unless the device failed or memory, taken only for records, was refused.
 abbrev pub IsFaultIn : Option (List ℕ) → CaptureFault → Type 0
 IsFaultIn known fault = IsReadFault fault (IfSome known (λ bytes. read_whole bytes ≡ Err fault)) ×
     IsForRecords known fault
@@ -148,7 +148,7 @@ Explains inside outside (Run fault) = IsReadable inside × IsReadable outside
 Explains inside outside (Write Log fault) = ⊥
 Explains inside outside (Write which fault) = IsReadable inside × IsReadable outside
 
--- The number of failed reads of a side's capture, and of failed writes of an output.
+-- Returns the number of failed reads of a side's capture, and of failed writes of an output.
 abbrev pub failed_readings : {T : Type 0} → Side → Result T Fault → ℕ
 failed_readings side (Ok done) = 0
 failed_readings sides.Inside (Err (Capture sides.Inside fault)) = let answer : Result CaptureModel CaptureFault =
@@ -177,14 +177,14 @@ CaptureIsUnread sides.Inside known (Capture sides.Inside fault) = IsFaultIn know
 CaptureIsUnread sides.Outside known (Capture sides.Outside fault) = IsFaultIn known fault
 CaptureIsUnread side known other = ⊥
 
--- The outputs made for these captures.
+-- The outputs are those of a run over these captures.
 pub record AreOutputs (origin : OriginModel) (captures : CaptureFiles) (outputs : CaptureOutputs) : Type 0 where
   pub to_outside : outputs.to_outside ≡ (texts_made origin captures).outside
   pub to_inside : outputs.to_inside ≡ (texts_made origin captures).inside
   pub report : string_bytes outputs.report ≡ (texts_made origin captures).report
   pub leaves : GivesState origin (arrivals_of captures) outputs.passed
 
--- The output that goes to a side.
+-- Returns the output that goes to a side.
 abbrev pub output_to : Side → Which
 output_to sides.Inside = Inside
 output_to sides.Outside = Outside

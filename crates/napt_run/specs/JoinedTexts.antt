@@ -1,5 +1,5 @@
--- LAW, from bytes to bytes: where captures are cut in two, a run over the first parts and one over the rest, from the
--- state that the first one leaves as it is saved, write what a run over the whole captures writes.
+-- LAW, from bytes to bytes: if captures are cut in two, a run over the first parts, and a run over the rest from the
+-- saved state of the first run, write the texts of a run over the whole captures.
 use Rattle.std.specs.Prelude.{◌≡◌, ℕ, ◌<◌, ◌^◌, List, ◌++◌, drop, length, Result, Ok}
 use Rattle.napt_capture.specs.Text.{file_header}
 use Rattle.napt_config.specs.Rules.{Rules, RulesInvariant}
@@ -7,20 +7,20 @@ use Rattle.napt_records.specs.{declared.Fault.Fault, Report.report_text}
 use Rattle.napt_rules.specs.Prelude.{Each, IsStateInOrder, State, TakesState, inputs_from_clock, last_clock, next_state, run_then, with_redirects}
 use Rattle.napt_run.specs.{Captures.{RunTexts, arrivals_of, read_both, texts_from}, Origins.{OriginModel, ran_by, resumed_origin}, declared.captures.CaptureFiles.CaptureFiles}
 
--- The records of the captures are those of their first parts and then those of the rest, and so are the inputs of a run
--- over them. `captures_can_be_cut` says that captures can be cut so after each input.
+-- The records of the captures are those of their first parts, followed by those of the rest, and so are the inputs of a
+-- run over them. `captures_can_be_cut` says that captures can be cut in this way after each input.
 pub record AreCutInto (whole first rest : CaptureFiles) : Type 0 where
   pub inside : whole.inside.records ≡ first.inside.records ++ rest.inside.records
   pub outside : whole.outside.records ≡ first.outside.records ++ rest.outside.records
   pub inputs : arrivals_of whole ≡ arrivals_of first
       ++ inputs_from_clock (last_clock 0 (arrivals_of first)) (arrivals_of rest)
 
--- The records of a capture, as they are written.
+-- Returns the records of a capture, as they are written.
 abbrev pub records_in : List ℕ → List ℕ
 records_in bytes = drop (length file_header) bytes
 
--- What a run writes of the whole captures is what the two write. The report is that of both together; the one clause
--- for it is that of `saved_runs_go_on`, whose rows have numbers of 16 bits.
+-- The two runs write the texts of a run over the whole captures. The report is that of both together; its one premise
+-- is that of `saved_runs_go_on`, whose rows have numbers of 16 bits.
 pub record AreJoined (origin later : OriginModel) (whole first rest : CaptureFiles) (all : RunTexts)
     (of_first of_rest : Result RunTexts Fault) : Type 0 where
   pub texts : RunTexts

@@ -1,4 +1,4 @@
--- If a run fails at its end, its outputs are as they are after success, and so is its log if the report fails.
+-- If a run fails at its end, its outputs are the same as after success, and so is its log if the report fails.
 use Rattle.std.specs.{Prelude.{◌≡◌, ◌≤◌, ℕ, List, length, take, Option, Some, None, Result, Ok, Err, refl}, Io.KnownBytes.Appends}
 use Rattle.std.proofs.Common.{inl, subst, sym}
 use Rattle.napt_capture.specs.declared.device.Sink.{Ghosts}
@@ -15,8 +15,7 @@ held P Q None outside more p = p
 held P Q (Some bytes) None more p = p
 held P Q (Some bytes) (Some others) more p = more (files_until bytes others) p
 
--- An output of a run that succeeded, if the run failed after that: its text and its number of failed calls are the
--- same.
+-- If a run that succeeded fails after that, the text of an output and its number of failed calls are the same.
 module _ {D : Type 0} (S : Ghosts D) (texts : LogTexts) (which : Which) (inside outside : Option (List ℕ))
     (old new : D) where
   pub after_success : (result : Result (Unit {0}) Fault) → output_text_by texts result ≡ texts.whole →

@@ -1,4 +1,4 @@
--- What the log of a run over captures that are read as they arrive was entered.
+-- The inputs that a run over captures, read as they arrive, recorded in its log.
 use Rattle.std.specs.Prelude.{◌≡◌, ◌⊎◌, ⊤, ℕ, Bool, List, Option, map, Result, Ok, Err}
 use Rattle.napt_wire.specs.declared.Side.{Side}
 use Rattle.napt_capture.specs.declared.fault.CaptureFault.{CaptureFault}
@@ -17,12 +17,12 @@ Legs P = ℕ × P × P
 abbrev pub traces_by : OriginModel → List Arrival → List Trace
 traces_by origin inputs = traces_of origin.rules origin.state inputs
 
--- The traces of the legs of these inputs in a run.
+-- Returns the traces of the legs of these inputs in a run.
 abbrev pub legs_told : {P : Type 0} → (Passage → P) → OriginModel → List Arrival → List (Legs P)
 legs_told tells origin inputs =
     map (λ trace. (trace.now, tells trace.first, tells trace.second)) (traces_by origin inputs)
 
--- A log failed: it could not be written, or its entries could not be kept.
+-- A log failed: it could not be written, or memory for its entries was refused.
 abbrev pub IsLogFault : Fault → Type 0
 IsLogFault (Write Log fault) = ⊤
 IsLogFault (Run fault) = ⊤
@@ -52,7 +52,7 @@ module _ {P K : Type 0} (tells : Passage → P) (origin : OriginModel) (enters :
     pub front : IfHeld inside outside (λ all. IsFrontOf inputs all.arrivals)
     pub entered : enters old (legs_told tells origin inputs) new
 
-  -- The log has the first ones of the inputs, and failed over them.
+  -- The log recorded the first of the inputs, and then failed.
   pub record LogFailsOver (fault : Fault) : Type 0 where
     pub inputs : List Arrival
     pub front : IfHeld inside outside (λ all. IsFrontOf inputs all.arrivals)

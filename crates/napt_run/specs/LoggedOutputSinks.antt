@@ -1,4 +1,4 @@
--- What leaves during a run, and what that does to the log and then to the outputs.
+-- The results that leave during a run, and their effects on the log and then on the outputs.
 use Rattle.std.{specs.Prelude.{◌≡◌, ◌⊎◌, ℕ, List, [], ◌++◌, map, refl}, proofs.{Common.{sym, ◌∙◌, subst}, lemmas.List.map-append}}
 use Rattle.napt_capture.specs.declared.device.Sink.{Ghosts}
 use Rattle.napt_dispatch.specs.declared.outcome_sink.InputResult.{InputResult}
@@ -6,25 +6,25 @@ use Rattle.napt_run.specs.{OutputSinks.{IsOfOutput, SinkFails, IsSettled, SinkTa
 use Rattle.napt_records.specs.declared.Fault.{Fault}
 use Rattle.napt_run.specs.declared.logged_output_sinks.LoggedOutcomeWriter.{LoggedOutcomeWriter}
 
--- The outcomes of what left, with the arrival times of their inputs.
+-- Returns the outcomes of results that left, with the arrival times of their inputs.
 abbrev pub outcomes_in : {P : Type 0} → List (ℕ × InputResult P) → List TimedOutcome
 outcomes_in all = map (λ left. (left.0, left.1.outcome)) all
 
--- The traces of the legs of what left.
+-- Returns the traces of the legs of results that left.
 abbrev pub legs_in : {P : Type 0} → List (ℕ × InputResult P) → List (Legs P)
 legs_in all = map (λ left. (left.1.now, left.1.first, left.1.second)) all
 
 module _ {W V K : Type 0} {S : Ghosts W} {T : Ghosts V} where
-  -- Its log is at the same place.
+  -- Both logs write to the same device.
   abbrev pub IsSameSinkPlace : LoggedOutcomeWriter W V K S T → LoggedOutcomeWriter W V K S T → Type 0
   IsSameSinkPlace old new = new.log.ghost_name ≡ old.log.ghost_name
 
-  -- All that left is flushed, the log too.
+  -- All that left is flushed, and so is the log.
   abbrev pub AreSettled : (K → Type 0) → LoggedOutcomeWriter W V K S T → Type 0
   AreSettled is_settled it = IsSettled it.leaving × is_settled it.log.now
 
 module _ {P W V K : Type 0} {S : Ghosts W} {T : Ghosts V} where
-  -- All that left was recorded in the log, and the outputs have its records.
+  -- All that left was recorded in the log, and the outputs contain its records.
   pub record TakesBoth (enters : K → List (Legs P) → K → Type 0) (old : LoggedOutcomeWriter W V K S T)
       (all : List (ℕ × InputResult P)) (new : LoggedOutcomeWriter W V K S T) : Type 0 where
     pub took : SinkTakes old.leaving (outcomes_in all) new.leaving
@@ -39,7 +39,7 @@ module _ {P W V K : Type 0} {S : Ghosts W} {T : Ghosts V} where
     pub entered : enters old.log.now (legs_in all) new.log.now
     pub same : IsSameSinkPlace old new
 
-  -- The log failed, and no output has more than before.
+  -- The log failed, and no output contains more than before.
   pub record FailsLog (fails : K → List (Legs P) → Fault → K → Type 0) (old : LoggedOutcomeWriter W V K S T)
       (all : List (ℕ × InputResult P)) (fault : Fault) (new : LoggedOutcomeWriter W V K S T) : Type 0 where
     pub of_log : IsLogFault fault

@@ -1,4 +1,4 @@
--- What leaves in two parts can be taken as one part.
+-- Outcomes that leave in two parts can be taken as one part.
 use Rattle.std.specs.Prelude.{◌≡◌, ℕ, ◌+◌, ◌-◌, ◌^◌, ◌<◌, min, List, [], ◌∷◌, ◌++◌, length, take, map, filter_map, flat_map, Option, Some, None, refl}
 use Rattle.std.proofs.Common.{sym, ◌∙◌, ap, subst, append-nil, append_assoc, arith, length-append, add_assoc, add-zero}
 use Rattle.std.{proofs.{Math.{Nat.{lt_of_le_of_lt, le-add_right}, Seq.take-append-add}, KnownBytes.Appends-trans}, specs.Io.KnownBytes.Appends}
@@ -58,7 +58,7 @@ module _ {W : Type 0} {S : Ghosts W} where
     kept = two.kept ∙ one.kept;
   }
 
--- A fault after what was written.
+-- A fault after a text that was written is a fault of the whole text.
 module _ {W : Type 0} {S : Ghosts W} where
   unfoldable pub breaks_more : (x y z : Output W S) (first second : List ℕ) (fault : WriteFault) →
       OutputGrows x first y →

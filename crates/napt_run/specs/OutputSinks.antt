@@ -1,4 +1,4 @@
--- What leaves during a run, and what that does to the outputs.
+-- The outcomes that leave during a run, and their effects on the outputs.
 use Rattle.std.specs.Prelude.{◌≡◌, ⊤, ℕ, ◌^◌, ◌<◌, List, [], ◌++◌, length, map, filter_map, flat_map, All, false, Result, Ok, Err}
 use Rattle.napt_wire.specs.declared.Side.{Side}
 use Rattle.napt_wire.specs.declared.Side.TheVariants as sides
@@ -12,7 +12,7 @@ use Rattle.napt_run.specs.{Outputs.{OutputGrows, Breaks}, declared.output_sinks.
 abbrev pub TimedOutcome : Type 0
 TimedOutcome = ℕ × Outcome
 
--- The text of the records that go to a side.
+-- Returns the text of the records that go to a side.
 abbrev pub records_text : Side → List TimedOutcome → List ℕ
 records_text side all = flat_map record_text (filter_map (λ timed. record_at timed.0 (packet_to side timed.1)) all)
 
@@ -24,7 +24,7 @@ abbrev pub AreOutputsSound : {W V : Type 0} {S : Ghosts W} {T : Ghosts V} → Ou
 AreOutputsSound leaving = (leaving.to_outside.is_broken ≡ false) × (leaving.to_inside.is_broken ≡ false)
 
 module _ {W V : Type 0} {S : Ghosts W} {T : Ghosts V} where
-  -- These outcomes left: each output has its records of them, and they are counted.
+  -- These outcomes left: each output contains its records of them, and they are counted.
   pub record SinkTakes (old : OutcomeWriter W V S T) (all : List TimedOutcome) (new : OutcomeWriter W V S T)
       : Type 0 where
     pub to_outside : AreTimes all → OutputGrows old.to_outside (records_text sides.Outside all) new.to_outside
@@ -32,7 +32,7 @@ module _ {W V : Type 0} {S : Ghosts W} {T : Ghosts V} where
     pub counts : (outcomes : List Outcome) → length (outcomes ++ map (λ timed. timed.1) all) < 2 ^ 64 →
         AreCountsOf outcomes old.counts → AreCountsOf (outcomes ++ map (λ timed. timed.1) all) new.counts
 
-  -- An output failed while these left, and the other one has nothing more, or all of them.
+  -- An output failed while these outcomes left, and the other output contains none of them, or all.
   abbrev pub FailsBy : OutcomeWriter W V S T → List TimedOutcome → Fault → OutcomeWriter W V S T → Type 0
   FailsBy old all (Write Outside fault) new =
       Breaks old.to_outside (records_text sides.Outside all) fault new.to_outside
@@ -51,7 +51,7 @@ module _ {W V : Type 0} {S : Ghosts W} {T : Ghosts V} where
     pub to_inside : OutputGrows old.to_inside file_header new.to_inside
     pub counts : new.counts ≡ old.counts
 
-  -- Writing a header failed; the one to the outside is written first.
+  -- Writing a header failed; the header of the output to the outside is written first.
   abbrev pub FailsToBegin : OutcomeWriter W V S T → Fault → OutcomeWriter W V S T → Type 0
   FailsToBegin old (Write Outside fault) new =
       Breaks old.to_outside file_header fault new.to_outside × (new.to_inside ≡ old.to_inside)
@@ -70,7 +70,7 @@ IsOfOutput (Write Outside fault) = ⊤
 IsOfOutput (Write Inside fault) = ⊤
 IsOfOutput other = ⊥
 
--- The result of a call of an output, with the name of the output.
+-- Returns the result of a call of an output, with the name of the output.
 abbrev pub named : Which → Result (Unit {0}) WriteFault → Result (Unit {0}) Fault
 named which (Ok done) = Ok done
 named which (Err fault) = Err (Write which fault)

@@ -1,4 +1,4 @@
--- What a call of an output does.
+-- The effects of a call of an output.
 use Rattle.std.specs.{Prelude.{◌≡◌, ℕ, ◌+◌, ◌-◌, ◌^◌, ◌≤◌, min, List, length, take, true, false}, Io.KnownBytes.Appends}
 use Rattle.napt_capture.specs.declared.{device.Sink.Ghosts, fault.WriteFault.WriteFault}
 use Rattle.napt_run.specs.declared.output.Output.{Output}

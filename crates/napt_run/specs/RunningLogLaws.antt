@@ -1,4 +1,4 @@
--- What is recorded in a log in two parts can be taken as one part.
+-- Inputs that are recorded in a log in two parts can be taken as one part.
 use Rattle.std.{specs.Prelude.{◌≡◌, ℕ, List, [], ◌∷◌, ◌++◌, Option, Some, None}, proofs.{Common.{refl, sym, ◌∙◌, ap, subst, append-nil, append_assoc}, lemmas.List.map-append}}
 use Rattle.napt_capture.specs.declared.device.Sink.{Ghosts}
 use Rattle.napt_config.specs.Rules.{Rules}

@@ -1,4 +1,4 @@
--- What the log of a run does while its outcomes leave.
+-- The effect of a run on its log while outcomes leave.
 use Rattle.std.specs.Int.NonZero.{non_zero_u32_get}
 use Rattle.std.specs.Io.KnownBytes.{Appends}
 use Rattle.std.specs.Prelude.{◌≡◌, ◌⊎◌, ℕ, ◌+◌, ◌<◌, ◌^◌, Bool, List, [], ◌∷◌, ◌++◌, length, map, false, if◌then◌else◌, Option, Some, None, option_map, string_bytes, Result, Ok, Err}
@@ -11,7 +11,7 @@ use Rattle.napt_sequential.specs.declared.{fault.RunFault.RunFault, passage.{Pas
 use Rattle.napt_rules.specs.Prelude.{Arrival}
 use Rattle.napt_run.specs.{LogOrigins.LoggedOrigin, LogRuns.{Legs, traces_by}, Origins.OriginModel, Outputs.{Breaks, OutputGrows}, declared.{output.Output.Output, log_writer.LogWriter.LogWriter}}
 
--- What follows for a log from the effects of the legs of inputs.
+-- The laws of a log that follow from the effects of the legs of inputs.
 pub record AreLaws (origin : OriginModel) (log : LogModel) : Type 0 where
   pub rows : (each : Option ℕ) (inputs : List Arrival) →
       rows_by origin.rules each None origin.state.clock log (traces_by origin inputs)
@@ -20,12 +20,12 @@ pub record AreLaws (origin : OriginModel) (log : LogModel) : Type 0 where
       log_after log (traces_by origin inputs) ≡ log_on origin.rules origin.state log inputs
   pub come : EffectsComeFrom origin.rules origin.state log
 
--- The time of the last of these traces, or the given time if there are none.
+-- Returns the time of the last of these traces, or the given time if there are none.
 abbrev pub last_trace_time : ℕ → List Trace → ℕ
 last_trace_time now [] = now
 last_trace_time now (trace ∷ traces) = last_trace_time trace.now traces
 
--- The same, if there may have been no time before them.
+-- Returns the time of the last of these traces, or the given time, if any.
 abbrev pub last_time : Option ℕ → List Trace → Option ℕ
 last_time last [] = last
 last_time last (trace ∷ traces) = last_time (Some trace.now) traces
@@ -34,11 +34,11 @@ last_time last (trace ∷ traces) = last_time (Some trace.now) traces
 abbrev pub FailsMore : Bool → ℕ → ℕ → Type 0
 FailsMore is_broken old new = (new ≡ old) ⊎ ((is_broken ≡ false) × (new ≡ old + 1))
 
--- The traces of inputs, from the passages of their legs.
+-- Returns the traces of inputs, from the passages of their legs.
 abbrev pub running_log_traces : List (Legs Passage) → List Trace
 running_log_traces all = map (λ legs. record { now = legs.0; first = legs.1; second = legs.2 }) all
 
--- The log after these traces, and the rows of the traces that come then.
+-- Returns the log after these traces, and the rows of the traces after them.
 abbrev pub known_logs : LoggedOrigin → List Trace → LogBuilderModel
 known_logs from traces = record {
   rules = from.origin.rules;
@@ -52,7 +52,7 @@ abbrev pub rows_in : LoggedOrigin → List Trace → List Trace → TimeText
 rows_in from before traces = rows_by from.origin.rules from.each (last_time None before)
     (last_trace_time from.origin.state.clock before) (log_after from.log before) traces
 
--- The rows of the live bindings at the end, and what is kept then.
+-- Returns the rows of the live bindings at the end, or no text if another run continues.
 abbrev pub ending_with : LoggedOrigin → List Trace → TimeText
 ending_with from traces = if from.goes_on then []
     else living_rows from.origin.rules
@@ -61,12 +61,12 @@ ending_with from traces = if from.goes_on then []
 abbrev pub left_with : LoggedOrigin → List Trace → LogModel
 left_with from traces = kept_at (last_trace_time from.origin.state.clock traces) (log_after from.log traces)
 
--- The beginning of a piece, if one begins with an input after these.
+-- Returns the beginning of a piece, if one begins with an input after these traces.
 abbrev pub opening_before : LoggedOrigin → List Trace → ℕ → TimeText
 opening_before from before now =
     piece_opening from.origin.rules from.each (last_time None before) now (left_with from before)
 
--- The rows of an input after these.
+-- Returns the rows of an input after these traces.
 abbrev pub input_rows : LoggedOrigin → List Trace → Trace → TimeText
 input_rows from before trace =
     let log : LogModel = log_after from.log before in
@@ -74,7 +74,7 @@ input_rows from before trace =
     (part_between (last_trace_time from.origin.state.clock before) trace.now log (after_input log trace))
 
 module _ {L : Type 0} {S : Ghosts L} where
-  -- The log took these traces, which are no more than it can count, and goes on.
+  -- The log recorded these traces, which are no more than it can count, and can continue.
   pub record LogIsAt (from : LoggedOrigin) (traces : List Trace) (it : LogWriter L S) : Type 0 where
     pub log : it.log ≡ known_logs from traces
     pub few : length traces < 2 ^ 62
@@ -82,7 +82,7 @@ module _ {L : Type 0} {S : Ghosts L} where
     pub each : option_map non_zero_u32_get it.each ≡ from.each
     pub goes_on : it.goes_on ≡ from.goes_on
 
-  -- A log as it is taken up at a state.
+  -- Returns the origin of a log that begins at a state.
   abbrev pub running_log_of : OriginModel → LogWriter L S → LoggedOrigin
   running_log_of origin it = record {
     origin = origin;
@@ -92,13 +92,13 @@ module _ {L : Type 0} {S : Ghosts L} where
     goes_on = it.goes_on;
   }
 
-  -- Nothing was entered, and nothing was written.
+  -- No trace was recorded, and nothing was written.
   pub record IsReady (origin : OriginModel) (it : LogWriter L S) : Type 0 where
     pub at : LogIsAt (running_log_of origin it) [] it
     pub laws : AreLaws origin it.log.log
     pub written : it.output.written ≡ 0
 
-  -- The log has taken these traces too, and this text was written.
+  -- The log has recorded these traces too, and this text was written.
   pub record LogGoesOnFrom (from : LoggedOrigin) (traces : List Trace) (text : TimeText) (old : Output L S)
       (new : LogWriter L S) : Type 0 where
     pub at : LogIsAt from traces new
@@ -109,7 +109,7 @@ module _ {L : Type 0} {S : Ghosts L} where
   Enters old traces new = (from : LoggedOrigin) (before : List Trace) → LogIsAt from before old →
       LogGoesOnFrom from (before ++ traces) (rows_in from before traces) old.output new
 
-  -- The log took the first of these traces and then failed.
+  -- The log recorded the first of these traces and then failed.
   pub record LogHalts (from : LoggedOrigin) (before traces : List Trace) (fault : RunFault) (old new : LogWriter L S) :
       Type 0 where
     pub first : List Trace
@@ -124,7 +124,7 @@ module _ {L : Type 0} {S : Ghosts L} where
   FailsBy from before traces (Run fault) old new = LogHalts from before traces fault old new
   FailsBy from before traces other old new = ⊥
 
-  -- Entering these traces failed.
+  -- Recording these traces failed.
   abbrev pub LogFails : LogWriter L S → List Trace → Fault → LogWriter L S → Type 0
   LogFails old traces fault new = (from : LoggedOrigin) (before : List Trace) → LogIsAt from before old →
       FailsBy from before traces fault old new
@@ -140,7 +140,7 @@ module _ {L : Type 0} {S : Ghosts L} where
   Adds from traces text old (Err (Write Log fault)) new = Breaks old text fault new.output
   Adds from traces text old (Err other) new = ⊥
 
-  -- The same holds of a text that is made first. If making it fails, nothing was written.
+  -- The same is true for a text that is made first. If making it fails, nothing was written.
   abbrev pub Closes : {T : Type 0} → LoggedOrigin → List Trace → TimeText → Output L S → Result T Fault →
       LogWriter L S →
       Type 0
@@ -162,14 +162,14 @@ module _ {L : Type 0} {S : Ghosts L} where
     pub tried : old.is_broken ≡ false →
         S.is_flushed new.device.now ⊎ (S.failed new.device.now ≡ S.failed old.device.now + 1)
 
-  -- That is done after a fault of the run, of a worker or of another output; after one of a capture it is flushed
-  -- already.
+  -- The log is flushed after a fault of the run, of a worker or of another output; after a fault of a capture it
+  -- already is.
   abbrev pub IsAfterFault : Fault → LogWriter L S → LogWriter L S → Type 0
   IsAfterFault (Capture side fault) old new = new ≡ old
   IsAfterFault (Write Log fault) old new = new ≡ old
   IsAfterFault other old new = FlushPost old.output new.output
 
-  -- The log took the next trace, and these are its rows.
+  -- The log recorded the next trace, and these are its rows.
   pub record EntersWith (from : LoggedOrigin) (before : List Trace) (trace : Trace) (old new : LogWriter L S)
       (text : TimeText) : Type 0 where
     pub log : new.log ≡ known_logs from (before ++ trace ∷ [])
@@ -179,7 +179,7 @@ module _ {L : Type 0} {S : Ghosts L} where
     pub goes_on : new.goes_on ≡ old.goes_on
     pub rows : text ≡ input_rows from before trace
 
-  -- Or the log failed.
+  -- The log failed at the next trace.
   abbrev pub EntersNot : LoggedOrigin → List Trace → Trace → LogWriter L S → Fault → LogWriter L S → Type 0
   EntersNot from before trace old (Run fault) new =
       (new.output ≡ old.output) × IsBuilderFault (known_logs from before) trace fault

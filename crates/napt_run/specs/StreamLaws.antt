@@ -4,7 +4,7 @@ use Rattle.napt_run.specs.Origins.{OriginModel}
 use Rattle.napt_records.specs.declared.Which.TheVariants.{Outside, Inside, Report}
 use Rattle.napt_run.specs.{Captures.{GetsFrom, whole}, Files.files_until, Posts.{OutputPost, capture_to}, Streams.Reports}
 
--- What `run_captures` and `run_streams` promise of an output, over the same bytes.
+-- An output has the same text after `run_captures` and `run_streams` over the same bytes.
 abbrev pub OutputsAreTheSame : Type 0
 OutputsAreTheSame = (origin : OriginModel) (inside outside : List ℕ) (old : List ℕ) (new other : Option (List ℕ)) →
     (GetsFrom origin Outside whole (Some inside) (Some outside) (Some old) new →
@@ -14,7 +14,7 @@ OutputsAreTheSame = (origin : OriginModel) (inside outside : List ℕ) (old : Li
     OutputPost (capture_to Inside origin) Inside (Ok tt) (files_until inside outside) (Some old) other →
     other ≡ new)
 
--- What they promise of the report.
+-- The report is the same after both.
 abbrev pub ReportsAreTheSame : Type 0
 ReportsAreTheSame = (origin : OriginModel) (inside outside : List ℕ) (old : List ℕ) (new other : Option (List ℕ)) →
     GetsFrom origin Report whole (Some inside) (Some outside) (Some old) new →

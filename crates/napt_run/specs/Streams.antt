@@ -1,5 +1,5 @@
--- What a run leaves over captures that are read as they arrive. Nothing is claimed of the bytes of a reader or a writer
--- that are not known.
+-- The effect of a run over captures that are read as they arrive. Nothing is claimed of the bytes of a reader or a
+-- writer that are not known.
 use Rattle.std.specs.Prelude.{◌≡◌, ℕ, ◌+◌, ◌≤◌, List, [], length, take, drop, Option, Result, Ok, Err, OnOk}
 use Rattle.std.specs.Io.KnownBytes.{Appends}
 use Rattle.napt_wire.specs.declared.Side.{Side}
@@ -15,9 +15,9 @@ use Rattle.napt_run.specs.{Captures.{IfKnown, failed_readings, failed_writings},
 use Rattle.napt_rules.specs.Prelude.{Arrival}
 use Rattle.napt_sequential.specs.declared.fault.RunFault.TheVariants as faults
 
--- WHAT IS WRITTEN
+-- WRITING
 
--- The text of a capture that a run over these inputs writes.
+-- Returns the text of a capture that a run over these inputs writes.
 abbrev pub capture_text : OriginModel → Side → List Arrival → List ℕ
 capture_text origin side inputs = text (records_to side inputs (ran_by origin inputs).outcomes)
 
@@ -27,7 +27,7 @@ side_of Inside = sides.Inside
 side_of Report = sides.Inside
 side_of Log = sides.Inside
 
--- The inputs before a fault of a side, or some first ones of them if its device or memory failed.
+-- These are the inputs before a fault of a side, or some first inputs if its device or memory failed.
 abbrev pub AreTaken : Side → CaptureFault → MergedInputs → List Arrival → Type 0
 AreTaken side fault all inputs =
     IsFrontOf inputs all.arrivals
@@ -35,7 +35,7 @@ AreTaken side fault all inputs =
 
 -- THE REPORT
 
--- What an output gets of a report.
+-- The output gets the report, or its first bytes if writing it failed.
 abbrev pub GetsReport : List ℕ → Result (Unit {0}) Fault → Option (List ℕ) → Option (List ℕ) → Type 0
 GetsReport report (Ok done) old new = Appends old new report
 GetsReport report (Err (Write Report fault)) old new =
@@ -60,14 +60,14 @@ Reports origin result inside outside old new =
 
 -- THE FAULT
 
--- A fault in a capture is one of its bytes, and no capture is too large.
+-- A fault in a capture is in its bytes, and no capture is too large.
 abbrev pub IsStreamFaultOf : Side → CaptureFault → MergedInputs → Type 0
 IsStreamFaultOf side Read all = Unit {0}
 IsStreamFaultOf side Memory all = Unit {0}
 IsStreamFaultOf side TooLarge all = ⊥
 IsStreamFaultOf side fault all = all.end ≡ Err (record { side = side; fault = fault })
 
--- A fault of the run itself, or of its log.
+-- The fault is one of the run itself, or of its log.
 abbrev pub IsOfRun : {T : Type 0} → Result T Fault → Type 0
 IsOfRun (Err (Run fault)) = Unit {0}
 IsOfRun (Err (Write Log fault)) = Unit {0}
@@ -80,7 +80,7 @@ IsSettledBy (Err (Capture side fault)) = Unit {0}
 IsSettledBy (Err (Write Report fault)) = Unit {0}
 IsSettledBy other = ⊥
 
--- A result without its value.
+-- Returns a result without its value.
 abbrev pub stream_ended : {T : Type 0} → Result T Fault → Result (Unit {0}) Fault
 stream_ended (Ok given) = Ok tt
 stream_ended (Err fault) = Err fault
@@ -93,14 +93,14 @@ IsOfReading (Ok done) = Unit {0}
 IsOfReading (Err (Capture side fault)) = Unit {0}
 IsOfReading other = ⊥
 
--- How reading ended; a fault of writing a capture does not say it.
+-- Reading ended with this result, which a fault of writing a capture does not contain.
 abbrev pub IsReading : {T : Type 0} → Result T Fault → Result (Unit {0}) Fault → Type 0
 IsReading (Ok done) read = read ≡ Ok tt
 IsReading (Err (Write Outside fault)) read = IsOfReading read
 IsReading (Err (Write Inside fault)) read = IsOfReading read
 IsReading (Err fault) read = read ≡ Err fault
 
--- The failed reads are those of how reading ended.
+-- The failed reads are those of the result of reading.
 abbrev pub HasRead : {T R Q : Type 0} → (R → ℕ) → (Q → ℕ) → R → R → Q → Q → Result T Fault → Type 0
 HasRead inside_failed outside_failed old new other_old other_new result =
     (read : Result (Unit {0}) Fault) × IsReading result read
@@ -109,14 +109,14 @@ HasRead inside_failed outside_failed old new other_old other_new result =
 
 -- THE DEVICES
 
--- What a run leaves on the device of the report.
+-- The device of the report gets the report, and fails at most once.
 pub record ReportGetsFrom {D : Type 0} (S : sink.Ghosts D) (origin : OriginModel) (inside outside : Option (List ℕ))
     (result : Result (Unit {0}) Fault) (old new : D) : Type 0 where
   pub gets : Reports origin result inside outside (S.contents old) (S.contents new)
   pub count : S.failed new ≡ S.failed old + failed_writings Report result
   pub settled : OnOk result (S.is_flushed new)
 
--- What is returned gives the state that the run leaves.
+-- The returned summary gives the state at the end of the run.
 abbrev pub LeavesInTheEnd : OriginModel → Option (List ℕ) → Option (List ℕ) → RunSummary → Type 0
 LeavesInTheEnd origin inside outside passed =
     IfKnown inside outside (λ bytes others. GivesState origin (files_until bytes others).arrivals passed)
@@ -132,7 +132,7 @@ pub record IsAfterHeader {R : Type 0} (G : Ghosts R) (records : RecordReader) (b
   pub ahead : records.ahead ≡ []
   pub number : records.number ≡ 1
 
--- A fault of a side's capture, by its header.
+-- The fault is one of the header of a side's capture.
 abbrev pub IsHeaderFault : Side → Option (List ℕ) → Option (List ℕ) → Fault → Type 0
 IsHeaderFault side old new (Capture other fault) =
     (other ≡ side) × (let answer : Result RecordReader CaptureFault = Err fault

@@ -1,4 +1,4 @@
--- What a run over inputs that are all in memory leaves.
+-- The end of a run over inputs that are all in memory.
 use Rattle.std.specs.Prelude.{◌≡◌, ℕ, List}
 use Rattle.napt_wire.specs.declared.Side.TheVariants as sides
 use Rattle.napt_capture.specs.declared.device.Sink.{Ghosts}
@@ -7,7 +7,7 @@ use Rattle.napt_records.specs.Counts.{AreCountsOf}
 use Rattle.napt_rules.specs.Prelude.{Arrival}
 use Rattle.napt_run.specs.{Outputs.OutputGrows, Runs.text_after, declared.{output_sinks.OutcomeWriter.OutcomeWriter, whole_captures.RunTally.RunTally}}
 
--- What a report says of these inputs, and the state that they leave.
+-- The tally has the counts of the report over these inputs, and gives the state after them.
 pub record IsTallyOf (origin : OriginModel) (inputs : List Arrival) (tally : RunTally) : Type 0 where
   pub counts : AreCountsOf (ran_by origin inputs).outcomes tally.counts
   pub bindings : tally.passed.bindings.items ≡ (ran_by origin inputs).bindings

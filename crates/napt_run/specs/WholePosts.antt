@@ -1,4 +1,4 @@
--- What a run that reads both captures whole, runs in memory and then writes does to its devices.
+-- The effect on its devices of a run that reads both captures whole, runs in memory and then writes.
 use Rattle.std.specs.Prelude.{◌≡◌, ℕ, ◌+◌, Bool, true, false, List, Option, Result, OnOk}
 use Rattle.napt_wire.specs.declared.Side.TheVariants as sides
 use Rattle.napt_capture.specs.declared.device.Sink as sink
@@ -7,7 +7,7 @@ use Rattle.napt_records.specs.{Faults.is_shut_gate_fault, declared.{Fault.Fault,
 use Rattle.napt_run.specs.{Captures.{Answers, Explains, GetsFrom, IfKnown, OutputIsLeft, failed_readings, failed_writings, share_of, texts_from}, Origins.OriginModel}
 use Rattle.napt_run.specs.declared.{devices.Devices.Devices, run_end.RunEnd.RunEnd}
 
--- An output has its share of its text.
+-- An output contains its share of its text.
 pub record WholePost {D : Type 0} (S : sink.Ghosts D) (which : Which) (origin : OriginModel)
     (inside outside : Option (List ℕ)) (result : Result (Unit {0}) Fault) (old new : D) : Type 0 where
   pub contents : GetsFrom origin which (share_of which result) inside outside (S.contents old) (S.contents new)
@@ -39,7 +39,7 @@ module _ {R Q W V U L : Type 0} (A : source.Ghosts R) (B : source.Ghosts Q) wher
     pub explained : Explains (A.remaining old.inside) (B.remaining old.outside) fault
     pub gate : open_gate ≡ true → is_shut_gate_fault fault ≡ false
 
-  -- The reads that failed are those that the result names.
+  -- The reads that failed are those of the result.
   pub record WholeReadsPost (old : Devices R Q W V U L) (result : Result (Unit {0}) Fault)
       (new : Devices R Q W V U L) : Type 0 where
     pub inside : A.failed new.inside ≡ A.failed old.inside + failed_readings sides.Inside result

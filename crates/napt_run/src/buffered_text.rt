@@ -1,4 +1,4 @@
-//! Bytes that are kept in memory until they are written.
+//! Bytes that remain in memory until they are written.
 ghost use Rattle.std.specs.{Prelude.{◌≡◌, ◌+◌, ◌-◌, ◌^◌, ◌<◌, ◌≤◌, [], ◌++◌, flat_map, length, take, IfOk, IfErr, OnOk, vec_len}, Io.KnownBytes.Appends};
 ghost use Rattle.napt_capture.specs.{Device.failed_calls, Writing.PutPost};
 
@@ -11,7 +11,8 @@ use std::mem;
 /// The number of bytes in a full piece.
 const PIECE: usize = 65_536;
 
-/// Bytes in memory, in the order in which they were written. They are in pieces, so that none is moved when more come.
+/// Bytes in memory, in the order in which they were written. They are in pieces, so that no byte is
+/// moved when more bytes come.
 #[derive(Drop)]
 pub(crate) struct BufferedText {
     alloc: Global,
@@ -64,7 +65,7 @@ fn write_piece<W: Sink>(device: &mut W, before: u64, piece: &[u8]) -> Result<u64
 }
 
 impl BufferedText {
-    /// Returns no bytes. Fails only if memory is refused.
+    /// Returns an empty buffer. Fails only if memory is refused.
     pub(crate) fn new(alloc: Global) -> Result<BufferedText, AllocError>
         ensures { IfOk result (λ kept. kept ≡ []) }
     {
@@ -78,7 +79,8 @@ impl BufferedText {
 
     /// Writes all bytes, and flushes them. It takes no memory.
     ///
-    /// Fails if a write fails or accepts nothing, or a flush fails. Exactly the first `written` bytes are then written.
+    /// Fails if a write fails or accepts nothing, or if a flush fails. Exactly the first `written`
+    /// bytes of the fault are then written.
     pub(crate) fn write_to<W: Sink>(&self, device: &mut W) -> Result<(), WriteFault>
         ensures ok { OnOk result
             (Appends (W.contents device.old) (W.contents device.new) self.now) }
@@ -101,7 +103,7 @@ impl Write for BufferedText {
 
     ghost contents = { λ kept. Some kept };
 
-    /// Keeps as many bytes from the front as the last piece has room for. Fails only if memory is refused.
+    /// Appends as many first bytes as the last piece has room for. Fails only if memory is refused.
     fn write(&mut self, bytes: &[u8]) -> io::Result<usize> {
         make_room(self.alloc, &mut self.full, &mut self.last)?;
         let count = bytes.len().min(PIECE - self.last.len());

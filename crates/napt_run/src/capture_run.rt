@@ -15,7 +15,7 @@ use napt_sequential::InputSource;
 use std::sync::Wait;
 use std::thread::Threads;
 
-/// What the report of a run is made from.
+/// The data from which the report of a run is made.
 #[derive(Drop)]
 pub struct RunTotals {
     pub(crate) counts: OutcomeCounts,

@@ -31,7 +31,7 @@ struct CaptureFiles {
     outside: Capture,
 }
 
-/// What a run writes, and what gives the state that it leaves.
+/// The outputs of a run, and the data from which the state at its end is made.
 #[derive(Drop)]
 struct CaptureOutputs {
     to_outside: BufferedText,
@@ -70,7 +70,7 @@ impl CaptureFiles {
     }
 }
 
-/// Runs over the captures, and makes everything to be written.
+/// Runs over the captures, and makes all outputs in memory.
 fn make_outputs<T: Threads + Wait + Copy + Send + 'static, G: Gate + Send + Sync + Drop + 'static>(
     setting: OriginSetting<'_, '_, T, G>,
     captures: CaptureFiles,
@@ -139,14 +139,14 @@ fn write_report<W: Sink>(output: &mut W, report: &str) -> Result<(), Fault>
     }
 }
 
-/// Translates both captures from a start, and writes the packets that leave to each side, and a report.
-/// The bytes are exactly those of the run on one thread, whatever the gate, the ring size or the
-/// schedule. Returns what the run leaves.
+/// Translates both captures from a start, and writes the packets that leave to each side, and a
+/// report. The bytes are exactly those of the run on one thread, whatever the gate, the ring size
+/// or the schedule. Returns the end of the run, from which the next run continues.
 ///
-/// Reads everything first. Then runs in memory, with one worker thread for each external address; each
-/// worker asks the gate before each leg, and the gate only decides when the worker goes on. The workers
-/// are closed and joined before a fault of the run is returned. Finally writes the outputs: to the
-/// outside, to the inside, the report.
+/// It first reads both captures. Then it runs in memory, with one worker thread for each external
+/// address; each worker asks the gate before each leg, and the gate only decides when the worker
+/// continues. The workers are closed and joined before a fault of the run is returned. Finally it
+/// writes the outputs, in this order: to the outside, to the inside, the report.
 ///
 /// # Errors
 ///
@@ -155,8 +155,9 @@ fn write_report<W: Sink>(output: &mut W, report: &str) -> Result<(), Fault>
 /// `Memory` if memory is refused, and with `Pool` if a worker could not be started or stopped early
 /// (never `GateShut` under a gate that is always open). After these faults nothing has been written.
 ///
-/// `Fault::Write` if writing that output failed. The outputs before it are complete, it has the first
-/// `written` bytes of its text, and those after it are untouched. It is never the log.
+/// `Fault::Write` if writing that output, never the log, failed. The outputs before it are
+/// complete, it contains the first `written` bytes of its text, and the outputs after it are
+/// untouched.
 pub fn run_captures<
     T: Threads + Wait + Copy + Send + 'static,
     R: Source,
@@ -197,7 +198,7 @@ pub fn run_captures<
     })
 }
 
-/// Does what `run_captures` does, over the devices one by one.
+/// Runs as `run_captures` does, over the devices one by one.
 fn run_whole<
     T: Threads + Wait + Copy + Send + 'static,
     R: Source,

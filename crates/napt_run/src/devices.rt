@@ -2,8 +2,8 @@
 
 use napt_capture::{Sink, Source};
 
-/// The devices of a run. `EmptySource` replaces a capture that is not given, `NullSink` an output that
-/// is not requested, and [`NoLog`](crate::NoLog) a log that is not kept.
+/// The devices of a run. `EmptySource` replaces a capture that is not given, `NullSink` an output
+/// that is not requested, and [`NoLog`](crate::NoLog) a log that is not kept.
 #[derive(Drop)]
 pub struct Devices<R: Source, Q: Source, W: Sink, V: Sink, U: Sink, L> {
     /// The capture of the packets that come from inside hosts.
@@ -15,6 +15,6 @@ pub struct Devices<R: Source, Q: Source, W: Sink, V: Sink, U: Sink, L> {
     /// The capture of the packets that leave to inside hosts.
     pub to_inside: V,
     pub report: U,
-    /// A [`LogWriter`](crate::LogWriter) or `NoLog`.
+    /// The log: a [`LogWriter`](crate::LogWriter) or `NoLog`.
     pub log: L,
 }

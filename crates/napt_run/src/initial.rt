@@ -8,8 +8,8 @@ use napt_account::started_logs_go_on;
 use napt_rules::State;
 use std::alloc::Global;
 
-/// Returns the state before any input, which has no bindings, at time 0. A run from there begins with
-/// the redirects of its configuration.
+/// Returns the state before any input, which has no bindings, at time 0. A run from there begins
+/// with the redirects of its configuration.
 pub fn initial_state(alloc: Global) -> State
     ensures taken { (rules : Rules) → TakesState rules result }
     ensures opens { (rules : Rules) → resumed_origin rules result ≡ initial_origin rules }

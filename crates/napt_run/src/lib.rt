@@ -1,12 +1,12 @@
 //! A run from captures to captures, from a [`Start`] over its [`Devices`]. [`run_captures`] reads
-//! both captures whole, runs in memory and then writes. [`run_streams`] reads, translates and writes
-//! as the packets arrive, in bounded memory, and also the log of the run if its devices have a
-//! [`LogWriter`]. If both succeed, they write the same bytes ([`streams_write_the_same`]). Each returns
-//! a [`RunEnd`], from which the next run goes on.
+//! both captures whole, runs in memory and then writes. [`run_streams`] reads, translates and
+//! writes as the packets arrive, in bounded memory, and also writes the log of the run if its
+//! devices have a [`LogWriter`]. If both succeed, they write the same bytes
+//! ([`streams_write_the_same`]). Each returns a [`RunEnd`], from which the next run continues.
 //!
-//! [`merge`] makes the inputs of a run from the records of both captures. [`run_plain`] translates them with the
-//! translators of all external addresses on one thread; [`run_workers`] does so by [`dispatch`], with one worker thread
-//! for each address, and both return the same run.
+//! [`merge`] makes the inputs of a run from the records of both captures. [`run_plain`] translates
+//! them with the translators of all external addresses on one thread; [`run_workers`] translates
+//! them by [`dispatch`], with one worker thread for each address. Both return the same run.
 #![tactic(auto)]
 
 mod buffered_text;

@@ -1,4 +1,4 @@
-//! What the log of a run goes on from.
+//! The start of the log of a run: the saved log, and how the run continues it.
 
 ghost use Rattle.std.specs.Prelude.{◌≡◌, IfOk, string_bytes, true};
 ghost use Rattle.napt_rules.specs.Prelude.{TakesState};
@@ -15,19 +15,20 @@ use napt_log_text::{add_first, add_opening, effects_have_the_rows};
 use std::alloc::{AllocError, Global};
 use std::num::NonZeroU32;
 
-/// What the log of a run goes on from.
+/// The start of the log of a run: the saved log, and how the run continues it.
 #[derive(Clone, Copy)]
 pub struct LogStart<'a> {
-    /// The accounts that the state has; none if the state was left without a log.
+    /// The accounts of the saved state; it has none if it was saved without a log.
     pub saved: &'a SavedLogState,
-    /// Whether the device of the log has no text yet. The text then begins with the header and a row for each account.
-    /// In either case the rows of entries that the configuration ends follow, and those of new entries.
+    /// Whether the device of the log has no text yet. The text then begins with the header and a
+    /// row for each account. In either case, the rows of entries that the configuration ends
+    /// follow, and then the rows of new entries.
     pub is_new: bool,
-    /// The number of seconds of the run's clock in each piece of the log, if it has pieces. When the clock passes a
-    /// multiple of them, a new piece begins like a new log: with the header and a row for each open binding, in one
-    /// write.
+    /// The number of seconds of the run's clock in each piece of the log, if it has pieces. When
+    /// the clock passes a multiple of them, a new piece begins like a new log: with the header and
+    /// a row for each open binding, in one write.
     pub each: Option<NonZeroU32>,
-    /// Whether another run goes on with the log. It then ends without the rows of live bindings.
+    /// Whether another run continues the log. It then ends without the rows of live bindings.
     pub goes_on: bool,
 }
 
@@ -38,8 +39,8 @@ pub(crate) struct ResumedLog<'a> {
     pub(crate) opening: String,
 }
 
-/// Returns the beginning of a log's text: if the log is new, the header and a row for each saved entry; and in any case
-/// the rows of entries that end or begin before the first packet.
+/// Returns the beginning of a log's text: the header and a row for each saved entry if the log is
+/// new, and in any case the rows of entries that end or begin before the first packet.
 fn first_text(
     alloc: Global,
     config: &Config,
@@ -57,7 +58,7 @@ fn first_text(
     Ok(text)
 }
 
-/// Takes up the log of a run, which begins at a state. Fails only if memory is refused.
+/// Begins the log of a run from a state. Fails only if memory is refused.
 pub(crate) fn resume_log<'a>(
     alloc: Global,
     start: Start<'a>,
@@ -68,7 +69,7 @@ pub(crate) fn resume_log<'a>(
     ensures { IfOk result (IsResumedFrom start.entry log_start.entry) }
 {
     started_logs_go_on();
-    // called only for its clause: the rules of a configuration are valid
+    // This is called only for its clause: the rules of a configuration are valid.
     let _pool = start.config.pool();
     let started = LogBuilder::resume(alloc, start.config, start.state, log_start.saved)?;
     let opening = first_text(alloc, start.config, &started, log_start.is_new)?;
@@ -78,7 +79,7 @@ pub(crate) fn resume_log<'a>(
     })
 }
 
-/// By the traces of its inputs a log of a state has their rows.
+/// Proves that the log of a state has the rows of the inputs of a run, by their traces.
 pub(crate) fn log_laws(start: Start<'_>)
     requires { TakesState start.config.now start.state.now }
     ensures { (log : LogModel) → IsLogOf start.entry.config.now (origin_of start.entry).state log →
@@ -86,6 +87,6 @@ pub(crate) fn log_laws(start: Start<'_>)
 {
     effects_are_the_log();
     effects_have_the_rows();
-    // called for its clause alone: a configuration keeps its rules
+    // This is called only for its clause: the rules of a configuration are valid.
     let _pool = start.config.pool();
 }

@@ -22,23 +22,23 @@ use std::num::NonZeroU32;
 
 /// The log of a run, which is written to a device.
 ///
-/// It is written row by row (RFC 8158). The rows of an input, which say what ended before it, which
-/// binding it made, or that it got none, are written before its packet is. Before a device is asked
-/// for more bytes, the log is flushed, and then the captures are. So if those devices keep what they
-/// are given until they are flushed, no packet leaves before its rows are at their destination. The
-/// log takes memory for the bindings that have not ended.
+/// It is written row by row (RFC 8158). The rows of an input record the bindings that ended before
+/// it, and the binding that it made, or that it got none. They are written before its packet is.
+/// Before a device is asked for more bytes, the log is flushed, and then the captures are.
+/// Therefore, if the devices buffer bytes until they are flushed, no packet leaves before its rows
+/// are at their destination. The log takes memory for the bindings that have not ended.
 ///
 /// The beginning of its text is written and flushed first, before the headers of the captures. The
-/// rows of the bindings that live at the end come last, before the report.
+/// rows of the bindings that are live at the end are written last, before the report.
 #[derive(Drop)]
 pub struct LogWriter<'a, 'b, L: Sink> {
     alloc: Global,
     log: LogBuilder<'a>,
-    /// How its text begins, until that is written.
+    /// The beginning of its text, until it is written.
     opening: String,
-    /// How many seconds each of its pieces has, if it has pieces.
+    /// The number of seconds in each of its pieces, if it has pieces.
     each: Option<NonZeroU32>,
-    /// Whether another run goes on with it.
+    /// Whether another run continues it.
     goes_on: bool,
     output: Output<'b, L>,
 }
@@ -46,8 +46,8 @@ pub struct LogWriter<'a, 'b, L: Sink> {
 impl<'a, 'b, L: Sink> LogWriter<'a, 'b, L> {
     ghost use Rattle.napt_run.specs.RunningLogs.{Adds, Closes, EntersNot, EntersWith, FlushPost, IsAfterFault, LogIsAt, left_with, opening_before};
 
-    /// Takes up the log of a run from a state, to be written to a device. Nothing is written yet. Fails
-    /// only if memory is refused.
+    /// Begins the log of a run from a state, to be written to a device, and writes nothing yet.
+    /// Fails only if memory is refused.
     pub fn new(
         alloc: Global,
         start: Start<'a>,
@@ -77,7 +77,7 @@ impl<'a, 'b, L: Sink> LogWriter<'a, 'b, L> {
         })
     }
 
-    /// Returns the text of what lives at the end, unless another run goes on with it.
+    /// Returns the rows of the bindings that are live at the end, unless another run continues it.
     fn ending(&self) -> Result<String, AllocError>
         ensures { (from : LoggedOrigin) (all : List Did) → LogIsAt from all self.now →
             IfOk result (λ text. string_bytes text ≡ ending_with from all) }
@@ -123,7 +123,7 @@ impl<'a, 'b, L: Sink> LogWriter<'a, 'b, L> {
         Ok(text)
     }
 
-    /// How a piece begins, if one does with the next input, at this time; else no text.
+    /// Returns the beginning of a piece, if one begins with the next input, at a time in ns.
     #[inline(always)]
     fn piece_opening(&self, now: u64) -> Result<String, AllocError>
         ensures { (from : LoggedOrigin) (before : List Did) → LogIsAt from before self.now →
@@ -137,7 +137,8 @@ impl<'a, 'b, L: Sink> LogWriter<'a, 'b, L> {
         Ok(text)
     }
 
-    /// Flushes what was written before a run failed, if that still goes. If a capture failed, it is flushed already.
+    /// Flushes the rows that were written before a run failed, unless a call failed. After a fault
+    /// of a capture they are flushed already.
     fn flush_rest(&mut self, fault: &Fault)
         ensures { IsAfterFault fault.now self.old self.new }
     {
@@ -147,7 +148,7 @@ impl<'a, 'b, L: Sink> LogWriter<'a, 'b, L> {
         }
     }
 
-    /// Flushes what was written, unless a call failed before.
+    /// Flushes the rows that were written, unless a call failed before.
     fn flush_sound(&mut self)
         ensures { FlushPost self.old.output self.new.output }
     {
@@ -156,7 +157,7 @@ impl<'a, 'b, L: Sink> LogWriter<'a, 'b, L> {
         }
     }
 
-    /// Writes the rows of what lives at the end, unless another run goes on with it, and flushes them.
+    /// Writes and flushes the rows of the bindings live at the end, if no run continues it.
     fn finish(&mut self) -> Result<OpenLog, Fault>
         ensures text { (from : LoggedOrigin) (all : List Did) → LogIsAt from all self.old →
             Closes from all (ending_with from all) self.old.output result self.new }
@@ -171,7 +172,7 @@ impl<'a, 'b, L: Sink> LogWriter<'a, 'b, L> {
     }
 }
 
-/// Returns whether the log has no row with an input.
+/// Returns whether an input adds no row to the log.
 #[inline(always)]
 fn is_quiet(part: &InputPart) -> bool
     ensures { result ≡ true → part_in part.now ≡ record { ended = []; made = []; refused = [] } }
@@ -179,7 +180,7 @@ fn is_quiet(part: &InputPart) -> bool
     part.ended.is_empty() && part.made.is_empty() && part.refused.is_empty()
 }
 
-/// An answer of the output, as one of the log.
+/// Returns an answer of the output as an answer of the log.
 #[inline(always)]
 fn named(answer: Result<(), WriteFault>) -> Result<(), Fault>
     ensures { result ≡ named Log answer }

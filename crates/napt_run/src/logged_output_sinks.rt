@@ -1,4 +1,4 @@
-//! What a run writes as it goes: its captures and its log.
+//! The captures and the log that a run writes while packets come.
 
 ghost use Rattle.std.specs.Prelude.{◌≡◌, [], ◌∷◌, MatchResult};
 
@@ -8,8 +8,8 @@ use napt_capture::Sink;
 use napt_dispatch::{InputResult, OutcomeSink};
 use napt_records::Fault;
 
-/// The captures that a run writes as it goes, and its log. The legs of an input are recorded in the log before its
-/// packet is written, and the log is flushed before the captures are.
+/// The captures and the log that a run writes while packets come. The legs of an input are recorded
+/// in the log before its packet is written, and the log is flushed before the captures are.
 #[derive(Drop)]
 pub(crate) struct LoggedOutcomeWriter<'k, 'a, 'b, W: Sink, V: Sink, K> {
     pub(crate) leaving: OutcomeWriter<'a, 'b, W, V>,

@@ -4,7 +4,7 @@ ghost use Rattle.napt_capture.specs.{Device.failed_calls, Text.{entry_of_packet,
 
 use napt_capture::{CaptureWriter, Sink, WriteFault};
 
-/// The latest time, in ns, that a record can hold.
+/// The latest time, in ns, that a record can contain.
 const LATEST: u64 = 4_294_967_295_999_999_999;
 
 /// A capture that is written record by record, or another text that is written part by part.
@@ -13,9 +13,9 @@ pub(crate) struct Output<'a, W: Sink> {
     pub(crate) device: &'a mut W,
     /// The number of bytes written, which saturates.
     pub(crate) written: u64,
-    /// Whether a write or a flush failed. Then nothing more is written.
+    /// Whether a write or a flush failed. Nothing more is then written.
     pub(crate) is_broken: bool,
-    // With this, what contracts see of the type has the ghosts of its device.
+    // With this field, the model of the type has the ghosts of its device.
     ghost of_device: { W.failed device.now ≡ W.failed device.now },
 }
 
@@ -96,7 +96,7 @@ impl<'a, W: Sink> Output<'a, W> {
         }
     }
 
-    /// Writes a text.
+    /// Writes a text, and does not flush it.
     pub(crate) fn write_text(&mut self, text: &[u8]) -> Result<(), WriteFault>
         ensures ok { OnOk result (OutputGrows self.old text.now self.new) }
         ensures err { IfErr result (λ fault. self.old.is_broken ≡ false →
@@ -118,7 +118,7 @@ impl<'a, W: Sink> Output<'a, W> {
         }
     }
 
-    /// Flushes what was written.
+    /// Flushes the bytes that were written.
     #[tactic(auto, using(crate::proofs::Outputs::keeps_as_none))]
     pub(crate) fn flush(&mut self) -> Result<(), WriteFault>
         ensures ok { OnOk result (OutputGrows self.old [] self.new) }
@@ -160,7 +160,7 @@ fn write_all<W: Sink>(device: &mut W, bytes: &[u8]) -> Result<(), WriteFault>
     Ok(())
 }
 
-/// Returns a fault in a part of the text, counted from the start of the text, of which `before` bytes precede the part.
+/// Returns a fault in a part of the text, after `before` bytes, counted from the text's start.
 fn shift_fault(before: u64, fault: WriteFault) -> WriteFault
     ensures { result.written ≡ min (before + fault.written) (2 ^ 64 - 1) }
 {

@@ -1,4 +1,4 @@
-//! What a run writes as it goes.
+//! The captures that a run writes while packets come.
 ghost use Rattle.std.specs.Prelude.{◌≡◌, ◌^◌, ◌<◌, length};
 ghost use Rattle.napt_run.specs.OutputSinks.{named};
 
@@ -8,7 +8,7 @@ use napt_records::{Fault, OutcomeCounts, Which};
 use napt_rules::Outcome;
 use napt_wire::Packet;
 
-/// The captures that a run writes as it goes, and the counts for its report.
+/// The captures that a run writes while packets come, and the counts for its report.
 #[derive(Drop)]
 pub(crate) struct OutcomeWriter<'a, 'b, W: Sink, V: Sink> {
     pub(crate) to_outside: Output<'a, W>,
@@ -16,7 +16,7 @@ pub(crate) struct OutcomeWriter<'a, 'b, W: Sink, V: Sink> {
     pub(crate) counts: OutcomeCounts,
 }
 
-/// An output's answer, with the output's name beside the fault.
+/// Returns an output's answer, and adds the output's name to a fault.
 fn named(which: Which, answer: Result<(), WriteFault>) -> Result<(), Fault>
     ensures { result ≡ named which answer }
 {
@@ -80,7 +80,8 @@ impl<'a, 'b, W: Sink, V: Sink> OutcomeWriter<'a, 'b, W, V> {
         }
     }
 
-    /// Counts the outcome of an input, and writes the record of its packet, if any, with the arrival time in ns.
+    /// Counts the outcome of an input, and writes the record of its packet, if any, at its time in
+    /// ns.
     #[inline(always)]
     pub(crate) fn write(&mut self, time: u64, outcome: &Outcome) -> Result<(), Fault>
         ensures of_output { IfErr result IsOfOutput }

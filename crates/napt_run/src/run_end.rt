@@ -1,13 +1,13 @@
-//! What a run leaves.
+//! The end of a run.
 
 use napt_account::OpenLog;
 use napt_dispatch::RunSummary;
 
-/// What a run leaves. The next run goes on from there.
+/// The end of a run, from which the next run continues.
 #[derive(Drop)]
 pub struct RunEnd {
     /// The counts of the run, with the bindings at its end, from which its state is made.
     pub passed: RunSummary,
-    /// What is kept of the log in addition to the state. It has no entries if the run keeps no log.
+    /// The open entries of the log, which are saved with the state. A run without a log has none.
     pub log: OpenLog,
 }

@@ -1,4 +1,4 @@
-//! What a run goes on from, and what it needs besides its devices.
+//! The start of a run, and its setting: all that it needs in addition to its devices.
 ghost use Rattle.napt_rules.specs.Prelude.{TakesState};
 
 use napt_config::Config;
@@ -6,7 +6,7 @@ use napt_rules::State;
 use std::alloc::Global;
 use std::sync::Arc;
 
-/// A configuration, and the state from which a run goes on.
+/// A configuration, and the state from which a run continues.
 #[derive(Clone, Copy)]
 pub struct Start<'a> {
     pub config: &'a Config,
@@ -14,7 +14,7 @@ pub struct Start<'a> {
     pub state: &'a State,
 }
 
-/// What a run needs besides its devices.
+/// The setting of a run: all that it needs in addition to its devices.
 #[derive(Drop)]
 pub struct OriginSetting<'a, 'b, T, G> {
     pub(crate) rt: &'a T,

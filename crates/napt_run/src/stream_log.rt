@@ -1,4 +1,4 @@
-//! What keeps the log of a run.
+//! The log of a run that streams.
 
 ghost use Rattle.std.specs.Prelude.{◌≡◌, ◌++◌, [], ◌∷◌, ℕ, Bool, List, Option, Result, Ok, Err, IfErr, MatchResult, OnOk};
 ghost use Rattle.napt_account.specs.Log.{LogModel};
@@ -10,36 +10,36 @@ use napt_records::Fault;
 use napt_sequential::{LegTrace, NoTrace};
 use std::alloc::Global;
 
-/// Keeps the log of a run that streams, by what is told of the legs of each input as it leaves:
-/// [`LogWriter`](crate::LogWriter), or [`NoLog`].
+/// Records the log of a run that streams, from the traces of the legs of each input as it leaves.
+/// It is a [`LogWriter`](crate::LogWriter) or [`NoLog`].
 pub trait StreamLog {
-    /// What has to be told of each leg.
+    /// The trace of a leg, as the log needs it.
     type Told: LegTrace;
 
-    // Whether there is a log.
+    // This is true if there is a log.
     ghost is_kept: { Bool };
 
-    // It may keep the log of a run from here.
+    // It is ready to record the log of a run from this origin.
     ghost is_ready: { OriginModel → Self → Type 0 };
 
-    // Between the two states it was opened.
+    // It was opened between the two states.
     ghost opens: { Self → Self → Type 0 };
 
-    // In the first state these were entered, in this order, and it came to the second. An entry has the time of an
-    // input's legs and what is told of both.
+    // Entering these legs in the first state, in this order, leads to the second. An entry contains
+    // the time of an input's legs and the traces of both.
     ghost enters: { Self → List (ℕ × Self.Told × Self.Told) → Self → Type 0 };
 
-    // In the first state entering these ended in this fault, and it came to the second.
+    // Entering these legs in the first state returns this fault, and leads to the second.
     ghost fails: { Self → List (ℕ × Self.Told × Self.Told) → KnownFault → Self → Type 0 };
 
-    // What was entered is at its destination.
+    // All entered legs are at their destination.
     ghost is_settled: { Self → Type 0 };
 
-    // What a run over captures whose bytes are known, or not, leaves in it, by its result with what is saved of the
-    // log.
+    // A run over captures, whose bytes are known or not, leads from the first state to the second,
+    // by its result, which contains the saved log.
     ghost post: { OriginModel → Option (List ℕ) → Option (List ℕ) → Result LogModel KnownFault → Self → Self → Type 0 };
 
-    /// Begins it, before anything else is written, and flushes it.
+    /// Writes and flushes the beginning of the log, before anything else is written.
     fn open(&mut self) -> Result<(), Fault>
         ensures ok { OnOk result (opens self.old self.new) }
         ensures settled { OnOk result (is_settled self.new) }
@@ -47,20 +47,20 @@ pub trait StreamLog {
         ensures err { (origin : OriginModel) (inside outside : Option (List ℕ)) → is_ready origin self.old →
             IfErr result (λ fault. post origin inside outside (Err fault) self.old self.new) };
 
-    /// Enters the next input, whose legs were at a time in ns.
+    /// Records the next input, whose legs were at a time in ns.
     fn enter(&mut self, now: u64, first: Self::Told, second: Self::Told) -> Result<(), Fault>
         ensures of_log { IfErr result IsLogFault }
         ensures enters { MatchResult result
             (λ _. enters self.old ((now, first, second) ∷ []) self.new)
             (λ fault. fails self.old ((now, first, second) ∷ []) fault self.new) };
 
-    /// Brings what was entered to its destination: a flush.
+    /// Flushes the log, so that all that was recorded is at its destination.
     fn settle(&mut self) -> Result<(), Fault>
         ensures of_log { IfErr result IsLogFault }
         ensures settles { MatchResult result (λ _. enters self.old [] self.new × is_settled self.new)
             (λ fault. fails self.old [] fault self.new) };
 
-    /// Ends it after all inputs, and returns what is saved of it.
+    /// Ends the log after all inputs, and returns the accounts that are saved.
     fn close(&mut self, alloc: Global) -> Result<OpenLog, Fault>
         ensures text { IfErr result (IsTextFault is_kept) }
         ensures post { (origin : OriginModel) (inside outside : Option (List ℕ)) (start opened : Self)
@@ -68,7 +68,7 @@ pub trait StreamLog {
             EntersAll Self.Told.tells origin enters fails is_settled inside outside opened self.old cuts →
             post origin inside outside result start self.new };
 
-    /// Flushes what was entered before a run failed, if that still goes.
+    /// Flushes the inputs that were recorded before a run failed, unless a call failed.
     fn flush_after(&mut self, fault: &Fault)
         ensures { (open_gate : Bool) (origin : OriginModel) (inside outside : Option (List ℕ))
             (start opened : Self) → is_ready origin start → opens start opened →
@@ -84,13 +84,13 @@ pub trait StreamLog {
     ghost fails_more: { (x y z : Self) (xs ys : List (ℕ × Self.Told × Self.Told)) (fault : KnownFault) →
         enters x xs y → fails y ys fault z → fails x (xs ++ ys) fault z };
 
-    // Where the report fails after all, it is as after success.
+    // If the report fails at the end, the log is as after success.
     ghost unreported: { (origin : OriginModel) (inside outside : Option (List ℕ)) (log : LogModel) (fault : KnownFault)
         (old new : Self) → IsReportFault fault → post origin inside outside (Ok log) old new →
         post origin inside outside (Err fault) old new };
 }
 
-/// A log that is not kept. It takes no memory and no time.
+/// A log that is not recorded. It takes no memory and no time.
 #[derive(Drop)]
 pub struct NoLog;
 

@@ -20,8 +20,8 @@ impl<
     T: Threads + Wait + Copy + Send + 'static,
     G: Gate + Send + Sync + Drop + 'static,
 > OriginSetting<'_, '_, T, G> {
-    /// Runs over the captures and writes both outputs, and the log if one is kept. Returns the data of the report,
-    /// and what is saved of the log.
+    /// Runs over the captures and writes both outputs, and the log if there is one. Returns the
+    /// data of the report, and the accounts of the log that are saved.
     pub(crate) fn stream<R: Source, Q: Source, W: Sink, V: Sink, K: StreamLog>(
         self,
         inside: &mut R,

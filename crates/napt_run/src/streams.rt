@@ -15,39 +15,39 @@ use std::alloc::Global;
 use std::sync::{Arc, Wait};
 use std::thread::Threads;
 
-/// Translates both captures from a start, as the packets arrive: each is read, translated and written
-/// before a device is asked for more. Writes the packets that leave to each side, the log of the run if
-/// its devices have a [`LogWriter`](crate::LogWriter), and a report at the end. Returns what the run
-/// leaves.
+/// Translates both captures from a start, as the packets arrive: each is read, translated and
+/// written before a device is asked for more. Writes the packets that leave to each side, the log
+/// of the run if its devices have a [`LogWriter`](crate::LogWriter), and a report at the end.
+/// Returns the end of the run, from which the next run continues.
 ///
-/// Memory is bounded by the bindings (an expired one stays until a new one is made at its address), the
-/// 131,072 packets that may be in flight, and 16,384 buffers that are kept. If the run succeeds, each
-/// output has exactly the bytes that `run_captures` writes. Captures may be of any length. The header of
-/// each capture is written before anything is read. Before a device is asked for more bytes, every
-/// packet read so far has been answered, written and flushed. Merging needs the next record of both
-/// sides; an empty record lets time pass on its side.
+/// Memory is bounded by the bindings (an expired one remains until a new one is made at its
+/// address), the 131,072 packets that may be in flight, and 16,384 buffers for reuse. If the run
+/// succeeds, each output contains exactly the bytes that `run_captures` writes. Captures may be of
+/// any length. The header of each capture is written before anything is read. Before a device is
+/// asked for more bytes, every packet read so far has been answered, written and flushed. Merging
+/// needs the next record of both sides; an empty record lets time pass on its side.
 ///
 /// # Errors
 ///
-/// Each output then has a part of its text, as said here and by `OutputPost`. The workers are closed and
-/// joined before any fault is returned.
+/// After an error, each output contains a part of its text, as said here and by `OutputPost`. The
+/// workers are closed and joined before any fault is returned.
 ///
-/// `Fault::Capture` if that side's capture is malformed or could not be read, once merging needs the
-/// record at fault. The packets before it are written and flushed, and there is no report.
+/// `Fault::Capture` if that side's capture is malformed or could not be read, once merging needs
+/// the record at fault. The packets before it are written and flushed, and there is no report.
 ///
-/// `Fault::Write` if writing that output failed. It has the first `written` bytes of its text, a number
-/// that saturates. The other capture has the text of some first packets, or both have all of it if the
-/// report failed. The inside capture is empty if the header of the outside one failed. A failed read
-/// before such a write is not reported.
+/// `Fault::Write` if writing that output failed. It contains the first `written` bytes of its text,
+/// a number that saturates. The other capture contains the text of some first packets, or both
+/// contain all of their text if the report failed. The inside capture is empty if the header of the
+/// outside one failed. A failed read before such a write is not reported.
 ///
-/// `Fault::Run` with `Memory` if memory is refused, and with `Pool` if a worker could not be started or
-/// stopped early (never `GateShut` under a gate that is always open). Each capture then has at least its
-/// header.
+/// `Fault::Run` with `Memory` if memory is refused, and with `Pool` if a worker could not be
+/// started or stopped early (never `GateShut` under a gate that is always open). Each capture then
+/// contains at least its header.
 ///
-/// With a log also `Fault::Write` of `Which::Log` if writing it failed, and `Fault::Run` with `TooMany` at
-/// input 4,611,686,018,427,387,904. After a fault of a capture the log has the rows of the packets before
-/// it. Whatever failed, it is flushed, unless one of its own calls failed. Both captures are empty if the
-/// log could not be begun.
+/// With a log, also `Fault::Write` of `Which::Log` if writing it failed, and `Fault::Run` with
+/// `TooMany` at input 4,611,686,018,427,387,904. After a fault of a capture, the log contains the
+/// rows of the packets before it. After any fault it is flushed, unless one of its own calls
+/// failed. Both captures are empty if the log could not be begun.
 pub fn run_streams<
     T: Threads + Wait + Copy + Send + 'static,
     R: Source,

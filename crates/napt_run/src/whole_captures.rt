@@ -19,7 +19,7 @@ use napt_wire::Side;
 use std::sync::Wait;
 use std::thread::Threads;
 
-/// What the report of a run is made from, except which captures were cut, and the state that it leaves.
+/// The data of a run's report, except which captures were cut, and of the state at its end.
 #[derive(Drop)]
 pub(crate) struct RunTally {
     pub(crate) counts: OutcomeCounts,

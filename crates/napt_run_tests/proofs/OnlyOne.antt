@@ -1,4 +1,4 @@
--- The answers of one worker, if none of them was taken before it was closed.
+-- One worker returns all its answers, if none of them was taken before it was closed.
 use Rattle.std.proofs.Common.{◌≡◌, List, [], ◌∷◌, ◌++◌, map}
 use Rattle.napt_pool.specs.Pools.{zip_with}
 

@@ -1,5 +1,6 @@
-//! What no contract says of the calls that `napt` and `stream` make: their workers step at the same time on threads of
-//! their own, a worker that waits does not delay the others, and each asks the gate that the call is given.
+//! Properties, beyond the contracts, of the calls that `napt` and `stream` make: their workers step
+//! at the same time on their own threads, a worker that waits does not delay the others, and each
+//! asks the gate that the call is given.
 
 use crate::calls::TestRuntime;
 use crate::captures::{Call, HEADER, RunInput, RunOutput, captured, push_packet};
@@ -14,7 +15,7 @@ use napt_wire::Endpoint;
 use std::sync::Arc;
 use std::test::Fail;
 
-/// Returns what a call writes under a gate, and the gate's count. The packets come from inside, with these endpoints.
+/// Returns the outputs of a call over inside packets with these endpoints, and the gate's count.
 fn under_gate(
     rt: &impl TestRuntime,
     call: Call,
@@ -39,7 +40,7 @@ fn under_gate(
     Ok((written, gate.count()))
 }
 
-/// Checks that both calls end under a gate with this count, and with a report that begins with this text.
+/// Checks that both calls end with this count of a gate, and a report that begins with this text.
 fn assert_ends(
     rt: &impl TestRuntime,
     settings: &str,
@@ -72,8 +73,8 @@ fn others_of_a_call_go_on(rt: HostRuntime) -> Result<(), Fail> {
     assert_ends(&rt, THREE_ADDRESSES, &packets, GateMode::AfterThird, end)
 }
 
-/// The gate refuses the fourth of five packets of 10.0.0.3, whose worker is the second, a million times. By then `napt`
-/// has written nothing, and `stream` at most the three packets before it.
+/// The gate refuses the fourth of five packets of 10.0.0.3, whose worker is the second, a million
+/// times. By then `napt` has written nothing, and `stream` at most the three packets before it.
 #[test]
 fn gate_of_a_call_stays_shut(rt: HostRuntime) -> Result<(), Fail> {
     let packets = [(host(3, 5000), RESOLVER); 5];

@@ -1,5 +1,5 @@
-//! The two calls that make a run, each in one function without clauses, so that the proof of a test is short, and
-//! inputs for them. A test checks their results when it runs.
+//! The two calls that make a run, each in one function without clauses, so that the proof of a test
+//! is short, and inputs for them. A test checks their results when it runs.
 
 use crate::gates::Hold;
 use crate::sample_inputs::input;

@@ -1,5 +1,6 @@
-//! What no contract says: a run over captures ends if one of its threads is slow. The bytes of worked captures are in
-//! tests/runs, at the top of the repository, and those of long ones are in tests/hairpins.
+//! A property beyond the contracts: a run over captures ends if one of its threads is slow. The
+//! bytes of worked captures are in tests/runs, at the top of the repository, and the bytes of long
+//! ones are in tests/hairpins.
 
 ghost use Rattle.std.specs.Prelude.{◌<◌};
 
@@ -31,7 +32,7 @@ pub(crate) enum Device {
     Log,
 }
 
-/// Moves at most `most` bytes at a time, which is not 0, and fails at a call, counted from 1, or never if that is 0.
+/// Moves at most `most` > 0 bytes at a time, and fails at a call, from 1, or never if it is 0.
 pub(crate) fn at_most(most: usize, call: u64, trouble: InjectedFault) -> FaultPlan
     ensures { 0 < result.most }
 {
@@ -49,7 +50,7 @@ pub(crate) fn failing(call: u64) -> FaultPlan
     at_most(usize::MAX, call, InjectedFault::Fails)
 }
 
-/// Returns the plan of a device: the last one given for it, or one without a failure.
+/// Returns the plan of a device: the last one given for it, or a plan without a failure.
 fn plan_of(plans: &[(Device, FaultPlan)], device: Device) -> FaultPlan
     ensures { 0 < result.most }
 {
@@ -62,7 +63,7 @@ fn plan_of(plans: &[(Device, FaultPlan)], device: Device) -> FaultPlan
     at_most(found.most, found.call, found.trouble)
 }
 
-/// The call that a program makes: `napt` reads whole captures, `stream` reads them in steps, with or without a log.
+/// The call of a program: `napt` reads whole captures, `stream` in steps, with or without a log.
 #[derive(Clone, Copy, Debug, PartialEq, Eq)]
 pub(crate) enum Call {
     Captures,
@@ -70,8 +71,8 @@ pub(crate) enum Call {
     StreamsWithLog,
 }
 
-/// The arguments of a run: the call, both captures, and the plans of devices that fail or move few bytes at a time.
-/// Without settings the configuration is the built-in one.
+/// The arguments of a run: the call, both captures, and the plans of devices that fail or move few
+/// bytes at a time. Without settings the configuration is the built-in one.
 #[derive(Clone, Copy)]
 pub(crate) struct RunInput<'a> {
     pub(crate) call: Call,
@@ -81,7 +82,7 @@ pub(crate) struct RunInput<'a> {
     pub(crate) plans: &'a [(Device, FaultPlan)],
 }
 
-/// What a run returns and writes.
+/// The result and the outputs of a run.
 #[derive(Drop, PartialEq)]
 pub(crate) struct RunOutput {
     pub(crate) answer: Result<(), Fault>,
@@ -106,7 +107,7 @@ fn config_of(alloc: Global, settings: Option<&str>) -> Result<Config, Fail> {
     }
 }
 
-/// Returns what a run over captures returns and writes under a gate.
+/// Returns the result and the outputs of a run over captures under a gate.
 pub(crate) fn captured(
     rt: &impl TestRuntime,
     given: &RunInput<'_>,
@@ -192,7 +193,7 @@ pub(crate) fn push_packet(
     text.extend_from_slice(bytes)
 }
 
-/// Returns the capture of the inside with those of the thousand inputs that arrive in this range, in microseconds.
+/// Returns the inside capture of the thousand inputs' part in this range, in microseconds.
 pub(crate) fn sent_in(alloc: Global, times: &Range<u32>) -> Result<Vec<u8>, AllocError> {
     let mut text = Vec::from_slice(alloc, &HEADER)?;
     for input in &thousand_inputs(alloc)? {
@@ -204,8 +205,9 @@ pub(crate) fn sent_in(alloc: Global, times: &Range<u32>) -> Result<Vec<u8>, Allo
     Ok(text)
 }
 
-/// Returns the capture of the outside with those of a hundred replies that arrive in this range, in microseconds. The
-/// resolver sends them to the external endpoints of the thousand inputs in turn, one every 10 ms, with inside packets.
+/// Returns the outside capture of those of a hundred replies that arrive in this range, in
+/// microseconds. The resolver sends them to the external endpoints of the thousand inputs in turn,
+/// one every 10 ms, with inside packets.
 pub(crate) fn replies_in(alloc: Global, times: &Range<u32>) -> Result<Vec<u8>, AllocError> {
     let mut text = Vec::from_slice(alloc, &HEADER)?;
     for k in 0..100u16 {
@@ -218,7 +220,7 @@ pub(crate) fn replies_in(alloc: Global, times: &Range<u32>) -> Result<Vec<u8>, A
     Ok(text)
 }
 
-/// Returns what a run over both captures writes under a gate, with rings of this number of slots.
+/// Returns the outputs of a run over both captures under a gate, with rings of this size.
 fn large_run(rt: &impl TestRuntime, ring: &str, gate: Arc<Hold>) -> Result<RunOutput, Fail> {
     let alloc = rt.alloc();
     let settings = format!(in alloc; "{THREE_ADDRESSES}ring = {ring}\n")?;

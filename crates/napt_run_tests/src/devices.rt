@@ -24,7 +24,7 @@ fn slow(moved: u16, trouble: InjectedFault) -> FaultPlan {
 /// The result of a run, and the lengths of its texts: to the outside, to the inside, and of the report.
 type DeviceRunEnd = (Result<(), Fault>, [u16; 3]);
 
-/// The end of a run that fails before it writes anything.
+/// Returns the end of a run that fails before it writes anything.
 fn silent(fault: Fault) -> DeviceRunEnd {
     (Err(fault), [0; 3])
 }
@@ -32,8 +32,8 @@ fn silent(fault: Fault) -> DeviceRunEnd {
 /// The end of a run that writes everything.
 const WHOLE: DeviceRunEnd = (Ok(()), [70, 24, 307]);
 
-/// Checks the end of a run over the capture of one packet on the inside and of none on the outside. The capture to the
-/// inside is a header alone: the 24 bytes with which that to the outside begins.
+/// Checks the end of a run over the capture of one packet on the inside and of none on the outside.
+/// The capture to the inside is only a header, the first 24 bytes of the capture to the outside.
 fn assert_ends(
     rt: &impl TestRuntime,
     plans: &[(Device, FaultPlan)],
@@ -61,7 +61,7 @@ fn assert_ends(
     Ok(())
 }
 
-/// The capture of the inside takes four reads: two headers, the packet, and the end. The other takes two.
+/// The inside capture takes four reads, for two headers, the packet and the end, the outside two.
 #[test]
 fn each_read_of_a_run_fails(rt: HostRuntime) -> Result<(), Fail> {
     let (inside, outside) = (Device::Inside, Device::Outside);
@@ -81,8 +81,8 @@ fn shut_gate_lets_nothing_out(rt: HostRuntime) -> Result<(), Fail> {
     assert_ends(&rt, &[], GateMode::Shut(0, 0), end)
 }
 
-/// Each output fails after each number of bytes: the outputs before it are complete, and those after it are empty. The
-/// call after the writes is the flush.
+/// Each output fails after each number of bytes. The outputs before it are complete, and the
+/// outputs after it are empty. The call after the writes is the flush.
 #[test]
 fn each_write_of_a_run_goes_wrong(rt: HostRuntime) -> Result<(), Fail> {
     let fails = InjectedFault::Fails;

@@ -37,7 +37,7 @@ fn workers(alloc: Global, config: &Config) -> Result<Vec<Worker<NoTrace>>, Alloc
     Ok(made)
 }
 
-/// Checks that each of three workers has the four bindings of its own external address, and owes no answer.
+/// Checks that each of three workers has the four bindings of its own address, and owes no answer.
 fn assert_left(
     rt: &impl TestRuntime,
     ended: &[Ended<Worker<NoTrace>>],
@@ -57,7 +57,7 @@ fn assert_left(
     Ok(())
 }
 
-/// Checks that at most a thousand inputs, dispatched to a pool that is then closed, give the run on one thread.
+/// Checks that up to a thousand inputs, dispatched to a pool, give the run on one thread.
 fn assert_dispatched(
     rt: &impl TestRuntime,
     config: &Config,

@@ -1,4 +1,4 @@
-//! What no contract says of the cost of a run over captures that are read in steps: packets share flushes.
+//! A property beyond the contracts: packets share flushes if captures are read in steps.
 
 use crate::captures::{ALL_TIMES, HEADER, sent_in};
 use crate::gates::{GateMode, Hold};
@@ -10,7 +10,7 @@ use std::io;
 use std::io::Write;
 use std::test::Fail;
 
-/// Takes everything that is written, and counts its bytes and its flushes.
+/// Accepts everything that is written, and counts its bytes and its flushes.
 #[derive(Drop)]
 struct Counter {
     bytes: usize,
@@ -34,7 +34,7 @@ const NOTHING: Counter = Counter {
     flushes: 0,
 };
 
-/// A flush of a file or a pipe is a system call. The 800 outgoing packets of one read do not have one each.
+/// A flush is a system call. The 800 outgoing packets of one read do not have a flush each.
 #[test]
 fn packets_that_come_together_are_flushed_together(rt: HostRuntime) -> Result<(), Fail> {
     let alloc = rt.alloc();

@@ -1,4 +1,4 @@
-//! A gate that holds workers back, and counts what they do.
+//! A gate that delays workers, and counts their requests and steps.
 
 use napt_pool::Gate;
 use std::alloc::{AllocError, Global};
@@ -6,25 +6,25 @@ use std::sync::Arc;
 use std::sync::atomic::{AtomicU64, Ordering};
 use std::thread;
 
-/// The greatest number of times that a gate looks for a step of another worker, and that it may be asked for one leg.
+/// The greatest number of looks for another worker's step, and of requests for one leg.
 pub(crate) const MOST_ASKS: u64 = 1_000_000;
 
-/// The workers that a gate holds back, and what it counts.
+/// The workers that a gate delays, and the events that it counts.
 #[derive(Clone, Copy)]
 pub(crate) enum GateMode {
-    /// It holds back no worker.
+    /// It delays no worker.
     Open,
-    /// It holds back worker 0 at the first thousand requests, and counts all requests of that worker.
+    /// It delays worker 0 at the first thousand requests, and counts all requests of that worker.
     Slow,
-    /// It holds back each of two workers at its first leg until it has seen the other there, and counts these.
+    /// It delays two workers at their first legs until it has seen both there, and counts these.
     Meeting,
-    /// It holds back worker 0 at its first leg, until worker 2 has begun its own.
+    /// It delays worker 0 at its first leg, until worker 2 has begun its own.
     AfterThird,
-    /// It holds back no worker, and shows the turn that worker 0 asks for.
+    /// It delays no worker, and shows the turn that worker 0 requests.
     Shown,
-    /// It holds back this worker at this turn, for ever, and counts its requests for it.
+    /// It delays this worker at this turn forever, and counts its requests for it.
     Shut(u32, u64),
-    /// It holds back two workers, worker 0 until worker 1 is refused for the last time, and counts worker 1's requests.
+    /// It delays worker 0 until worker 1's last refusal, and counts the requests of worker 1.
     SecondFirst,
 }
 
@@ -71,12 +71,12 @@ impl Hold {
         }
     }
 
-    /// Waits until worker 0 asks for a turn, but not for ever.
+    /// Waits for a limited time until worker 0 requests a turn.
     pub(crate) fn wait_for(&self, turn: u64) {
         is_soon(&self.first, turn);
     }
 
-    /// Whether worker 2 has begun its first leg, if worker 0 asks for its own.
+    /// Returns whether worker 2 has begun its first leg, if worker 0 requests its own.
     fn is_after_third(&self, worker: u32, turn: u64) -> bool {
         if worker == 2 && turn == 0 {
             self.first.store(1, Ordering::SeqCst);
@@ -89,7 +89,7 @@ impl Hold {
     }
 }
 
-/// Waits until a count is at least this great, but not for ever, and returns whether it is.
+/// Waits for a limited time until a count is at least this great, and returns whether it is.
 fn is_soon(count: &AtomicU64, least: u64) -> bool {
     for _ in 0..MOST_ASKS {
         if count.load(Ordering::SeqCst) >= least {

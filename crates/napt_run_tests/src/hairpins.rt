@@ -1,5 +1,6 @@
-//! What no contract says of runs over workers: they end, on threads that step at the same time and ask the gate that
-//! they are given. The outcomes of their packets are in `tests/runs/legs.txt`, at the top of the repository.
+//! Properties of runs over workers, beyond the contracts: they end, on threads that step at the
+//! same time and ask the gate that they are given. The outcomes of their packets are in
+//! `tests/runs/legs.txt`, at the top of the repository.
 
 use crate::calls::{PacketEnds, TestRuntime, inputs_of, workers_run};
 use crate::gates::{GateMode, Hold, MOST_ASKS};
@@ -21,17 +22,17 @@ const QUERY: PacketEnds = (Side::Inside, CLIENT, RESOLVER);
 
 const SECOND_QUERY: PacketEnds = (Side::Inside, SECOND_CLIENT, RESOLVER);
 
-/// A packet from 10.0.0.3:7000.
+/// Returns a packet from 10.0.0.3:7000.
 fn served() -> PacketEnds {
     (Side::Inside, host(3, 7000), RESOLVER)
 }
 
-/// A hairpin to port 7000 of the address 203.0.113.0 + `many`.
+/// Returns a hairpin to port 7000 of the address 203.0.113.0 + `many`.
 fn hairpin(many: u16) -> PacketEnds {
     (Side::Inside, CLIENT, external(many, 7000))
 }
 
-/// The settings, the slots of a ring, the packets, their legs at each external address, the gate, and its count.
+/// The settings, the slots of a ring, the packets, their legs at each address, the gate, its count.
 type HairpinRow<'a> = (&'a str, &'a str, &'a [PacketEnds], &'a [u64], GateMode, u64);
 
 #[test]
@@ -78,7 +79,7 @@ fn others_go_on(rt: HostRuntime) -> Result<(), Fail> {
     Ok(())
 }
 
-/// Checks that both workers see each other at their first legs, where the second has one leg after `legs` of the first.
+/// Checks that two workers, with `legs` legs and with one, see each other at their first legs.
 fn assert_meeting(rt: &impl TestRuntime, ring: &str, legs: u64) -> Result<(), Fail> {
     let mut sent = Vec::new(rt.alloc());
     for _ in 0..legs {
@@ -103,7 +104,7 @@ fn held_until_other(rt: HostRuntime) -> Result<(), Fail> {
     assert_meeting(&rt, "64", 1)
 }
 
-/// A worker that does not answer yet delays no other, whether its ring has room for all of its legs or for one.
+/// A worker that does not answer yet delays no other, with a ring for all of its legs or for one.
 #[test]
 fn full_ring_holds_up_no_other(rt: HostRuntime) -> Result<(), Fail> {
     for (ring, legs) in [("4", 4), ("4", 5), ("1", 100)] {
@@ -116,7 +117,7 @@ fn full_ring_holds_up_no_other(rt: HostRuntime) -> Result<(), Fail> {
 #[test]
 fn gate_stays_shut(rt: HostRuntime) -> Result<(), Fail> {
     let rows: [(GateMode, &[PacketEnds]); 3] = [
-        // The worker of 10.0.0.3 is the second: the gate refuses the fourth of its packets a million times.
+        // The gate refuses the fourth packet of 10.0.0.3, on the second worker, a million times.
         (GateMode::Shut(1, 3), &[SECOND_QUERY; 5]),
         // A hairpin that finds no binding, and then a packet of the host to which it went.
         (GateMode::Shut(1, 0), &[hairpin(2), served()]),

@@ -1,4 +1,4 @@
-//! A log that goes on from what a state keeps of it.
+//! A log that continues from the accounts in a state.
 
 use napt_account::{Account, LogBuilder, LogEntry, LogFromState, SavedLogState};
 use napt_config::Config;
@@ -16,7 +16,7 @@ pub(crate) const SETTINGS: &str = "pool = ['203.0.113.1']\ninside = ['10.0.0.0/8
 const OTHER_SETTINGS: &str = "pool = ['203.0.113.1']\ninside = ['10.0.0.0/8']\n\
 [[redirect]]\nprotocol = 'udp'\ninside = '10.0.0.3:7000'\nexternal = 7001\n";
 
-/// When the binding of 10.0.0.2:5000 ends, in ns: 300 s after its last use.
+/// The end of the binding of 10.0.0.2:5000, in ns: 300 s after its last use.
 const END: u128 = 300_000_020_000;
 
 fn binding(alloc: Global, host: u8, number: u16, last: u64) -> StateBinding {
@@ -38,7 +38,7 @@ fn binding(alloc: Global, host: u8, number: u16, last: u64) -> StateBinding {
     }
 }
 
-/// A binding of 10.0.0.2:5000, last used 20 us after the start, and the redirect.
+/// Returns a binding of 10.0.0.2:5000, last used 20 us after the start, and the redirect.
 fn state(alloc: Global) -> Result<State, AllocError> {
     Ok(State {
         clock: 30_000,
@@ -46,8 +46,8 @@ fn state(alloc: Global) -> Result<State, AllocError> {
     })
 }
 
-/// What a state keeps of a log: the last entry, with this number, for the binding after this number of packets, one
-/// every 10 us; and the first entry for the redirect.
+/// Returns the saved log of a state: the last entry, with this number, for the binding after this
+/// number of packets, one every 10 us; and the first entry for the redirect.
 pub(crate) fn kept(alloc: Global, number: u8, packets: u8) -> Result<SavedLogState, AllocError> {
     let last = u64::from(packets) * 10_000;
     let sent = Account {
@@ -72,7 +72,7 @@ pub(crate) fn kept(alloc: Global, number: u8, packets: u8) -> Result<SavedLogSta
     })
 }
 
-/// Returns the log that goes on under a configuration from the state and what it keeps of its log.
+/// Returns the log that continues under a configuration from the state and its saved log.
 fn resumed<'a>(
     alloc: Global,
     config: &'a Config,
@@ -92,7 +92,7 @@ fn numbers(alloc: Global, listed: &[LogEntry]) -> Result<Vec<u64>, AllocError> {
     listed.iter().map(|one| one.number).collect(alloc)
 }
 
-/// The saved entries go on with their numbers and without rows. At first the log's state is the saved one.
+/// The saved entries continue with their numbers, without rows. The log begins in its saved state.
 #[test]
 fn a_log_goes_on_with_the_bindings_of_its_state(rt: HostRuntime) -> Result<(), Fail> {
     let alloc = rt.alloc();

@@ -37,8 +37,8 @@ pub(crate) fn assert_same(rt: &impl Abort, outcomes: &[Outcome], all_wanted: &[O
     }
 }
 
-/// Checks that a run over workers under a gate is that on one thread, and has these numbers of legs at each external
-/// address. Returns the gate's count.
+/// Checks that a run over workers under a gate is that on one thread, and has these numbers of legs
+/// at each external address. Returns the gate's count.
 pub(crate) fn compared(
     rt: &impl TestRuntime,
     settings: &str,

@@ -1,4 +1,5 @@
-//! What neither a contract nor a row of `tests/calls` or `tests/drawn_calls` says of the libraries below a run.
+//! Properties of the libraries below a run that no contract and no row of `tests/calls` or
+//! `tests/drawn_calls` states.
 
 mod bits;
 mod captures;

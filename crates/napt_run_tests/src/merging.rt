@@ -4,7 +4,7 @@ use napt_capture::{EmptySource, RecordReader, Source, Watched};
 use napt_records::{RecordStream, StreamMerger};
 use std::test::Fail;
 
-/// Only the header has been read from the source.
+/// The source is returned after only the header has been read from it.
 #[test]
 fn streams_give_their_sources_back(rt: HostRuntime) -> Result<(), Fail> {
     let alloc = rt.alloc();

@@ -3,7 +3,7 @@
 use napt_wire::Endpoint;
 use std::alloc::{AllocError, Global};
 
-/// From inside: a UDP packet from 10.0.0.2:5000 to 198.51.100.7:53.
+/// A UDP packet from inside, from 10.0.0.2:5000 to 198.51.100.7:53.
 pub(crate) const UDP_QUERY: [u8; 30] = [
     0x45, 0, 0, 30, 0, 1, 0, 0, 64, 17, 0x46, 0x92, // IPv4, length, identification, UDP, checksum
     10, 0, 0, 2, 198, 51, 100, 7, // source, destination
@@ -19,7 +19,7 @@ fn bytes_of(alloc: Global, words: &[u16]) -> Result<Vec<u8>, AllocError> {
     Ok(bytes)
 }
 
-/// The one's complement of the one's complement sum of some words (RFC 1071).
+/// Returns the one's complement of the one's complement sum of some words (RFC 1071).
 fn checksum(words: &[u16]) -> u16 {
     let mut sum = 0u16;
     for word in words {
@@ -29,12 +29,12 @@ fn checksum(words: &[u16]) -> u16 {
     !sum
 }
 
-/// The two words of an address.
+/// Returns the two words of an address.
 fn halves(address: u32) -> [u16; 2] {
     [(address >> 16) as u16, (address & 0xFFFF) as u16]
 }
 
-/// A UDP packet without payload, with the lifetime 64 and the identification 1 (RFC 791, RFC 768).
+/// Returns a UDP packet without payload, with TTL 64 and identification 1 (RFC 791, RFC 768).
 pub(crate) fn udp(
     alloc: Global,
     source: Endpoint,

@@ -1,4 +1,5 @@
-//! What no contract says: answers come, workers step together and without a request, and how often a gate is asked.
+//! Properties beyond the contracts: answers come, workers step together and without a request, and
+//! the number of requests to a gate.
 
 mod batches;
 mod checked;

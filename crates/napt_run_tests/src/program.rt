@@ -1,5 +1,6 @@
-//! What neither a contract nor a run shows of the parts of the program: rare stops, words without a name, and file
-//! locations. Runs are in `tests/end_to_end`, `tests/logged`, `tests/terminal` and `tests/faulty_configurations`.
+//! Properties of the parts of the program that no contract and no run shows: rare stops, words
+//! without a name, and file locations. Runs are in `tests/end_to_end`, `tests/logged`,
+//! `tests/terminal` and `tests/faulty_configurations`.
 
 use napt_capture::CaptureFault;
 use napt_config::ConfigFault;

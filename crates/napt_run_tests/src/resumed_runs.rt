@@ -1,4 +1,4 @@
-//! A run that goes on from the state of an earlier one.
+//! A run that continues from the state of an earlier run.
 
 ghost use Rattle.std.specs.Prelude.{◌≡◌, []};
 
@@ -14,7 +14,7 @@ use std::alloc::Global;
 use std::ops::Range;
 use std::test::Fail;
 
-/// What a run writes, and the state after it.
+/// The outputs of a run, and the state after it.
 #[derive(Drop)]
 struct ResumedOutput {
     to_outside: Vec<u8>,
@@ -78,7 +78,8 @@ pub(crate) fn nothing(alloc: Global) -> State
     }
 }
 
-/// Whether the second text, without its header of 24 bytes, continues the first, as the whole text does.
+/// Returns whether the second text, without its header of 24 bytes, continues the first, as the
+/// whole text does.
 fn goes_on(first: &[u8], second: &[u8], whole: &[u8]) -> bool {
     let (Some(rest), Some(header)) = (whole.strip_prefix(first), first.get(..24)) else {
         return false;

@@ -1,5 +1,5 @@
-//! A run with its log, over captures as they arrive: the log, written out by hand, also in two parts, and what a log
-//! that fails leaves.
+//! A run with its log, over captures as they arrive: the log, written out by hand, also in two
+//! parts, and the outputs after a log that fails.
 
 ghost use Rattle.std.specs.Prelude.{◌≡◌};
 
@@ -26,7 +26,8 @@ sourceTransportPort,postNATSourceIPv4Address,postNAPTSourceTransportPort,natQuot
 packets_out,packets_in,flowEndNanoseconds,last_use\n\
 0,1970-01-01T00:00:00.000000000Z,8,17,10.0.0.3,7000,203.0.113.1,7000,,1,1,0,0,,\n";
 
-/// The first packet makes a binding; the second goes through it. Both are live at the end, the redirect for ever.
+/// The first packet makes a binding, which the second uses. It and the redirect are live at the
+/// end.
 const ROWS: &str =
     "10000,1970-01-01T00:00:00.000010000Z,8,17,10.0.0.2,5000,203.0.113.1,5000,,2,0,1,0,\
 10000,1970-01-01T00:00:00.000010000Z\n\
@@ -43,7 +44,7 @@ fn sent_at(alloc: Global, times: &[u32]) -> Result<Vec<u8>, AllocError> {
     Ok(text)
 }
 
-/// Makes the run over two packets with these settings, with a log that fails at a call, from 1, or never if it is 0.
+/// Makes the run over two packets, with a log that fails at a call, from 1, or never if it is 0.
 fn run_with(rt: &impl TestRuntime, settings: &str, call: u64) -> Result<RunOutput, Fail> {
     let inside = sent_at(rt.alloc(), &[10, 20])?;
     let given = RunInput {
@@ -75,7 +76,7 @@ struct Part {
     saved: SavedLogState,
 }
 
-/// A new log of what was saved, in one piece, with which another run goes on.
+/// Returns a new log of the saved accounts, in one piece, which another run continues.
 fn new_log(saved: &SavedLogState) -> LogStart<'_>
     ensures { result.saved ≡ saved.entry }
 {
@@ -127,7 +128,7 @@ fn run_on(
     })
 }
 
-/// A log that is begun and then continued after its text is together that of one run.
+/// A log that is begun and then continued after its text is the log of one run.
 #[test]
 fn log_of_a_run_in_two_parts(rt: HostRuntime) -> Result<(), Fail> {
     let alloc = rt.alloc();
@@ -151,7 +152,7 @@ fn log_of_a_run_in_two_parts(rt: HostRuntime) -> Result<(), Fail> {
     Ok(())
 }
 
-/// When the clock passes a second, a new piece begins, with the text of a run that goes on there with a new log.
+/// When the clock passes a second, a new piece begins, as the log of a run that continues there.
 #[test]
 fn log_of_a_run_in_pieces(rt: HostRuntime) -> Result<(), Fail> {
     let alloc = rt.alloc();

@@ -1,5 +1,5 @@
-//! The inputs of large runs: a thousand, and those of sixteen hosts that each send to all others. A function here fails
-//! only if memory is refused.
+//! The inputs of large runs: a thousand, and the inputs of sixteen hosts that each send to all
+//! others. The functions fail only if memory is refused.
 
 use crate::packets::udp;
 use crate::samples::hosts::{RESOLVER, external, host};
@@ -11,7 +11,7 @@ use std::alloc::{AllocError, Global};
 pub const THREE_ADDRESSES: &str =
     "pool = ['203.0.113.1', '203.0.113.2', '203.0.113.3']\ninside = ['10.0.0.0/8']\n";
 
-/// 203.0.113.1 to 203.0.113.16.
+/// The external addresses 203.0.113.1 to 203.0.113.16.
 pub const SIXTEEN_ADDRESSES: &str =
     "pool = ['203.0.113.1', '203.0.113.2', '203.0.113.3', '203.0.113.4', '203.0.113.5', \
 '203.0.113.6', '203.0.113.7', '203.0.113.8', '203.0.113.9', '203.0.113.10', '203.0.113.11', '203.0.113.12', \
@@ -19,9 +19,10 @@ pub const SIXTEEN_ADDRESSES: &str =
 
 const MILLISECOND: u64 = 1_000_000;
 
-/// A thousand UDP packets without payload, all from inside, one in each millisecond from 0 on. They come from the hosts
-/// 10.0.0.2 to 10.0.0.7 in turn and the ports 6000 to 6003 in turn. Every fifth goes to the same port of 203.0.113.1,
-/// 203.0.113.2 and 203.0.113.3 in turn, the others to `RESOLVER`. Under `THREE_ADDRESSES` no packet is dropped.
+/// Returns a thousand UDP packets without payload, all from inside, one in each millisecond from 0
+/// on. They come from the hosts 10.0.0.2 to 10.0.0.7 in turn and the ports 6000 to 6003 in turn.
+/// Every fifth goes to the same port of 203.0.113.1, 203.0.113.2 and 203.0.113.3 in turn, the
+/// others to `RESOLVER`. Under `THREE_ADDRESSES` no packet is dropped.
 pub fn thousand_inputs(alloc: Global) -> Result<Vec<Input>, AllocError> {
     let mut inputs = Vec::new(alloc);
     for k in 0..1000u16 {
@@ -37,8 +38,8 @@ pub fn thousand_inputs(alloc: Global) -> Result<Vec<Input>, AllocError> {
     Ok(inputs)
 }
 
-/// Sixteen hosts, each with an external address of its own, send to the resolver, and then each to all the others in
-/// turn, one packet in each millisecond.
+/// Returns the packets of sixteen hosts, each with its own external address, that send to the
+/// resolver, and then each to all the others in turn, one packet in each millisecond.
 pub fn all_to_all(alloc: Global) -> Result<Vec<Input>, AllocError> {
     let mut inputs = Vec::new(alloc);
     for k in 0..272u16 {
@@ -54,7 +55,7 @@ pub fn all_to_all(alloc: Global) -> Result<Vec<Input>, AllocError> {
     Ok(inputs)
 }
 
-/// Returns a packet that arrives from a side at this time, which is also its clock: the run takes the greatest so far.
+/// Returns a packet that arrives from a side at this time, in ns, which is also its clock.
 pub(crate) fn input(
     alloc: Global,
     side: Side,

@@ -1,4 +1,4 @@
-//! Values that tests share: hosts, captures and configurations. Tests compare them with the results of calls.
+//! Values that tests share and compare with results: hosts, captures and configurations.
 
 pub mod captures;
 pub mod hosts;

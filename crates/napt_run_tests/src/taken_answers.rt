@@ -1,4 +1,4 @@
-//! What no contract says: while inputs are read, all answers of workers that are there are taken.
+//! A property beyond the contracts: while inputs are read, all answers that are there are taken.
 
 ghost use Rattle.std.specs.Prelude.{⊤, MatchResult};
 
@@ -17,13 +17,13 @@ use std::sync::Arc;
 use std::sync::atomic::{AtomicU64, Ordering};
 use std::test::Fail;
 
-/// The input before which the first worker has answered the legs of two messages. After it that worker is looked at.
+/// The input by which the first worker has answered two messages, and after which it is looked at.
 const LOOKED_AFTER: u64 = 48;
 
-/// The number of legs in these two messages: the first input's, and those of the sixteen after it.
+/// The number of legs in these two messages: those of the first input and of the sixteen after it.
 const ANSWERED: u64 = 17;
 
-/// Packets of one host, and the number of outcomes that had left when the input after `LOOKED_AFTER` was requested.
+/// Packets of one host, and the number of outcomes that left before the input after `LOOKED_AFTER`.
 #[derive(Drop)]
 struct Packets {
     alloc: Global,
@@ -53,7 +53,7 @@ impl InputSource for Packets {
     fn next(&mut self, _spare: Vec<u8>) -> Result<Option<Input>, AllocError> {
         let number = self.number;
         if number == LOOKED_AFTER {
-            // The worker asks for the first turn of a message after the answers to all earlier ones are in the ring.
+            // The worker requests a message's first turn once all earlier answers are in the ring.
             self.gate.wait_for(ANSWERED);
         }
         if number > LOOKED_AFTER {
@@ -105,9 +105,9 @@ impl OutcomeSink for Count {
     }
 }
 
-/// With rings of 64 slots, the dispatcher sends a worker sixteen legs in a message, looks at the worker whenever it
-/// does, and takes all its answers: so they have left before the next input is requested. A dispatcher that takes one
-/// answer, or looks at no worker, delays them.
+/// With rings of 64 slots, the dispatcher sends a worker sixteen legs in a message, looks at the
+/// worker whenever it does, and takes all its answers. Therefore they have left before the next
+/// input is requested. A dispatcher that takes one answer, or looks at no worker, delays them.
 #[test]
 fn answers_are_taken_while_inputs_are_read(rt: HostRuntime) -> Result<(), Fail> {
     let alloc = rt.alloc();

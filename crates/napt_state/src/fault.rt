@@ -109,7 +109,7 @@ impl fmt::Display for StateFault {
             StateReason::WordCount => f.write_str("too many words, or too few"),
             StateReason::NoBinding => f.write_str("a flow that belongs to no binding"),
             StateReason::Counts => f.write_str("counts that do not match the lines"),
-            StateReason::Accounts => f.write_str("numbers that no log can have"),
+            StateReason::Accounts => f.write_str("accounts that cannot be those of one log"),
             StateReason::AfterEnd => f.write_str("text after the end"),
         }
     }

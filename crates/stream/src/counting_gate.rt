@@ -4,7 +4,7 @@ use napt_pool::Gate;
 use std::alloc::{AllocError, Global};
 use std::sync::atomic::{AtomicU64, Ordering};
 
-/// A count on cache lines of its own, so that workers do not slow one another down.
+/// A count on its own cache lines, so that workers do not slow each other down.
 #[derive(Drop)]
 struct GateCount {
     many: AtomicU64,

@@ -1,4 +1,4 @@
-//! The program `stream` does what `napt` does, but as the packets arrive, and in bounded memory.
+//! The program `stream`, which translates as `napt` does, but as packets arrive, in bounded memory.
 #![tactic(auto)]
 
 mod counted_device;

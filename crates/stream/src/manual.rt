@@ -23,7 +23,7 @@ Examples:
 After success each output contains the bytes that napt writes. The differences are:
   Each packet is answered, written and flushed before more input is read.
   With an outside capture, a packet waits for the next record of the other side,
-  whose time shows that no earlier packet can come. An empty record will do.
+  whose time shows that no earlier packet can come. An empty record is enough.
   If a capture has a fault, all packets before it are translated and written.
   Outputs begin with their header in any case; the report is written only at
   the end.
@@ -39,9 +39,9 @@ After success each output contains the bytes that napt writes. The differences a
 
 --verbose adds a second line on standard error, which a terminal gets anyway: the
 option, its file, and what is wrong with it (in a configuration, with the place).
-With --end-misfits the bindings of the state that the configuration cannot keep end
-at its time, in the log too, and one line on standard error counts them; all others
-go on.
+With --end-misfits the bindings that the configuration does not accept expire at
+the state's time, in the log too, and one line on standard error counts them; all
+others continue.
 
 Exit status, and the line on standard error that says why: as for napt, with
 ", $name, ": in place of napt: at its beginning. too-large never occurs, and too-many

@@ -17,11 +17,11 @@ use std::alloc::Global;
 use std::sync::Arc;
 use std::time::Clock;
 
-/// Does what the command line requests: runs over the files that it names, with a worker thread for
-/// each external address, or prints help or the version. It warns of cut and swapped
-/// captures, and of packets that are earlier than the state. A terminal gets progress too.
+/// Serves the command line: runs over the files that it names, with a worker thread for each
+/// external address, or prints help or the version. Warns of cut and swapped captures, and of
+/// packets that are earlier than the state. A terminal gets progress too.
 ///
-/// Before any capture is opened, fails if the arguments are not understood or memory for them is
+/// Fails before any capture is opened if the arguments are not understood or memory for them is
 /// refused, if a needed standard stream is closed, or if the configuration is refused; after that,
 /// if a file cannot be opened or created, or if the run fails. A shut gate is never reported.
 pub fn serve<R: ProgramHost + Clock>(
@@ -40,8 +40,8 @@ pub fn serve<R: ProgramHost + Clock>(
     serve_words(rt, streams, call, words, reason)
 }
 
-/// Does what these arguments request; the first is the program's name. If it succeeds, they were
-/// understood, and it fails only by what they name.
+/// Serves these arguments, of which the first is the program's name. Succeeds only if they are
+/// understood, and fails only with a stop that they can cause.
 pub fn serve_words<R: ProgramHost + Clock>(
     rt: &R,
     streams: StandardStreams,

@@ -82,7 +82,7 @@ impl<'r, R: Eprint + Clock + AllocGlobal> ProgressReport<'r, R> {
     }
 
     /// Prints, once, that the first packet of a capture, of this time in ns, is earlier than the
-    /// state. Without memory for that the run goes on, and nothing is printed.
+    /// state. If memory for the message is refused, the run continues, and nothing is printed.
     pub fn print_if_earlier(&self, time: u64) {
         let clock = self.clock.get();
         if time < clock {

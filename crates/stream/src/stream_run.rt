@@ -31,7 +31,7 @@ pub struct StreamRun<'a> {
     pub options: &'a OptionsWithLog,
     pub config: &'a Config,
     pub state: &'a State,
-    /// What the state keeps of its log.
+    /// The accounts of its log that the state contains.
     pub saved: &'a SavedLogState,
     pub gate: Arc<CountingGate>,
 }
@@ -54,13 +54,13 @@ pub struct StreamResult<A, B, T: Write + Drop, F: Write + Drop> {
 /// The result of a run that succeeded.
 #[derive(Drop)]
 pub struct StreamRemainder {
-    /// The state after the run, if it is to be saved, with that of its log, if it has one.
+    /// The state after the run, if it is to be saved, with the accounts of its log, if it has one.
     pub state: Option<StateFileContents>,
 }
 
 impl<'a> StreamRun<'a> {
-    /// Warns on standard error if the state has no accounts of its bindings, so that the log, if there
-    /// is one, begins new entries for them. Fails with `MEMORY` if memory is refused.
+    /// Warns on standard error if the state has no accounts of its bindings, so that the log, if
+    /// there is one, begins new entries for them. Fails with `MEMORY` if memory is refused.
     pub fn print_new_entries<R: Eprint + AllocGlobal>(
         &self,
         rt: &R,
@@ -274,8 +274,8 @@ fn result_without_log(
     })
 }
 
-/// Returns the result of the program for that of a run with a log, whose accounts and end it keeps if
-/// the state is to be saved. Fails as the run does, and with `Stop::Log` on a failed sync.
+/// Returns the result of the program for that of a run with a log, with the log's accounts and end
+/// if the state is to be saved. Fails as the run does, and with `Stop::Log` on a failed sync.
 fn result_with_log<T: Write + Drop, F: SeekableFile + Drop, R: Files + AllocGlobal>(
     alloc: Global,
     options: &OptionsWithLog,
@@ -298,7 +298,7 @@ fn result_with_log<T: Write + Drop, F: SeekableFile + Drop, R: Files + AllocGlob
     if options.files.save.is_none() {
         return Ok(StreamRemainder { state: None });
     }
-    // A fault of the log is reported before that of the state.
+    // A fault of the log is reported before a fault of the state.
     let state = end.passed.into_state_if(true, alloc);
     let log_end = log.synced_end()?;
     Ok(StreamRemainder {
@@ -306,7 +306,7 @@ fn result_with_log<T: Write + Drop, F: SeekableFile + Drop, R: Files + AllocGlob
     })
 }
 
-/// Returns what a run saves, if its state is to be saved. Fails with `MEMORY` if memory is refused.
+/// Returns the contents of the saved state, if any. Fails with `MEMORY` if memory is refused.
 fn saved_contents(
     alloc: Global,
     config: &Config,

@@ -1,4 +1,4 @@
-//! Reading and writing captures.
+//! Reads and writes captures.
 
 use crate::CallFault;
 use crate::play::line::{Line, print_answer};
@@ -7,7 +7,7 @@ use napt_capture::{LARGEST_RECORD, Record, Watched, read_capture, write_capture}
 /// The first time in ns that a capture cannot contain: 2 ^ 32 seconds.
 const TIMES_END: u64 = 4_294_967_296_000_000_000;
 
-/// `read_capture BYTES`
+/// `read_capture BYTES`: prints the capture, or its fault.
 pub(crate) fn print_read<R: Print>(line: &mut Line<'_, R>) -> Result<(), CallFault> {
     let bytes = line.bytes()?;
     print_answer(

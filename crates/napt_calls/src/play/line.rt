@@ -7,7 +7,7 @@ use std::alloc::Global;
 use std::fmt::Debug;
 use std::str::SplitWhitespace;
 
-/// The words of a line that have not been read yet, and what its call needs in addition: memory, and standard output.
+/// The words of a line that have not been read yet, with the memory and output of its call.
 #[derive(Drop)]
 pub(crate) struct Line<'a, R> {
     pub(crate) rt: &'a R,

@@ -22,8 +22,9 @@ pub(crate) fn take_input<R: Print>(
     inputs.push(input).map_err(|_| CallFault::Call)
 }
 
-/// `logged`: prints the entries that the log ends, makes and refuses with each input, and what the input did to the
-/// bindings; then the entries that remain, and all entries in the order of making.
+/// `logged`: prints the entries that the log ends, makes and refuses with each input, and the
+/// effect of the input on the bindings; then the entries that remain, and all entries in the order
+/// of making.
 pub(crate) fn print_log<R: Print>(
     line: &Line<'_, R>,
     config: Option<&Config>,

@@ -1,4 +1,4 @@
-//! Two captures that are merged: in memory, and as they are read.
+//! Merges two captures, in memory and as they are read.
 
 ghost use Rattle.std.specs.Prelude.{◌≡◌, ◌<◌, ◌^◌, ◌-◌, IfOk};
 
@@ -12,7 +12,7 @@ use napt_records::{RecordStream, StreamMerger, merge};
 use napt_sequential::InputSource;
 use std::alloc::Global;
 
-/// The number of times that a call asks for an input, so that each end of a text is reached more than once.
+/// The number of inputs that a call requests, so that each end of a text is reached more than once.
 const ASKS: u32 = 10;
 
 /// Reads both captures; the next word is the number of bytes in the first.
@@ -53,7 +53,7 @@ fn open_stream<'a, R: Source>(
     Ok(RecordStream::new(source, records))
 }
 
-/// Prints before each input whether a device is asked, and then the input, whether the captures are cut, or a fault.
+/// Prints whether a device is read, and then each input, whether the captures are cut, or a fault.
 fn print_inputs<P: Print, R: Source, Q: Source>(
     line: &Line<'_, P>,
     streams: &mut StreamMerger<'_, '_, R, Q>,
@@ -74,7 +74,7 @@ fn print_inputs<P: Print, R: Source, Q: Source>(
     println!(line.rt; "").map_err(|_| CallFault::File)
 }
 
-/// Prints the same of two streams, and closes them.
+/// Prints the inputs of two streams in this way, and closes them.
 fn print_streams<P: Print, R: Source, Q: Source>(
     line: &Line<'_, P>,
     mut streams: StreamMerger<'_, '_, R, Q>,

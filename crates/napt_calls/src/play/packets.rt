@@ -1,11 +1,11 @@
-//! Packets, and the two ways to update a checksum.
+//! Reads and changes packets, and updates checksums in both ways.
 
 use crate::CallFault;
 use crate::play::line::{Line, print_answer};
 use napt_wire::{Endpoint, Kind, Packet, Way, fix_check, fix_check_udp};
 
-/// `read SIDE BYTES`: prints the packet, which becomes the current one, with both ends, or why the bytes are refused,
-/// with the bytes that are returned.
+/// `read SIDE BYTES`: prints the packet, which becomes the current one, with both ends, or why the
+/// bytes are refused, with the bytes that are returned.
 pub(crate) fn read<R: Print>(line: &mut Line<'_, R>) -> Result<Option<Packet>, CallFault> {
     let side = line.side()?;
     match Packet::read(side, line.bytes()?) {
@@ -25,8 +25,8 @@ pub(crate) fn read<R: Print>(line: &mut Line<'_, R>) -> Result<Option<Packet>, C
     }
 }
 
-/// Makes a call on the current packet: `local_end WAY` and `remote_end WAY` print that end; `set_source END`,
-/// `set_destination END`, `revert_inner WAY END` and `bytes` print the bytes.
+/// Makes a call on the current packet: `local_end WAY` and `remote_end WAY` print that end;
+/// `set_source END`, `set_destination END`, `revert_inner WAY END` and `bytes` print the bytes.
 pub(crate) fn answer<R: Print>(
     line: &mut Line<'_, R>,
     packet: &mut Packet,
@@ -71,7 +71,7 @@ fn revert_inner(packet: &mut Packet, way: Way, end: Endpoint) -> Result<(), Call
     Ok(())
 }
 
-/// `fix_check CHECK OLD NEW` or `fix_check_udp CHECK OLD NEW`
+/// `fix_check CHECK OLD NEW` or `fix_check_udp CHECK OLD NEW`: prints the updated checksum.
 pub(crate) fn print_check<R: Print>(line: &mut Line<'_, R>, call: &str) -> Result<(), CallFault> {
     let (check, old, new) = (line.short()?, line.short()?, line.short()?);
     let fixed = if call == "fix_check" {

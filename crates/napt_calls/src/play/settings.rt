@@ -1,4 +1,4 @@
-//! Configurations, and what they say about hosts and external numbers.
+//! Configurations, and their answers about hosts and external numbers.
 
 use crate::CallFault;
 use crate::play::line::{Line, print_answer};
@@ -15,7 +15,7 @@ pub(crate) fn read<R: Print>(line: &mut Line<'_, R>) -> Result<Option<Config>, C
     Ok(config)
 }
 
-/// `copy`, of the current configuration, or `built_in`.
+/// `copy` or `built_in`: returns a copy of the current configuration, or the built-in one.
 pub(crate) fn made<R: Print>(
     line: &Line<'_, R>,
     config: Option<&Config>,

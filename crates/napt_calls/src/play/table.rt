@@ -10,8 +10,8 @@ use napt_config::{Config, PortBlock};
 use napt_table::{OutboundPacket, Table};
 use napt_wire::Protocol;
 
-/// `table ADDRESS CONFIGURATION`: makes a table of that address, in a box: a function that owns a table itself takes
-/// minutes to prove.
+/// `table ADDRESS CONFIGURATION`: makes a table of that address, in a box, since a function that
+/// owns a table takes minutes to prove.
 pub(crate) fn new_table<R: Print>(line: &mut Line<'_, R>) -> Result<Box<Table>, CallFault> {
     let address = line.long()?;
     let config = Config::read(line.alloc, &line.bytes()?).map_err(|_| CallFault::Config)?;
@@ -52,8 +52,8 @@ pub(crate) fn answer<R: Print>(
     }
 }
 
-/// Returns whether there is no block, or one of an even size whose first number is even and at
-/// least 1024.
+/// Returns whether there is no block, or one of even size with an even first number, at least
+/// 1024.
 fn keeps_block(block: Option<PortBlock>) -> bool
     ensures { result ≡ true → IfSome block IsPortBlock }
 {
@@ -74,7 +74,8 @@ pub(crate) fn is_number(protocol: Protocol, number: u16) -> bool
     }
 }
 
-/// `outbound NOW PROTOCOL INSIDE REMOTE FLAGS`, and the first number and the size of the host's block, if it has one.
+/// `outbound NOW PROTOCOL INSIDE REMOTE FLAGS [FIRST SIZE]`: prints the answer, with a block or
+/// not.
 fn outbound<R: Print>(line: &mut Line<'_, R>, table: &mut Table, now: u64) -> Result<(), CallFault>
     requires { table.old.at ≤ now }
 {
@@ -93,7 +94,7 @@ fn outbound<R: Print>(line: &mut Line<'_, R>, table: &mut Table, now: u64) -> Re
     print_answer(line.rt, &answer.map_err(|_| CallFault::Call)?)
 }
 
-/// `inbound NOW PROTOCOL NUMBER REMOTE FLAGS`
+/// `inbound NOW PROTOCOL NUMBER REMOTE FLAGS`: prints the answer.
 fn inbound<R: Print>(line: &mut Line<'_, R>, table: &mut Table, now: u64) -> Result<(), CallFault>
     requires { table.old.at ≤ now }
 {

@@ -13,7 +13,7 @@ pub(crate) struct Translators {
     all: Vec<Translator>,
 }
 
-/// `translators CONFIGURATION`.
+/// `translators CONFIGURATION`: returns the translators of the pool.
 pub(crate) fn new_translators<R: Print>(line: &mut Line<'_, R>) -> Result<Translators, CallFault> {
     let alloc = line.alloc;
     let config = Config::read(alloc, &line.bytes()?).map_err(|_| CallFault::Config)?;
@@ -36,7 +36,7 @@ impl Translators {
         self.all.get_mut(usize::from(place)).ok_or(CallFault::Usage)
     }
 
-    /// `route SIDE`, for the current packet.
+    /// `route SIDE`: prints the route of the current packet.
     pub(crate) fn print_route<R: Print>(
         &self,
         line: &mut Line<'_, R>,
@@ -45,7 +45,7 @@ impl Translators {
         print_answer(line.rt, &route(&self.config, line.side()?, packet))
     }
 
-    /// `onward`, for the current packet.
+    /// `onward`: prints the onward route of the current packet.
     pub(crate) fn print_onward<R: Print>(
         &self,
         line: &Line<'_, R>,
@@ -54,7 +54,7 @@ impl Translators {
         print_answer(line.rt, &onward(&self.config, packet))
     }
 
-    /// `translate PLACE NUMBER NOW WAY`: makes a leg of the current packet, which becomes the packet that leaves.
+    /// `translate PLACE NUMBER NOW WAY`: makes a leg of the current packet, which it replaces.
     pub(crate) fn translate<R: Print>(
         &mut self,
         line: &mut Line<'_, R>,

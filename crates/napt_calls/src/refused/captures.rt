@@ -1,5 +1,5 @@
-//! A run over captures that are read at once or in steps: with a growth of memory refused, and with each call of each
-//! device refused in turn.
+//! A run over captures that are read at once or in steps: with a growth of memory refused, and with
+//! each call of each device refused in turn.
 
 ghost use Rattle.std.specs.Prelude.{◌<◌};
 
@@ -32,7 +32,7 @@ enum RefusingDevice {
     Report,
 }
 
-/// The call of a device that fails, counted from 1; 0 if none does.
+/// The call of a device that fails, counted from 1, or 0 if none does.
 #[derive(Clone, Copy)]
 struct Refusal {
     device: RefusingDevice,
@@ -54,7 +54,7 @@ impl Refusal {
     }
 }
 
-/// What a run returns and writes.
+/// The result and the outputs of a run.
 #[derive(Drop)]
 struct CallOutput {
     answer: Result<(), Fault>,
@@ -120,7 +120,7 @@ const NONE: Refusal = Refusal {
     trouble: InjectedFault::Fails,
 };
 
-/// Makes the run, and checks what it leaves.
+/// Makes the run, and checks that nothing is left.
 fn tried(
     rt: &impl System,
     config: &Config,
@@ -132,12 +132,12 @@ fn tried(
     looked_at(rt, &counts, run)
 }
 
-/// Makes the run. Its outputs must be complete. If memory or a thread was refused, they must be empty after captures
-/// that are read at once, and prefixes of the complete ones otherwise.
+/// Makes the run. Its outputs must be complete. If memory or a thread was refused, they must be
+/// empty after captures that are read at once, and otherwise prefixes of the complete outputs.
 pub(crate) fn ended(rt: &impl System, are_whole: bool) -> Result<(), CallResult> {
     let config = configuration(rt.alloc())?;
     let run = tried(rt, &config, are_whole, NONE)?;
-    // One packet to the outside, two to inside hosts.
+    // One packet goes to the outside, and two packets go to inside hosts.
     let (whole, written) = ((68, 112), (run.to_outside.len(), run.to_inside.len()));
     let most = if are_whole { (0, 0) } else { whole };
     match run.answer {
@@ -152,8 +152,9 @@ pub(crate) fn ended(rt: &impl System, are_whole: bool) -> Result<(), CallResult>
     }
 }
 
-/// Refuses each call of each device in turn, over captures that are read in steps. No thread is left, each output is a
-/// prefix of that of the complete run, and the fault names the device and how much of an output was written.
+/// Refuses each call of each device in turn, over captures that are read in steps. No thread may be
+/// left, each output must be a prefix of the complete one, and the fault must name the device and
+/// the number of bytes written.
 pub(crate) fn devices_ended(rt: &impl System) -> Result<(), CallResult> {
     let config = configuration(rt.alloc())?;
     let whole = tried(rt, &config, false, NONE)?;

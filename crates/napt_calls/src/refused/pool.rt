@@ -1,4 +1,4 @@
-//! A pool that is started, filled and closed.
+//! Starts, fills and closes a pool.
 
 ghost use Rattle.std.specs.Prelude.{◌≡◌, ◌<◌, IfOk, length, vec_len};
 ghost use Rattle.napt_pool.specs.Pools.{initial_machines};
@@ -13,7 +13,7 @@ use std::sync::atomic::Ordering;
 /// The number of workers.
 const WORKERS: u32 = 3;
 
-/// Answers each item with itself, and takes memory for each step. The machines that are made and dropped are counted.
+/// Answers each item with itself, and takes memory for each step. Counts the machines.
 struct Echo {
     counts: Arc<Counts>,
 }
@@ -54,7 +54,7 @@ fn machines(alloc: Global, counts: &Arc<Counts>) -> Result<Vec<Echo>, AllocError
     Ok(all)
 }
 
-/// Offers a worker as many items as it may owe answers, and returns whether it took them.
+/// Offers a worker as many items as it can accept, and returns whether it accepted them.
 fn fill<G: Gate>(alloc: Global, pool: &mut Pool<Echo, G>, w: u32) -> bool
     requires { w < length (initial_machines pool.old) }
     ensures { length (initial_machines pool.new) ≡ length (initial_machines pool.old) }

@@ -1,11 +1,11 @@
-//! Reading a capture and a configuration.
+//! Reads a capture and a configuration.
 
 use crate::refused::CallResult;
 use napt_capture::{CaptureFault, Watched, read_capture};
 use napt_config::{Config, ConfigFault};
 use std::alloc::Global;
 
-/// A capture in microseconds, in little-endian order, with a packet of four bytes and one of two, both at 1 s.
+/// A capture in microseconds, little-endian, of a packet of four bytes and one of two, at 1 s.
 const CAPTURE: [u8; 62] = [
     0xd4, 0xc3, 0xb2, 0xa1, 2, 0, 4, 0, 0, 0, 0, 0, 0, 0, 0, 0, 0xff, 0xff, 0, 0, 0x65, 0, 0, 0, 1,
     0, 0, 0, 0, 0, 0, 0, 4, 0, 0, 0, 4, 0, 0, 0, 1, 2, 3, 4, // the first

@@ -1,4 +1,4 @@
-//! What workers leave: machines, threads, and questions to their gate.
+//! The remainders of workers: machines, threads, and requests to their gate.
 
 use crate::refused::CallResult;
 use napt_pool::{Backoff, Gate};
@@ -19,7 +19,7 @@ pub(crate) struct Counts {
     asks: AtomicU64,
 }
 
-/// A gate that is always open, and counts how often it is asked.
+/// A gate that is always open, and counts its requests.
 #[derive(Drop)]
 pub(crate) struct GateCounter {
     counts: Arc<Counts>,
@@ -68,8 +68,8 @@ fn is_soon_alone<R: Files + AllocGlobal + Wait>(rt: &R) -> io::Result<bool> {
     Ok(false)
 }
 
-/// Returns the end of the call, if nothing is left: each machine has been dropped, only the first thread runs, and the
-/// gate is not asked any more.
+/// Returns the end of the call, if nothing is left: each machine has been dropped, only the first
+/// thread runs, and the gate gets no more requests.
 pub(crate) fn looked_at<R: Files + AllocGlobal + Wait, T: Drop>(
     rt: &R,
     counts: &Counts,

@@ -1,5 +1,5 @@
-//! Two captures, one of each side; runs over their inputs with two external addresses, on workers and on one thread;
-//! and the merging of these inputs.
+//! Runs over the inputs of two captures, one of each side, with two external addresses, on workers
+//! and on one thread, and merges these inputs.
 
 use crate::refused::remainders::{counted, looked_at};
 use crate::refused::{CallResult, System};
@@ -13,7 +13,8 @@ use std::alloc::Global;
 const CONFIGURATION: &str =
     "pool = [\"203.0.113.1\", \"203.0.113.2\"]\ninside = [\"10.0.0.0/8\"]\n";
 
-/// At 1 s udp 10.0.0.3:7000 > 198.51.100.7:53, and at 2 s a hairpin, udp 10.0.0.2:5000 > 203.0.113.2:7000.
+/// At 1 s udp 10.0.0.3:7000 > 198.51.100.7:53, and at 2 s a hairpin, udp 10.0.0.2:5000 >
+/// 203.0.113.2:7000.
 pub(crate) const INSIDE: [u8; 112] = [
     0xd4, 0xc3, 0xb2, 0xa1, 2, 0, 4, 0, 0, 0, 0, 0, 0, 0, 0, 0, 0xff, 0xff, 0, 0, 0x65, 0, 0, 0,
     // time, captured and original length
@@ -61,8 +62,7 @@ pub(crate) fn inputs(alloc: Global) -> Result<Vec<Input>, CallResult> {
     merge(alloc, inside, outside).map_err(|_| CallResult::Before)
 }
 
-/// Returns whether an input is a packet of 28 bytes that arrived from a side at a time, in seconds,
-/// the latest so far.
+/// Returns whether an input is a packet of 28 bytes from a side at a time in s, the latest so far.
 fn came(input: &Input, side: Side, seconds: u64) -> bool {
     let time = seconds.saturating_mul(1_000_000_000);
     input.side == side && input.time == time && input.clock == time && input.bytes.len() == 28

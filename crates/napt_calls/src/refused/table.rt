@@ -1,4 +1,4 @@
-//! Packets that go out through a table.
+//! Sends packets out through a table.
 
 use crate::play::is_number;
 use crate::refused::CallResult;
@@ -9,7 +9,7 @@ use std::alloc::{AllocError, Global};
 
 const SECOND: u64 = 1_000_000_000;
 
-/// 203.0.113.1
+/// The external address 203.0.113.1.
 const EXTERNAL: u32 = 0xCB00_7101;
 
 /// The table's address, and a filter with which flows can be observed.
@@ -24,9 +24,10 @@ const PACKETS: u16 = 60;
 pub(crate) enum TableCall {
     /// Each packet is the first of its host.
     Bindings,
-    /// Each packet but the first of its protocol has an existing binding, and is sent to another remote.
+    /// Each packet except the first of its protocol has a binding, and is sent to another remote.
     Flows,
-    /// Each packet is sent 400 s after the last of its protocol and host, whose binding has ended; others are live.
+    /// Each packet is sent 400 s after the last one of its protocol and host, whose binding has
+    /// ended. Others are live.
     Ends,
 }
 
@@ -40,8 +41,7 @@ struct TablePacket {
     flags: Flags,
 }
 
-/// Returns the packet of a kind at an index, one of each protocol in turn: from 10.0.0.0:5000 on, to 198.51.100.0:53
-/// and on.
+/// Returns the packet of a kind at an index, from 10.0.0.0:5000 and up, of each protocol in turn.
 fn packet_of(kind: TableCall, place: u16) -> TablePacket {
     let round = place / 3;
     let protocol = match place % 3 {
@@ -74,7 +74,7 @@ fn packet_of(kind: TableCall, place: u16) -> TablePacket {
     }
 }
 
-/// Sends the packet, and returns the external number, or `None` if the packet is refused or may not be sent.
+/// Sends the packet. Returns the external number, or `None` if it is refused or not allowed.
 fn send(alloc: Global, table: &mut Table, packet: TablePacket) -> Result<Option<u16>, AllocError> {
     let TablePacket {
         now,
@@ -90,8 +90,8 @@ fn send(alloc: Global, table: &mut Table, packet: TablePacket) -> Result<Option<
     Ok(answer.ok())
 }
 
-/// Returns whether an answer to the packet comes in, if its external number is that of its inside
-/// endpoint.
+/// Returns whether an answer comes in to the external number that the inside endpoint
+/// has.
 fn is_answered(table: &mut Table, packet: TablePacket) -> bool {
     if packet.now < table.at() {
         return false;
@@ -125,7 +125,7 @@ fn step(alloc: Global, table: &mut Table, packet: TablePacket) -> Result<(), Cal
         Protocol::Tcp => 240,
         Protocol::Udp => 300,
     };
-    // The times of the packet before it, of the packet, and when a binding as old as the packet before it has ended.
+    // The times of the packet before it, of the packet, and of the end of the former's binding.
     let times = [at, packet.now, at.saturating_add(lasts * SECOND)];
     let before = rows_at(alloc, table, &times)?;
     match send(alloc, table, packet) {
@@ -141,7 +141,7 @@ fn step(alloc: Global, table: &mut Table, packet: TablePacket) -> Result<(), Cal
     }
 }
 
-/// Returns the end of the call after a refused packet: no answer to it comes in, until it is sent again and passes.
+/// Returns the end after a refused packet: no answer comes in until it is sent again and passes.
 fn sent_again(alloc: Global, table: &mut Table, packet: TablePacket) -> CallResult {
     if is_answered(table, packet) {
         return CallResult::Wrong("a refused packet is answered");
@@ -158,7 +158,7 @@ fn sent_again(alloc: Global, table: &mut Table, packet: TablePacket) -> CallResu
 pub(crate) fn ended(alloc: Global, kind: TableCall) -> Result<(), CallResult> {
     let config = Config::read(alloc, CONFIGURATION.as_bytes()).map_err(|_| CallResult::Before)?;
     let table = Table::new(alloc, EXTERNAL, &config)?;
-    // In a box: a function that owns a table itself takes minutes to prove.
+    // The table is in a box, since a function that owns a table takes minutes to prove.
     let mut table = Box::new(alloc, table).map_err(|_| CallResult::Before)?;
     for place in 0..PACKETS {
         step(alloc, &mut table, packet_of(kind, place))?;

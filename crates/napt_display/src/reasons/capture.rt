@@ -1,4 +1,4 @@
-//! What a refused capture seems to be, and the command that makes the two captures that napt reads from it.
+//! The probable form of a refused capture, and the command that makes napt's two captures from it.
 
 ghost use Rattle.std.specs.Prelude.{◌≤◌, ◌+◌, IfOk, OnOk, vec_len};
 
@@ -7,7 +7,7 @@ use napt_capture::CaptureFault;
 use napt_config::Prefix;
 use std::alloc::{AllocError, Global};
 
-/// The call of split that turns a capture into those that napt reads.
+/// The call of split that makes the captures that napt reads from another capture.
 #[derive(Clone, Copy)]
 pub struct SplitAdvice<'a> {
     /// The name of split: `./split`, or `napt-split` if it is installed.
@@ -18,7 +18,7 @@ pub struct SplitAdvice<'a> {
     pub inside: &'a [Prefix],
 }
 
-/// What some bytes seem to be.
+/// The probable form of some bytes.
 #[derive(Clone, Copy)]
 enum FileForm {
     Empty,
@@ -28,7 +28,7 @@ enum FileForm {
     Pcap(CaptureFormat, u32),
     /// The capture could not be read.
     Unread,
-    /// None of these, or a libpcap capture that ends within its header.
+    /// An unknown form, or a libpcap capture that ends within its header.
     Unknown,
 }
 
@@ -95,8 +95,9 @@ fn link_name(link: u32) -> Option<&'static str> {
     }
 }
 
-/// Returns why `read_capture` refuses some bytes with this fault, in at least two reasons: the fault in words, what the
-/// bytes seem to be, and what to do if that is known, with this call of split. Fails only if memory is refused.
+/// Returns why `read_capture` refuses some bytes with this fault, in at least two reasons: the
+/// fault in words, the probable form of the bytes and, if it is known, what to do, with this call
+/// of split. Fails only if memory is refused.
 pub fn capture_reasons(
     alloc: Global,
     bytes: &[u8],
@@ -111,7 +112,7 @@ pub fn capture_reasons(
     Ok(reasons)
 }
 
-/// Adds what some bytes seem to be and, if known, the command that makes captures for napt from them.
+/// Adds the probable form of some bytes and, if known, the command that converts them for napt.
 fn add_form(
     alloc: Global,
     reasons: &mut Vec<Reason>,
@@ -144,7 +145,7 @@ fn add_form(
     }
 }
 
-/// Adds the command that makes napt's two captures from this one, or from `other` if this one has no path.
+/// Adds the command that makes napt's two captures from this one, or from `other` without a path.
 fn add_split(
     alloc: Global,
     reasons: &mut Vec<Reason>,

@@ -1,4 +1,4 @@
-//! What causes of drops mean, and what to do if there are many.
+//! The meanings of the causes of drops, and what to do about many drops.
 
 use napt_wire::Cause;
 
@@ -7,9 +7,9 @@ use napt_wire::Cause;
 pub struct CauseText {
     /// The cause in words.
     pub meaning: &'static str,
-    /// What to do if many packets are dropped for it.
+    /// The advice if many packets are dropped for it.
     pub advice: Option<&'static str>,
-    /// The same for replies, if it differs from that for other packets.
+    /// The advice if many replies are dropped for it, if that differs.
     pub advice_of_replies: Option<&'static str>,
 }
 
@@ -50,14 +50,14 @@ impl CauseText {
                 "the checksum was left to the network card: switch its offload off, or capture at the other end",
             ),
             Cause::Fragment => CauseText::with_advice(
-                "a fragment, and napt does not put them together",
+                "a fragment, which napt does not reassemble",
                 "the path has a small MTU: capture where datagrams are whole",
             ),
             Cause::Unsupported => CauseText::new(
                 "neither UDP nor TCP, an ICMP message that is not translated, or an echo to the pool",
             ),
             Cause::BadInner => CauseText::new(
-                "an ICMP error that quotes too little, or a packet that nobody here sent",
+                "an ICMP error that quotes too little, or a packet that no inside host sent",
             ),
             Cause::BadPort => CauseText::new("a port 0"),
             Cause::Spoofed => CauseText::with_advice(
@@ -73,23 +73,23 @@ impl CauseText {
             },
             Cause::NoBinding => CauseText {
                 advice_of_replies: Some(
-                    "`quota`, the timers or the pool leave their hosts without a binding, or the inside capture lacks what was sent before",
+                    "`quota`, the timers or the pool leave their hosts without a binding, or the inside capture lacks earlier packets",
                 ),
                 ..CauseText::with_advice(
-                    "nobody inside sent from there, or longer ago than the timer",
-                    "the inside capture lacks what was sent before, or `pool` is not that of the gateway that was captured",
+                    "no inside host sent from there, or the timer has expired since",
+                    "the inside capture lacks earlier packets, or `pool` is not that of the gateway that was captured",
                 )
             },
             Cause::Filtered => CauseText::with_advice(
-                "the filter does not let this remote in: nothing was sent to it",
-                "the remotes were not sent to: `filter = \"independent\"` would let them in",
+                "the filter drops packets from this remote, since nothing was sent to it",
+                "nothing was sent to the remotes: `filter = \"independent\"` would accept their packets",
             ),
             Cause::OverQuota => CauseText::with_advice(
                 "the host has all the bindings that `quota` allows it",
-                "raise `quota`, or leave it out: then there is no limit",
+                "raise `quota`, or omit it, so that there is no limit",
             ),
             Cause::NoPort => CauseText::with_advice(
-                "every number that may stand for it is taken at this external address",
+                "every number that may replace it is in use at this external address",
                 "the pool is too small: add an address",
             ),
         }

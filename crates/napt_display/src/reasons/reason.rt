@@ -1,19 +1,19 @@
-//! One reason for a refusal.
+//! A reason for a refusal.
 
 ghost use Rattle.std.specs.Prelude.{◌≡◌, ◌+◌, OnOk, vec_len};
 
 use std::alloc::AllocError;
 
-/// One reason for a refusal.
+/// A reason for a refusal.
 #[derive(Drop)]
 pub struct Reason {
-    /// The word before it: `why`, `at`, `line`, `meant`, `value`, `with_advice`, `expected`, `it is` or `do`; empty if it
-    /// continues the reason before.
+    /// The word before it: `why`, `at`, `line`, `meant`, `value`, `with_advice`, `expected`, `it is` or
+    /// `do`. It is empty if the reason continues the reason before.
     pub title: &'static str,
     pub text: String,
 }
 
-/// Adds a reason to others. Fails if its text does, or if memory is refused.
+/// Adds a reason to others. Fails if making its text fails, or if memory is refused.
 pub fn add(
     reasons: &mut Vec<Reason>,
     title: &'static str,

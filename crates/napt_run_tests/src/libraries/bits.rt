@@ -3,7 +3,7 @@
 use napt_collections::BitSet;
 use std::test::Fail;
 
-/// One past the greatest number.
+/// The number after the greatest number of a set.
 const END: u32 = 65_536;
 
 /// Returns the first absent numbers from a number on: of all numbers, and of those below an end.

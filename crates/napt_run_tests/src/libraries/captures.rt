@@ -44,7 +44,7 @@ fn shape_of_front(length: u16) -> Result<Shape, CaptureFault> {
     }
 }
 
-/// The number of bytes that a read returns, and of the reads of the capture: the last finds the end.
+/// The number of bytes of a read, and the number of reads, of which the last finds the end.
 #[test]
 fn each_read_fails_in_turn(rt: HostRuntime) {
     let all_reads = [4, 4, 5, 6, 13, 36, 71];
@@ -88,7 +88,7 @@ fn packet(alloc: Global) -> Result<Record, Fail>
     })
 }
 
-/// The result of writing to a disk, and what the disk contains.
+/// The result of writing to a disk, and the contents of the disk.
 type DiskOutcome = (Result<(), WriteFault>, Vec<u8>);
 
 /// Writes to a disk that fails as planned.
@@ -100,7 +100,7 @@ macro_rules! written {
     }};
 }
 
-/// Checks what a disk contains after writing, and the result of writing.
+/// Checks the contents of a disk after writing, and the result of writing.
 fn assert_written(
     rt: &impl Abort,
     written: DiskOutcome,
@@ -121,7 +121,7 @@ fn one_packet_or_none_is_written(rt: HostRuntime) -> Result<(), Fail> {
     Ok(())
 }
 
-/// With a byte at a time, the call after the seventy writes is the flush, which takes no bytes, and there is no other.
+/// With a byte at a time, seventy writes are followed by one flush, which is the last call.
 #[test]
 fn each_write_fails_in_turn(rt: HostRuntime) -> Result<(), Fail> {
     let records = [packet(rt.alloc())?];

@@ -7,7 +7,7 @@ use napt_collections::{Links, link_before, unlink};
 use std::process::Abort;
 use std::test::Fail;
 
-/// Whether there is such a node, and nodes before and after it.
+/// Returns whether there is such a node, and nodes before and after it.
 fn is_inside(links: &[Links], node: u32) -> bool
     ensures within { result ≡ true → node < length links.now }
     ensures before { result ≡ true → prev links.now node < length links.now }
@@ -19,7 +19,7 @@ fn is_inside(links: &[Links], node: u32) -> bool
         && (links[at].after as usize) < links.len()
 }
 
-/// Whether the two nodes are next to one another, by the links of both.
+/// Returns whether the two nodes are next to each other, by the links of both.
 fn are_neighbours(links: &[Links], before: u32, after: u32) -> bool {
     match (links.get(before as usize), links.get(after as usize)) {
         (Some(one), Some(other)) => one.after == after && other.before == before,
@@ -27,7 +27,7 @@ fn are_neighbours(links: &[Links], before: u32, after: u32) -> bool {
     }
 }
 
-/// Whether the links have the nodes in this order.
+/// Returns whether the links have the nodes in this order.
 fn are_in_order(links: &[Links], order: &[u32]) -> bool {
     order
         .iter()
@@ -35,7 +35,7 @@ fn are_in_order(links: &[Links], order: &[u32]) -> bool {
         .all(|(before, after)| are_neighbours(links, *before, *after))
 }
 
-/// Removes the node if it is in the row, and otherwise inserts it before another one, in the links and in a list.
+/// Removes the node if it is in the row, or else inserts it before another one, in links and list.
 fn change(
     rt: &impl Abort,
     links: &mut [Links],
@@ -58,7 +58,7 @@ fn change(
     Ok(())
 }
 
-/// Node 0 stays first and node 1 last. 600 times, one of 20 others is removed or inserted, as the numbers say.
+/// Node 0 remains first and node 1 last. 600 times, one of 20 others is removed or inserted.
 #[test]
 fn row_and_list_of_nodes_agree(rt: HostRuntime) -> Result<(), Fail> {
     let end = Links {

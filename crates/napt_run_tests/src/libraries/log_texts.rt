@@ -1,5 +1,5 @@
-//! Dates near irregularities of the calendar, as Python's `datetime` has them, and a row, a line and an object of each
-//! kind.
+//! Dates near irregularities of the calendar, as Python's `datetime` computes them, and a row, a
+//! line and an object of each kind.
 
 use crate::packets::UDP_QUERY;
 use crate::samples::captures::WRITTEN;
@@ -17,7 +17,7 @@ use napt_wire::{Cause, Endpoint, Packet, Protocol, Side};
 use std::alloc::Global;
 use std::test::Fail;
 
-/// Times in ns since 1970-01-01, and their dates; the last has none.
+/// Times in ns since 1970-01-01, and their dates. The last time has no date.
 const DATES: &[(u128, &str)] = &[
     (0, "1970-01-01T00:00:00.000000000Z"),
     (68_169_600_000_000_000, "1972-02-29T00:00:00.000000000Z"),
@@ -317,7 +317,7 @@ fn a_packet_that_leaves_has_an_object(rt: HostRuntime) -> Result<(), Fail> {
         made.as_str(),
         "{\"number\":1,\"time\":1000000000,\"side\":\"inside\",\"outcome\":\"to-outside\",\"cause\":null,\"binding\":\"made\",\"hairpin\":false,\"before\":{\"kind\":\"udp\",\"source\":\"10.0.0.2\",\"source_port\":5000,\"destination\":\"198.51.100.7\",\"destination_port\":53,\"identifier\":null,\"about\":null},\"after\":{\"kind\":\"udp\",\"source\":\"203.0.113.1\",\"source_port\":5000,\"destination\":\"198.51.100.7\",\"destination_port\":53,\"identifier\":null,\"about\":null}}\n"
     );
-    // As a hairpin would: only the side to which it leaves counts.
+    // The packet leaves as a hairpin would, since only the side to which it leaves matters.
     let echo = input(alloc, Side::Inside, ECHO)?;
     let back = Outcome::ToInside(packet(alloc, Side::Inside, ECHO)?);
     let hairpin = object_of(alloc, 2, &echo, &back, LogNote::Redirect)?;

@@ -1,4 +1,5 @@
-//! The messages of faults and refusals. They are derived, and no clause has them: an empty one would meet its contract.
+//! The messages of faults and refusals. No clause contains them, since they are derived: an empty
+//! one would meet its contract.
 
 use napt_capture::{CaptureFault, WriteFault};
 use napt_config::ConfigFault;

@@ -1,4 +1,4 @@
-//! The number that an inside endpoint gets if its class is full. Other cases are in `tests/calls` and `tests/numbers`.
+//! The number of an inside endpoint whose class is full. `tests/calls` has other cases.
 
 use crate::samples::hosts::host;
 use napt_config::NumberAssignment;

@@ -36,7 +36,7 @@ fn shape_one_by_one(alloc: Global, bytes: &[u8], plan: FaultPlan) -> Result<Shap
     Err(CaptureFault::TooLarge)
 }
 
-/// A capture that is cut at each byte, and read in pieces of some size, has the same shape as if it is read as a whole.
+/// A capture that is cut at each byte has the same shape, whether it is read in pieces or whole.
 #[test]
 fn one_by_one_is_the_same_as_whole(rt: HostRuntime) -> Result<(), Fail> {
     let bytes = two_packets(rt.alloc())?;

@@ -1,4 +1,4 @@
-//! A state with a line of each kind is written and read back. Damaged texts are refused, with the line and the reason.
+//! A state with all kinds of lines is written and read. Damaged texts are refused with a reason.
 
 use napt_state::{read_state, write_state};
 use std::alloc::Global;
@@ -21,7 +21,7 @@ const WITH_LOG: &str = "clock 1800000000000000000\n\
     flow 198.51.100.7 443 1799999999000000001 0 0 0 0 0\n\
     end 3 1\n";
 
-/// As an earlier version wrote it, and as it is written again.
+/// A state as an earlier version wrote it, and as it is written again.
 const EARLIER: &str = "clock 1800000000000000000\n\
     redirect tcp 10.0.0.9 80 203.0.113.1 8080 0\n\
     binding udp 10.0.0.2 5001 203.0.113.1 1025 1799999999000000001\n\
@@ -36,7 +36,7 @@ const AGAIN: &str = "clock 1800000000000000000\n\
     binding udp 10.0.0.2 5001 203.0.113.1 1025 1799999999000000001 17 5 1 2 9 10\n\
     end 2 0\n";
 
-/// Returns what is written of the state in a text, or why the text is refused.
+/// Returns the text that is written for the state in a text, or why the text is refused.
 fn written(alloc: Global, text: &[u8]) -> io::Result<Vec<u8>> {
     let mut written = Vec::new(alloc);
     match read_state(alloc, text) {
@@ -101,20 +101,20 @@ fn what_is_no_state_is_refused(rt: HostRuntime) -> Result<(), Fail> {
         "clock 1\nbinding udp 10.0.0.2 5 203.0.113.1 5 1 1 1 2305843009213693953 0 1 1\n"
             "line 2: number '2305843009213693953'";
         "clock 1\nbinding udp 10.0.0.2 5 203.0.113.1 5 1 1 1 0 0 1 1\nend 1 0\n"
-            "line 3: numbers that no log can have";
+            "line 3: accounts that cannot be those of one log";
         "clock 1\nlog 1 0 0 0\nbinding udp 10.0.0.2 5 203.0.113.1 5 1 2 1 0 0 1 1\nend 1 0\n"
-            "line 4: numbers that no log can have";
+            "line 4: accounts that cannot be those of one log";
         "clock 1\nlog 1 0 0 0\nbinding udp 10.0.0.2 5 203.0.113.1 5 1 1 2 0 0 1 1\nend 1 0\n"
-            "line 4: numbers that no log can have";
+            "line 4: accounts that cannot be those of one log";
         "clock 1\nlog 2 0 0 0\nbinding udp 10.0.0.2 5 203.0.113.1 5 1 1 1 0 0 1 1\nbinding udp 10.0.0.2 6 203.0.113.1 6 1 1 1 0 0 1 1\nend 2 0\n"
-            "line 5: numbers that no log can have";
+            "line 5: accounts that cannot be those of one log";
         "clock 1\nlog 2 0 0 0\nbinding udp 10.0.0.2 5 203.0.113.1 5 1 1 1 0 0 1 1\nbinding udp 10.0.0.2 6 203.0.113.1 5 1 2 1 0 0 1 1\nend 2 0\n"
-            "line 5: numbers that no log can have";
-        "clock 1\nheld udp 10.0.0.2 5 203.0.113.1 5 2\nend 1 0\n" "line 3: numbers that no log can have";
+            "line 5: accounts that cannot be those of one log";
+        "clock 1\nheld udp 10.0.0.2 5 203.0.113.1 5 2\nend 1 0\n" "line 3: accounts that cannot be those of one log";
         "clock 1\nheld udp 10.0.0.2 5 203.0.113.1 5 1\nflow 10.0.0.2 5000 1 0 0 0 0 0\n"
             "line 3: a flow that belongs to no binding";
         "clock 1\nlog 1 0\nentry 2 binding udp 10.0.0.2 5 203.0.113.1 5 1 2 3 4 5 6\nend 0 0 1\n"
-            "line 4: numbers that no log can have";
+            "line 4: accounts that cannot be those of one log";
         "clock 1\nentry 1 binding\n" "line 2: too many words, or too few";
         "clock 1\nlog 0 0\nlog 0 0\n" "line 3: first word 'log'";
         "clock 1\nlog 0 0\nbinding udp 10.0.0.2 5000 203.0.113.1 1 1\n" "line 3: first word 'binding'";

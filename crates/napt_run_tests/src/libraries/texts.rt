@@ -1,4 +1,4 @@
-//! Texts of parts of a configuration. Whole ones are rows of `tests/calls`.
+//! Texts of parts of a configuration. Whole configurations are rows of `tests/calls`.
 
 use napt_config::{Address, ConfigFault, Prefix, TransportAddress};
 use std::test::Fail;

@@ -1,5 +1,5 @@
-//! Many items in one message: they are answered in order, alone or together, and a worker asks the gate and stops among
-//! them as among items that are sent alone.
+//! Many items in one message are answered in order, alone or together, and a worker asks the gate
+//! and stops among them as among items that are sent alone.
 
 use super::checked::CheckedPool;
 use super::rounds::{Keepers, keepers};
@@ -49,7 +49,7 @@ fn alone(pool: &mut Keepers<impl TestRuntime>) -> Option<u64> {
     }
 }
 
-/// Checks that the one worker of a pool has kept these items, and that these answers remain.
+/// Checks that the one worker of a pool has retained these items, and that these answers remain.
 fn assert_ended<R: TestRuntime>(rt: &R, pool: Keepers<R>, items: &[u64], answers: &[u64]) {
     let ended = pool.closed();
     assert_eq!(rt; ended.len(), 1);
@@ -162,7 +162,7 @@ fn until_stopped(
     None
 }
 
-/// The gate is shut at a step of a batch: the answers before it come, and then the fault. The step is not made.
+/// The gate is shut at a step of a batch: the earlier answers come, and then the fault.
 #[test]
 fn gate_is_shut_in_a_batch(rt: HostRuntime) -> Result<(), Fail> {
     for shut in 0..4u64 {
@@ -178,7 +178,7 @@ fn gate_is_shut_in_a_batch(rt: HostRuntime) -> Result<(), Fail> {
     Ok(())
 }
 
-/// The gate is shut to the first item: the one slot of the ring is for the notice that the worker stopped.
+/// The gate is shut to the first item: the one slot of the ring is for the notice of the stop.
 #[test]
 fn gate_is_shut_to_a_batch(rt: HostRuntime) -> Result<(), Fail> {
     let alloc = rt.alloc();

@@ -9,8 +9,9 @@ use napt_pool::{Batch, Ended, Gate, Machine, OfferRefused, Pool, PoolFault, Take
 use std::sync::Arc;
 use std::thread;
 
-/// A pool that stops a test which violates a precondition: without workers, or for a worker that does not exist. Its
-/// calls have no clauses, so that the proof of a test is short: the test checks their results when it runs.
+/// A pool that stops a test which violates a precondition: without workers, or for a worker that
+/// does not exist. Its calls have no clauses, so that the proof of a test is short. The test checks
+/// their results when it runs.
 pub(crate) struct CheckedPool<R, M: Machine, G: Gate> {
     rt: R,
     pool: Pool<M, G>,
@@ -18,7 +19,7 @@ pub(crate) struct CheckedPool<R, M: Machine, G: Gate> {
     ghost many: { length (initial_machines pool) ≡ workers },
 }
 
-/// Returns what a call takes, once that is there, or nothing if it does not come for long.
+/// Returns the answer that a call takes, or `None` if it does not come for a long time.
 macro_rules! soon {
     ($taken:expr) => {{
         for _ in 0..MOST_LOOKS {

@@ -1,4 +1,4 @@
-//! A machine that keeps its items.
+//! A machine that retains its items.
 
 ghost use Rattle.std.specs.Prelude.{◌≡◌, []};
 
@@ -6,7 +6,7 @@ use napt_pool::Machine;
 use std::alloc::{AllocError, Global};
 use std::marker::Model;
 
-/// Keeps its items, and answers with the number of items before.
+/// Retains its items, and answers with the number of items before.
 #[derive(Drop)]
 pub(crate) struct Keeper {
     pub(crate) items: Vec<u64>,

@@ -11,7 +11,7 @@ use std::sync::{Arc, Wait};
 use std::test::Fail;
 use std::thread::Threads;
 
-/// Offers two items to one worker. Under every schedule, its machine has kept both, in order.
+/// Offers two items to one worker. Under every schedule, its machine has retained both, in order.
 fn two_kept<R: Threads + Wait + Copy + Send + 'static>(
     rt: &R,
     alloc: Global,
@@ -78,7 +78,7 @@ fn answer_comes(rt: HostRuntime) -> Result<(), Fail> {
     Ok(())
 }
 
-/// Returns how many items worker `w` takes until it is full, or `None` if it is refused for another cause.
+/// Returns how many items worker `w` accepts until it is full, or `None` if it fails otherwise.
 fn fill(pool: &mut Keepers<impl TestRuntime>, w: u32) -> Option<u64> {
     for count in 0..10_000 {
         match pool.offer(w, count) {
@@ -90,7 +90,7 @@ fn fill(pool: &mut Keepers<impl TestRuntime>, w: u32) -> Option<u64> {
     None
 }
 
-/// Whether worker `w` answers with `count` numbers from `base` on, and then has no more.
+/// Returns whether worker `w` answers with `count` numbers from `base` on, and then has no more.
 fn empties(pool: &mut Keepers<impl TestRuntime>, w: u32, count: u64, base: u64) -> bool {
     for k in 0..count {
         if pool.take_soon(w) != Ok(Some(base.saturating_add(k))) {
@@ -131,8 +131,8 @@ fn ring_rounds(rt: HostRuntime) -> Result<(), Fail> {
     Ok(())
 }
 
-/// A pool of one worker is filled and closed at once: its item ring has room for Close in addition to all items. Mostly
-/// the worker has not begun when it is closed, so that all items are in the ring.
+/// A pool of one worker is filled and closed at once: its item ring has room for Close in addition
+/// to all items. Usually all items are in the ring when it is closed.
 #[test]
 fn full_pool_closes(rt: HostRuntime) -> Result<(), Fail> {
     for capacity in [1u16, 2, 64] {

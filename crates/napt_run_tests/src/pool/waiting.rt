@@ -1,4 +1,4 @@
-//! A wait ends when its condition holds, however long that takes, and sleeps only if it takes long.
+//! A wait ends when its condition is true, after any time, and sleeps only if that takes long.
 
 use napt_pool::Backoff;
 use std::rt::Files;
@@ -29,7 +29,7 @@ fn waits_for_a_thread(rt: HostRuntime) -> Result<(), Fail> {
     Ok(())
 }
 
-/// Returns how often this thread has slept, as Linux counts it. A thread that yields does not sleep.
+/// Returns how often this thread has slept, as Linux counts it. Yielding is not sleeping.
 fn sleeps<R: Files + AllocGlobal>(rt: &R) -> Result<u64, Fail> {
     let status = fs::read_to_string(rt, "/proc/thread-self/status")?;
     for line in status.lines() {
@@ -40,7 +40,7 @@ fn sleeps<R: Files + AllocGlobal>(rt: &R) -> Result<u64, Fail> {
     Err("no count of sleeps".into())
 }
 
-/// The first 512 pauses of a wait are not sleeps, and each later one is. Sleeps for other causes are few.
+/// The first 512 pauses of a wait are not sleeps, and each later one is. Other sleeps are few.
 #[test]
 fn sleeps_after_its_looks(rt: HostRuntime) -> Result<(), Fail> {
     let mut backoff = Backoff::new();

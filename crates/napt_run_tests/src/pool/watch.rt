@@ -1,4 +1,4 @@
-//! What tests observe of the threads of a pool: a gate, and machines that count their steps.
+//! The means to observe the threads of a pool: a gate, and machines that count their steps.
 
 use super::MOST_LOOKS;
 use napt_pool::{Gate, Machine};
@@ -35,11 +35,11 @@ pub(crate) struct Watch {
     steps: Vec<AtomicU64>,
     /// The number of steps that saw all machines in a step of the same number.
     pub(crate) met: AtomicU64,
-    /// The numbers of requests to the gate, and of those that were wrong: for another turn than that of the worker's
-    /// next step, or with another size.
+    /// The numbers of requests to the gate, and of those that were wrong: for another turn than
+    /// that of the worker's next step, or with another size.
     pub(crate) asks: AtomicU64,
     pub(crate) strange: AtomicU64,
-    /// The number of sizes that the gate was shown. The size of each worker's machine is the number of its steps.
+    /// The number of sizes shown to the gate. The size of a machine is the number of its steps.
     pub(crate) shown: AtomicU64,
     /// The number of machines that were dropped.
     pub(crate) drops: AtomicU64,
@@ -70,7 +70,7 @@ impl Watch {
         Ok(Arc::new(alloc, watch)?)
     }
 
-    /// Whether each machine has begun this many steps.
+    /// Returns whether each machine has begun this many steps.
     fn have_begun(&self, count: u64) -> bool {
         self.steps.iter().all(|steps| so_far(steps) >= count)
     }
@@ -131,8 +131,8 @@ impl Gate for Watch {
 /// The item that each machine refuses, as it does without memory.
 pub(crate) const REFUSED: u64 = 99;
 
-/// Answers each item with itself, or refuses it as if there were no memory. Its steps and its drop are counted, and its
-/// size is the number of its steps.
+/// Answers each item with itself, or refuses it as if there were no memory. Its steps and its drop
+/// are counted, and its size is the number of its steps.
 pub(crate) struct Echo {
     place: usize,
     refuses: bool,

@@ -1,4 +1,5 @@
-//! What threads do: they step together and without a request, ask the gate before each step, stop, and drop machines.
+//! The actions of threads: they step together and without a request, ask the gate before each step,
+//! stop, and drop machines.
 
 use super::batches::batch;
 use super::checked::CheckedPool;
@@ -30,7 +31,7 @@ pub(super) fn make_watched<R: TestRuntime>(
     Ok(Watched { pool, watch })
 }
 
-/// Three items for each worker, under any gate: each of the steps sees all other workers in a step of the same number.
+/// Each worker takes three items, under any gate, and each step sees all workers in the same step.
 fn step_together(rt: &impl TestRuntime, workers: u32, refuse: &[bool]) -> Result<(), Fail> {
     let alloc = rt.alloc();
     let watch = Watch::new(alloc, refuse.len(), GateAnswer::Yes, true)?;
@@ -52,7 +53,7 @@ fn steps_meet(rt: HostRuntime) -> Result<(), Fail> {
     step_together(&rt, 16, &[false; 16])
 }
 
-/// A worker steps on an item before anybody asks for the answer.
+/// A worker steps on an item before its answer is requested.
 #[test]
 fn steps_unasked(rt: HostRuntime) -> Result<(), Fail> {
     let Watched { mut pool, watch } = make_watched(&rt, &[false], GateAnswer::Yes)?;
@@ -138,7 +139,7 @@ fn refused_memory_is_told(rt: HostRuntime) -> Result<(), Fail> {
     Ok(())
 }
 
-/// `close` is refused nothing, and drops no machine.
+/// No memory is refused to `close`, and it drops no machine.
 #[test]
 fn machines_are_dropped(rt: HostRuntime) -> Result<(), Fail> {
     let Watched { mut pool, watch } = make_watched(&rt, &[false; 3], GateAnswer::Yes)?;

@@ -1,4 +1,4 @@
--- saved_state: the file of the state gets the state that the run left.
+-- saved_state: the file of the state gets the state at the end of the run.
 use Rattle.std.proofs.Common.{◌≡◌, None, IfSome, subst}
 use Rattle.napt_rules.specs.Prelude.{IsStateInOrder}
 use Rattle.napt.proofs.program.saved_state.Goals as goal

@@ -1,4 +1,4 @@
--- saved_logs_name_the_holders: the entries that the rows of a whole log give name the holders that the log names.
+-- saved_logs_name_the_holders: a request finds the same holders in the rows of a whole log as in the log.
 use Rattle.napt_attribution.proofs.LogLaws.{rows_name, rows_tell}
 use Rattle.napt_attribution.proofs.laws.saved_logs_name_the_holders.Goals as goal
 

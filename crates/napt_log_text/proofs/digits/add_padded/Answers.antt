@@ -1,4 +1,4 @@
--- add_padded: zeros up to the width are before the digits of the number.
+-- add_padded: the text gets zeros up to the width, and then the digits of the number.
 use Rattle.std.proofs.{lemmas.{Grind.common_steps, Bool.Decides.nat_tests}, Common.{arith, append_assoc}}
 use Rattle.napt_log_text.specs.Times.{padded}
 use Rattle.napt_log_text.proofs.digits.add_padded.Goals as goal

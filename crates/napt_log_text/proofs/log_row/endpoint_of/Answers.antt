@@ -1,4 +1,4 @@
--- endpoint_of: an endpoint that was written is read back, and one without a number is none.
+-- endpoint_of: an endpoint that was written is read back, and an address without a number gives no endpoint.
 use Rattle.std.proofs.{lemmas.{Grind.common_steps, Bool.Decides.nat_tests}, Common.{ℕ, ◌≡◌, ◌∙◌, List, [], Some, Result, Ok, Err, sym, ap, arith}}
 use Rattle.std.{specs.{Result.result_ok, Str.Parse.ParsesUnsigned}, proofs.lemmas.{Fmt.parse-decimal, Option.none-some}}
 use Rattle.napt_wire.specs.declared.Endpoint.{Endpoint}

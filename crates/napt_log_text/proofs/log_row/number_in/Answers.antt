@@ -1,4 +1,4 @@
--- number_in: a number that was written is read back, and an empty field is empty.
+-- number_in: a number that was written is read back, and an empty field is read as empty.
 use Rattle.std.proofs.lemmas.{Grind.common_steps, Bool.Decides.nat_tests}
 use Rattle.std.proofs.Common.{ℕ, ◌≡◌, ◌==◌, ◌∙◌, true, false, List, length, Option, Some, None, Result, Ok, Err, sym, ap, arith}
 use Rattle.std.{specs.Str.Parse.ParsesUnsigned, proofs.lemmas.Fmt.{decimal_is_IsNumeral_wide, parse-decimal_wide}}

@@ -1,4 +1,4 @@
--- effects_have_the_rows: the law, since the log by the effects of a run's inputs is the log of the run.
+-- effects_have_the_rows: the law follows, since the log by the effects of a run's inputs is the log of the run.
 use Rattle.napt_log_text.proofs.Logs.{effects_have_the_rows}
 use Rattle.napt_log_text.proofs.log_rows.effects_have_the_rows.Goals as goal
 

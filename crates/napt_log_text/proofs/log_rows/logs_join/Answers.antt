@@ -1,4 +1,4 @@
--- logs_join: the three laws of texts, from those of logs that go on from a state.
+-- logs_join: the three laws of texts follow from the laws of logs that continue from a state.
 use Rattle.napt_log_text.proofs.Logs.{logs_join, pieces_stand_alone, saved_logs_join}
 use Rattle.napt_log_text.proofs.log_rows.logs_join.Goals as goal
 

@@ -1,4 +1,4 @@
--- open: a stop of the state's new file is one of the run, and the log's counts and presence are kept.
+-- open: a stop of the state's new file is a stop of the run, and the log's counts and presence do not change.
 use Rattle.std.proofs.{Common.{◌∙◌}, lemmas.Result.err_from_is_err_and}
 use Rattle.napt_program.proofs.{LogLemmas.log_is_there, StateLemmas.new_stop}
 use Rattle.napt_program.proofs.command.open.Goals as goal

@@ -1,4 +1,4 @@
--- config_text: a text that is not longer than the limit has all bytes of the reader.
+-- config_text: a text that is not longer than the limit contains all bytes of the reader.
 use Rattle.std.proofs.Common.{◌≤◌, length, arith}
 use Rattle.napt_program.proofs.ConfigLemmas.{all_is_told}
 use Rattle.napt_program.proofs.config_file.config_text.Goals as goal

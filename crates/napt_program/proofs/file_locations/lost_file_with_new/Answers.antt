@@ -1,4 +1,4 @@
--- lost_file_with_new: an output that would be lost is one that the options name.
+-- lost_file_with_new: an output that would be lost is named by an option.
 use Rattle.napt_program.proofs.PlaceLemmas.{lost_is_named}
 use Rattle.napt_program.proofs.file_locations.lost_file_with_new.Goals as goal
 

@@ -1,4 +1,4 @@
--- last_row: the bytes after the last line feed, or all.
+-- last_row: the result is the bytes after the last line feed, or all bytes.
 use Rattle.std.proofs.Common.{rules}
 use Rattle.std.proofs.lemmas.List.{take_rest}
 use Rattle.napt_program.proofs.LogRowLemmas.{last_row_behind, last_row_whole}

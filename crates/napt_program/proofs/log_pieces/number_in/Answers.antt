@@ -1,4 +1,4 @@
--- number_in: a text without the path of the log in front is not the name of a piece.
+-- number_in: a text that does not begin with the path of the log is not the name of a piece.
 use Rattle.std.proofs.Common.{◌≡◌, ◌∙◌, ◌++◌, codes, decimal, ap, sym}
 use Rattle.std.proofs.lemmas.List.{append_cancel_left}
 use Rattle.napt_program.proofs.log_pieces.number_in.Goals as goal

@@ -1,4 +1,4 @@
--- command_of: one more option of those that are left is added.
+-- command_of: one more of the remaining options is added.
 use Rattle.std.proofs.Common.{◌∙◌, ap}
 use Rattle.clap.specs.Words.{Rule, app_of, with_rule}
 use Rattle.napt_program.proofs.OptionLemmas.{option_added}

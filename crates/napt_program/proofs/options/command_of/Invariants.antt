@@ -1,4 +1,4 @@
--- command_of: the command with the options that are left is the command of the definition.
+-- command_of: the command with the remaining options is the command of the definition.
 use Rattle.std.proofs.Common.{◌≡◌, map, drop}
 use Rattle.clap.specs.Words.{app_of}
 use Rattle.napt_program.specs.CommandLine.{napt_app, with_options}

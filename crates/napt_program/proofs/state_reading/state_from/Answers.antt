@@ -1,4 +1,4 @@
--- state_from: a text that was saved has no line that is refused, and a refused line is no misfit.
+-- state_from: a text that was saved contains no line that is refused, and a refused line is no misfit.
 use Rattle.std.proofs.Common.{◌∙◌}
 use Rattle.napt_program.proofs.StateLemmas.{unread}
 use Rattle.napt_program.proofs.state_reading.state_from.Goals as goal

@@ -17,7 +17,7 @@ known g c =
     (record { inside = c.in_ok-inside.inside; outside = c.in_ok-outside.outside }) c.in_ok-inside.ensures.ok
     c.in_ok-outside.ensures.ok c.in_ok-outputs.ensures.too_many.1
 
--- What an output gets that received a share of its text.
+-- An output that received a share of its text meets its clause.
 got : (g : Over) (c : In_ok-outputs g) (which : Which) (share : OutputShare) {told : List ℕ}
     (old new : Option (List ℕ)) →
     told ≡ text_of which c.in_ok-outputs.outputs → OutputReceives share told old new →

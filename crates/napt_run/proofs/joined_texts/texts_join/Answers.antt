@@ -1,4 +1,4 @@
--- texts_join: what a run over captures writes is what the runs over their parts write, one after the other.
+-- texts_join: the texts of a run over captures are those of the runs over their parts, one after the other.
 use Rattle.napt_run.proofs.JoinedTexts.{texts_join}
 use Rattle.napt_run.proofs.joined_texts.texts_join.Goals as goal
 

@@ -1,4 +1,4 @@
--- streams_write_the_same: the two laws.
+-- streams_write_the_same: the laws of outputs and of reports follow from the clauses of both runs.
 use Rattle.napt_run.proofs.SameAsCaptures.{outputs_same, reports_same}
 use Rattle.napt_run.proofs.laws.streams_write_the_same.Goals as goal
 

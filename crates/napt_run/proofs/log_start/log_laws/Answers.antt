@@ -1,4 +1,4 @@
--- log_laws: the laws of logs by the effects of inputs, for a log that is that of the state.
+-- log_laws: the laws of logs by the effects of inputs are true for the log of the state.
 use Rattle.napt_run.specs.Origins.{OriginModel, origin_of}
 use Rattle.napt_run.proofs.log_start.log_laws.Goals as goal
 

@@ -1,4 +1,4 @@
--- saved_contents: the file of the state gets the state that the run left, with what is kept of its log.
+-- saved_contents: the file of the state gets the state at the end of the run, with the accounts of its log.
 use Rattle.std.proofs.Common.{◌≡◌, Some, IfSome, subst}
 use Rattle.napt_rules.specs.Prelude.{IsStateInOrder}
 use Rattle.stream.proofs.stream_run.saved_contents.Goals as goal

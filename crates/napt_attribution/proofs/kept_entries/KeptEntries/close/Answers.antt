@@ -1,4 +1,4 @@
--- close: the entry of a number that has no end gets one, and keeps its place if it is asked about.
+-- close: the entry of a number that has no end gets one, and its place does not change if requests ask about it.
 use Rattle.std.proofs.Common.{sym, ◌∙◌}
 use Rattle.napt_attribution.proofs.KeptEntries.{closed_told, closed_untold, found_open}
 use Rattle.napt_attribution.proofs.kept_entries.KeptEntries.close.Goals as goal

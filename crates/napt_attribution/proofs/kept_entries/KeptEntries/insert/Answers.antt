@@ -1,4 +1,4 @@
--- insert: the entry is the last one of those without an end.
+-- insert: the entry is the last of the entries without an end.
 use Rattle.napt_attribution.proofs.KeptEntries.{inserted}
 use Rattle.napt_attribution.proofs.kept_entries.KeptEntries.insert.Goals as goal
 

@@ -1,4 +1,4 @@
--- into_entries: those that are asked about are returned in the order of their numbers.
+-- into_entries: the entries that requests ask about are returned in the order of their numbers.
 use Rattle.std.proofs.{Common.◌∙◌, lemmas.Result.IfOk-weaker}
 use Rattle.napt_attribution.proofs.KeptEntries.{all_asked}
 use Rattle.napt_attribution.proofs.kept_entries.KeptEntries.into_entries.Goals as goal

@@ -1,4 +1,4 @@
--- add_next: of the rows that are left, the first one is added.
+-- add_next: the first of the remaining rows is added.
 use Rattle.std.proofs.lemmas.Result.{IfOk-weaker}
 use Rattle.napt_attribution.proofs.Pieces.{unless}
 use Rattle.napt_attribution.proofs.log_piece.LogPiece.add_next.Goals as goal

@@ -1,4 +1,4 @@
--- add_read: what was read is added as the row that it is.
+-- add_read: the row that was read is added.
 use Rattle.napt_attribution.proofs.Pieces.{same_row}
 use Rattle.napt_attribution.proofs.log_piece.LogPiece.add_read.Goals as goal
 

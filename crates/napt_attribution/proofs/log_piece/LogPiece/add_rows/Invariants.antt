@@ -1,4 +1,4 @@
--- add_rows: the rows before this one were added, and the others are left to read.
+-- add_rows: the rows before this one were added, and the others have not been read.
 use Rattle.std.proofs.Common.{◌≡◌, List, [], Some}
 use Rattle.std.specs.List.{flat_map}
 use Rattle.napt_config.specs.Rules.{Rules}

@@ -1,4 +1,4 @@
--- open_entry: what is found is the open entry of the number, with the time when it was made.
+-- open_entry: the result is the open entry of the number, with the time when it was made.
 use Rattle.std.proofs.{Common.{◌≡◌, ◌∙◌, rules, arith}, lemmas.Grind.common_steps}
 use Rattle.napt_attribution.proofs.SavedRows.{is_open, number_of}
 use Rattle.napt_attribution.proofs.saved_rows.SavedRows.open_entry.Goals as goal

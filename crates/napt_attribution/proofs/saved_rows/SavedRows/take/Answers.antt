@@ -1,4 +1,4 @@
--- take: after a row the entries are those of the log up to it, and a row of no log is refused.
+-- take: after a row, the entries are those of the log up to it, and a row that no log contains is refused.
 use Rattle.std.proofs.Common.{◌≡◌, ◌≤◌, ◌∷◌, ◌++◌, [], refl, sym, ap, subst, arith, rules}
 use Rattle.napt_log_text.specs.declared.{event.LogEvent.{LogEvent, TheVariants.{Ended, Living, Made, Refused}}, log_row.LogField.TheVariants.{Empty, Number}}
 use Rattle.napt_attribution.specs.{SavedLogs.{Follows, RowsTrackEvents, entries_in}, declared.saved_rows.SavedRows.SavedRows}

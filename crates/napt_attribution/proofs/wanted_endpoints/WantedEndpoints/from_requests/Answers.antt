@@ -1,4 +1,4 @@
--- from_requests: the sets have the addresses and the endpoints that the requests name, and no others.
+-- from_requests: the set contains the addresses and the endpoints that the requests name, and no others.
 use Rattle.std.proofs.Common.{Some, None, arith}
 use Rattle.napt_attribution.proofs.RequestParties.{all_named, one_more}
 use Rattle.napt_attribution.proofs.wanted_endpoints.WantedEndpoints.from_requests.Goals as goal

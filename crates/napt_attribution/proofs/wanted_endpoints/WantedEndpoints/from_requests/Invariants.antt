@@ -1,4 +1,4 @@
--- from_requests: the sets have what the requests before this one name.
+-- from_requests: the set contains the addresses and the endpoints that the requests before this one name.
 use Rattle.std.proofs.Common.{◌≡◌, ℕ, Option, take}
 use Rattle.std.specs.{BTreeSet.contains, List.list_any}
 use Rattle.napt_attribution.specs.RequestParties.{is_party, party_cmp}

@@ -1,4 +1,4 @@
--- logged_run: the run goes on from the state of the start, with the log of what the state keeps.
+-- logged_run: the run continues from the state of the start, with the log that the state contains.
 use Rattle.std.proofs.Common.{◌≡◌, [], false, IfOk, subst}
 use Rattle.napt_rules.specs.Prelude.{with_redirects}
 use Rattle.napt_account.specs.LogStarts.{log_started}

@@ -1,4 +1,4 @@
--- from_year: going on month by month leads to the day of the definition.
+-- from_year: counting month by month leads to the day of the definition.
 use Rattle.std.proofs.{lemmas.{Grind.common_steps, Bool.Decides.nat_tests}, Common.{sym, arith}}
 use Rattle.napt_log_text.proofs.Days.{lasts, to_month, to_year, left_over}
 use Rattle.napt_log_text.proofs.date.Date.from_year.Goals as goal

@@ -1,4 +1,4 @@
--- from_year: the first day of the month is after the start by the days that are no longer left.
+-- from_year: the first day of the month is after the start by the number of days that were already subtracted.
 use Rattle.std.proofs.Common.{ℕ, ◌≡◌, ◌+◌, ◌-◌, ◌≤◌}
 use Rattle.napt_log_text.specs.Calendar as calendar
 use Rattle.napt_log_text.proofs.date.Date.from_year.Given as goal

@@ -1,4 +1,4 @@
--- add_to: the bytes are ASCII and therefore UTF-8, so that this line is never reached.
+-- add_to: the bytes are ASCII and therefore UTF-8, so that the line for other bytes is never reached.
 use Rattle.std.proofs.{Common.{◌-◌, drop, arith, take_all, length-drop}, lemmas.Str.IsUtf8-from_ascii}
 use Rattle.napt_log_text.proofs.suffix.Suffix.add_to.Goals as goal
 

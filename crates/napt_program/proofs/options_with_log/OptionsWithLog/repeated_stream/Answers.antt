@@ -1,4 +1,4 @@
--- repeated_stream: the first option that names a standard stream again is one before the log, or the log.
+-- repeated_stream: the first option that names a standard stream again is an option before the log, or the log.
 use Rattle.std.proofs.Common.{◌∙◌, sym}
 use Rattle.napt_program.proofs.LogLemmas.{again_behind, again_kept}
 use Rattle.napt_program.proofs.options_with_log.OptionsWithLog.repeated_stream.Goals as goal

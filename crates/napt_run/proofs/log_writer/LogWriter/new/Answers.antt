@@ -1,4 +1,4 @@
--- new: the log has what is written of it so far, and is ready for the run.
+-- new: nothing of the log is written yet, and it is ready for the run.
 use Rattle.std.proofs.Common.{refl}
 use Rattle.napt_run.proofs.LogTaken.{log_of, ready, texts_taken}
 use Rattle.napt_run.proofs.log_writer.LogWriter.new.Goals as goal

@@ -1,4 +1,4 @@
--- piece_opening: the time of the last input decides whether a piece begins, which lists the open entries.
+-- piece_opening: the time of the last input decides whether a piece begins, and a piece lists the open entries.
 use Rattle.std.proofs.Common.{◌≡◌, ◌==◌, cond, sym, ◌∙◌, ap, [], ◌++◌, Some, None, ℕ, Bool, string_bytes}
 use Rattle.std.specs.Prelude.{if◌then◌else◌}
 use Rattle.napt_account.specs.{LogBuilders.LogBuilderModel, LogParts.kept_at}

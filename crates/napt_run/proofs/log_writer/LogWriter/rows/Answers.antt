@@ -1,4 +1,4 @@
--- rows: the log takes the trace, and the text is the rows of what this adds, also if it adds nothing.
+-- rows: the log records the trace, and the text has the rows that this adds, if it adds any.
 use Rattle.std.proofs.Common.{◌++◌, append-nil, refl, sym, ◌∙◌, ap}
 use Rattle.napt_account.specs.{LogBuilders.{LogBuilderModel, part_in}}
 use Rattle.napt_log_text.specs.{Logs.part_rows, Times.TimeText}

@@ -1,4 +1,4 @@
--- close: the log has all rows of the run, and what is left is the log that the state keeps.
+-- close: the log contains all rows of the run, and the result is the log that is saved with the state.
 use Rattle.napt_run.specs.{LogRuns.traces_by, RunningLogs.running_log_of}
 use Rattle.napt_run.proofs.Logged.{at_end, closed}
 use Rattle.napt_run.proofs.log_writer.LogWriterStreamLog.close.Goals as goal

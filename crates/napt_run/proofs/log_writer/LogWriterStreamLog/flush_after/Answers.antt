@@ -1,5 +1,5 @@
 -- flush_after: after a fault the rows of all packets that were translated are written and flushed, if the device
--- takes them.
+-- accepts them.
 use Rattle.napt_run.proofs.Logged.{halted}
 use Rattle.napt_run.proofs.log_writer.LogWriterStreamLog.flush_after.Goals as goal
 

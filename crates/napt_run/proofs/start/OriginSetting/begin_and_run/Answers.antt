@@ -1,4 +1,4 @@
--- begin_and_run: the sinks get the headers, and then what the run writes.
+-- begin_and_run: the sinks get the headers, and then the records of the run.
 use Rattle.std.proofs.{Common.{Ok, refl, sym, add-zero}, lemmas.Result.err_from_is_err_and}
 use Rattle.napt_run.{specs.Origins.origin_of, proofs.{AfterHeaders.{none_read, unheaded}, BothPassed.unbegun_logs}}
 use Rattle.napt_run.proofs.start.OriginSetting.begin_and_run.Goals as goal

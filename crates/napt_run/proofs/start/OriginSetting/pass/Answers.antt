@@ -1,4 +1,4 @@
--- pass: all inputs of the merged captures go through the run.
+-- pass: the run translates all inputs of the merged captures.
 use Rattle.napt_run.specs.Origins.{origin_of}
 use Rattle.napt_run.proofs.BothPassed.{departed}
 use Rattle.napt_run.proofs.start.OriginSetting.pass.Goals as goal

@@ -1,4 +1,4 @@
--- run_after_headers: what is read after the headers of both captures goes through the run.
+-- run_after_headers: the records after the headers of both captures are the inputs of the run.
 use Rattle.std.proofs.Common.{◌≡◌, ℕ, ◌+◌, List, Option, Some, sym, ◌∙◌, ap, subst}
 use Rattle.napt_records.specs.{NewStreams.{IsMergerNew, IsStreamNew}, StreamMergers.IsMergerLive}
 use Rattle.napt_wire.specs.declared.Side.TheVariants as sides

@@ -1,4 +1,4 @@
--- run_all: what left during the run is what the outputs took and what was recorded in the log.
+-- run_all: the outputs took, and the log recorded, all that left during the run.
 use Rattle.napt_run.proofs.BothPassed.{enters_by, passes_by, same_place}
 use Rattle.napt_run.specs.Origins.{origin_of}
 use Rattle.napt_run.proofs.start.OriginSetting.run_all.Goals as goal

@@ -22,7 +22,7 @@ returns-in_err-open g c =
       reads = λ not_run. absurd (not_run text.of_run);
     })
 
--- Or the log could not be closed.
+-- Otherwise the log could not be closed.
 pub returns-in_err-left-in-Ok : goal.returns-in_err-left-in-Ok
 returns-in_err-left-in-Ok g c =
     let residual = c.from_residual-in_err-left-in-Ok in
