@@ -11,17 +11,17 @@ abbrev pub IsBeforeNext : ℕ → List Arrival → Type 0
 IsBeforeNext now [] = Unit {0}
 IsBeforeNext now (input ∷ inputs) = now < input.clock
 
--- Whether a row has this protocol and these endpoints.
+-- Returns whether a row has this protocol and these endpoints.
 abbrev pub has_ends : Protocol → Endpoint → Endpoint → Row → Bool
 has_ends protocol inside external row = same_protocol protocol row.protocol
     && (same_endpoint inside row.inside && same_endpoint external row.external)
 
--- Whether a binding with this protocol and these endpoints is live in the list at a time.
+-- Returns whether a binding with this protocol and these endpoints is live in the list at a time.
 abbrev pub is_held : Timers → ℕ → Protocol → Endpoint → Endpoint → List Binding → Bool
 is_held timers now protocol inside external list =
     list_any (λ b. has_ends protocol inside external (row b) && is_live timers now b) list
 
--- Whether one of the entries has this protocol and these endpoints, was made by a time and has not ended by then.
+-- Returns whether one of the entries has this protocol and these endpoints, was made by a time and has not ended by then.
 abbrev pub has_number_of : ℕ → Protocol → Endpoint → Endpoint → List Entry → Bool
 has_number_of now protocol inside external entries =
     list_any (λ e. has_ends protocol inside external e.binding && stands_at now e) entries

@@ -8,7 +8,7 @@ use Rattle.napt_account.specs.{Log.{LogModel, after_input, after_leg, entry_is_o
 abbrev pub log_after : LogModel → List Trace → LogModel
 log_after log effects = fold after_input log effects
 
--- Whether a leg can have an effect at a time, after this log: the end of its binding is in the future, and the external
+-- Returns whether a leg can have an effect at a time, after this log: the end of its binding is in the future, and the external
 -- endpoint of a binding that it makes has no open entry.
 abbrev pub CanCome : ℕ → LogModel → Passage → Type 0
 CanCome now log (Made timed) = (is_before now timed.end ≡ true)

@@ -38,11 +38,11 @@ counted Incoming now end entry = record entry { end = end; received = entry.rece
 abbrev pub made_by : ℕ → TimedRow → Entry
 made_by now timed = counted Outgoing now timed.end (unused_entry timed.row now timed.end)
 
--- Whether a row has the protocol and the external endpoint of another.
+-- Returns whether a row has the protocol and the external endpoint of another.
 abbrev pub shares : Row → Row → Bool
 shares wanted other = same_protocol wanted.protocol other.protocol && same_endpoint wanted.external other.external
 
--- Whether an entry has not ended by a time and has the external endpoint of a row.
+-- Returns whether an entry has not ended by a time and has the external endpoint of a row.
 abbrev pub entry_is_of : ℕ → Row → Entry → Bool
 entry_is_of now wanted entry = is_before now entry.end && shares wanted entry.binding
 
@@ -134,6 +134,6 @@ begun_after before rules state =
 abbrev pub log_of : Rules → List Arrival → LogModel
 log_of rules inputs = log_on rules (initial_state rules) (begun_after 0 rules (initial_state rules)) inputs
 
--- Whether the binding of an entry was made by a time and has not ended by then.
+-- Returns whether the binding of an entry was made by a time and has not ended by then.
 abbrev pub stands_at : ℕ → Entry → Bool
 stands_at now entry = nat_le entry.made now && is_before now entry.end

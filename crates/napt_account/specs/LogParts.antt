@@ -4,21 +4,21 @@ use Rattle.napt_rules.specs.Prelude.{Each}
 use Rattle.napt_binding.specs.Ends.{is_before}
 use Rattle.napt_account.specs.{declared.log.{LogEntry.LogEntry, Shortage.Shortage}, Log.LogModel}
 
--- Whether the entry has not ended by a time.
+-- Returns whether the entry has not ended by a time.
 abbrev pub is_open : ℕ → LogEntry → Bool
 is_open now numbered = is_before now numbered.entry.end
 
--- Whether the entry ends after a time, and by another.
+-- Returns whether the entry ends after a time, and by another.
 abbrev pub ends_within : ℕ → ℕ → LogEntry → Bool
 ends_within was now numbered = is_open was numbered && not (is_open now numbered)
 
--- Whether an end is before another; a redirect has no end, so that it comes last.
+-- Returns whether an end is before another; a redirect has no end, so that it comes last.
 abbrev pub is_sooner : Option ℕ → Option ℕ → Bool
 is_sooner (Some end) (Some other) = nat_lt end other
 is_sooner (Some end) None = true
 is_sooner None other = false
 
--- Whether an entry is before another, by end and, at equal ends, by number.
+-- Returns whether an entry is before another, by end and, at equal ends, by number.
 abbrev pub ends_first : LogEntry → LogEntry → Bool
 ends_first numbered other = is_sooner numbered.entry.end other.entry.end
     || (not (is_sooner other.entry.end numbered.entry.end) && nat_lt numbered.number other.number)
@@ -41,7 +41,7 @@ pub record LogDelta : Type 0 where
   pub made : List LogEntry
   pub refused : List Shortage
 
--- Whether the number of an entry is above the number of earlier entries.
+-- Returns whether the number of an entry is above the number of earlier entries.
 abbrev pub is_after : ℕ → LogEntry → Bool
 is_after made numbered = nat_lt made numbered.number
 

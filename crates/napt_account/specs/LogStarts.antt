@@ -167,7 +167,7 @@ abbrev pub are_apart : Binding × Account → Binding × Account → Bool
 are_apart kept other =
     not ((kept.1.number == other.1.number) || external_eq (entry_key kept.0.row) (entry_key other.0.row))
 
--- Whether each is an account of the log, and apart from all those before it.
+-- Returns whether each is an account of the log, and apart from all those before it.
 abbrev pub are_accounts : ℕ → ℕ → List (Binding × Account) → List (Binding × Account) → Bool
 are_accounts made clock before [] = true
 are_accounts made clock before (kept ∷ more) = is_account made clock kept.1

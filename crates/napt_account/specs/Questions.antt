@@ -8,6 +8,6 @@ abbrev pub is_party_number : Option ℕ → ℕ → Bool
 is_party_number None number = true
 is_party_number (Some wanted) number = wanted == number
 
--- Whether an endpoint is the requested one, or one of the requested address.
+-- Returns whether an endpoint is the requested one, or one of the requested address.
 abbrev pub is_meant : Party → Endpoint → Bool
 is_meant party endpoint = (endpoint.address == party.address) && is_party_number party.number endpoint.number

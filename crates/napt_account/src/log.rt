@@ -100,7 +100,7 @@ pub fn redirected(config: &Config, redirect: Redirect) -> Row
     }
 }
 
-/// Whether a time, in ns, is before an end.
+/// Returns whether a time, in ns, is before an end.
 pub(crate) fn is_before(now: u64, end: Option<u128>) -> bool
     ensures { result ≡ is_before now end }
 {
@@ -118,7 +118,7 @@ pub struct LogEntry {
     pub entry: Entry,
 }
 
-/// Whether a cause says that no binding could be made.
+/// Returns whether a cause says that no binding could be made.
 pub(crate) fn is_shortage(cause: Cause) -> bool
     ensures { result ≡ is_shortage cause }
 {

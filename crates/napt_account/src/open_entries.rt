@@ -258,7 +258,7 @@ impl OpenEntries {
         self.by_external.get(&external_key(row)).copied()
     }
 
-    /// Whether a leg can have this effect at a time, in ns.
+    /// Returns whether a leg can have this effect at a time, in ns.
     #[inline(always)]
     pub(crate) fn can_come(&self, now: u64, effect: Passage) -> bool
         ensures yes { (most : ℕ) (log : LogModel) → OpenEntriesShow now most log self.now → result ≡ true →

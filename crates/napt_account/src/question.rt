@@ -15,7 +15,7 @@ pub struct Party {
 }
 
 impl Party {
-    /// Whether an endpoint is the requested one, or one of the requested address.
+    /// Returns whether an endpoint is the requested one, or one of the requested address.
     pub fn has(self, endpoint: Endpoint) -> bool
         ensures { result ≡ is_meant self endpoint }
     {

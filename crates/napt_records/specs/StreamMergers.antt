@@ -24,7 +24,7 @@ CountsFailures {R} {G} old more new = G.failed new.live.source.now ≡ G.failed 
 abbrev pub NoneFailed : {R : Type 0} {G : Ghosts R} → RecordStream R G → RecordStream R G → Type 0
 NoneFailed {R} {G} old new = G.failed new.live.source.now ≡ G.failed old.live.source.now
 
--- Whether the capture is known to end inside a record.
+-- Returns whether the capture is known to end inside a record.
 abbrev pub cut_of : {R : Type 0} {G : Ghosts R} → RecordStream R G → Bool
 cut_of stream = unwrap_or stream.cut false
 

@@ -1,4 +1,4 @@
--- A text whose lines are read one after another: what is left of it, and what was read.
+-- A text whose lines are read one after another: its unread rest, and the lines that were read.
 use Rattle.napt_state.specs.StateFiles.{StateFileModel}
 use Rattle.std.proofs.lemmas.{Grind.flat_map-append}
 use Rattle.std.proofs.Common.{ℕ, ◌≡◌, ◌≤◌, ◌^◌, List, [], ◌∷◌, ◌++◌, map, flat_map, Option, Some, None, IfSome, Result, Ok, Err, OnOk, IfOk, refl, sym, ◌∙◌, ap, subst, append_assoc, append-nil}

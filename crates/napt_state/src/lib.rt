@@ -1,4 +1,4 @@
-//! The text of a state, from which a run goes on. It is written and read line by line.
+//! Writes and reads, line by line, the text of a state from which a run can continue.
 //!
 //! `specs/StateText` defines the text to its last character and the meaning of its lines; `napt_rules` defines a state.
 #![tactic(auto)]

@@ -3,7 +3,7 @@ use Rattle.std.specs.{Prelude.{ℕ, Bool, Option, Some, None}, Option.is_some}
 use Rattle.napt_binding.specs.{declared.address_counts.AddressCounts.AddressCounts, Counts.{count_at, room_of}}
 use Rattle.napt_table.specs.declared.host_counts.HostCounts.{HostCounts}
 
--- Whether bindings are counted by host.
+-- Returns whether bindings are counted by host.
 abbrev pub are_counted : HostCounts → Bool
 are_counted hosts = is_some hosts.counts
 

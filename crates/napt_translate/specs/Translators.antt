@@ -48,7 +48,7 @@ abbrev pub translator_after : Leg → TranslatorModel → TranslatorModel
 translator_after leg state = with_local_state state
     (local_after state.rules state.table.address leg (local_state state.table))
 
--- Whether a leg made the binding that its packet used.
+-- Returns whether a leg made the binding that its packet used.
 abbrev pub is_made : Option BindingUse → Bool
 is_made None = false
 is_made (Some went) = went.made

@@ -12,7 +12,7 @@ canon check old new = (check + sum old + 65534 * sum new) % 65535
 unfoldable pub canon_udp : ℕ → List ℕ → List ℕ → ℕ
 canon_udp check old new = if check == 0 then 0 else (if canon check old new == 0 then 65535 else canon check old new)
 
--- Whether the words that a checksum covers, with the checksum itself, have a sum that is a multiple of 65535. Unless
+-- Returns whether the words that a checksum covers, with the checksum itself, have a sum that is a multiple of 65535. Unless
 -- all of them are 0, this is the one's complement sum 0xFFFF of RFC 1071.
 abbrev pub is_right : List ℕ → Bool
 is_right covered = sum covered % 65535 == 0

@@ -21,7 +21,7 @@ total_length at bytes = word_at (at + 2) bytes
 abbrev pub fragment_offset : ℕ → List ℕ → ℕ
 fragment_offset at bytes = bit_and (word_at (at + 6) bytes) 8191
 
--- Whether the flag MF is set, so that more fragments follow.
+-- Returns whether the flag MF is set, so that more fragments follow.
 abbrev pub has_more_fragments : ℕ → List ℕ → Bool
 has_more_fragments at bytes = not (bit_and (word_at (at + 6) bytes) 8192 == 0)
 
@@ -143,7 +143,7 @@ abbrev pub CanQuote : Protocol → ℕ → Type 0
 CanQuote protocols.Icmp number = Unit {0}
 CanQuote _ number = 0 < number
 
--- Whether a packet of this kind is an ICMP error.
+-- Returns whether a packet of this kind is an ICMP error.
 abbrev pub is_error : Kind → Bool
 is_error (kinds.ErrorOf inner) = true
 is_error _ = false

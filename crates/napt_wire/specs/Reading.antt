@@ -10,7 +10,7 @@ use Rattle.napt_wire.specs.declared.transport_form.DatagramEnd.TheVariants.{Sour
 abbrev pub header : ℕ → List ℕ → List ℕ
 header at bytes = take (header_length at bytes) (drop at bytes)
 
--- Whether a protocol number is that of ICMP, TCP or UDP.
+-- Returns whether a protocol number is that of ICMP, TCP or UDP.
 abbrev pub is_known_protocol : ℕ → Bool
 is_known_protocol protocol = protocol == 1 || protocol == 6 || protocol == 17
 
@@ -19,7 +19,7 @@ has_ports Udp = true
 has_ports Tcp = true
 has_ports _ = false
 
--- Whether the transport header is malformed. For UDP the length field is below 8 or exceeds the bytes present (RFC
+-- Returns whether the transport header is malformed. For UDP the length field is below 8 or exceeds the bytes present (RFC
 -- 768), for TCP the data offset is below 5 or points past them (RFC 9293 section 3.1); or there are fewer bytes than
 -- the header of this form has (8 for ICMP, RFC 792).
 abbrev pub has_bad_transport : TransportForm → List ℕ → Bool
@@ -30,7 +30,7 @@ has_bad_transport Tcp payload =
     (4 * (byte_at 12 payload / 16))
 has_bad_transport _ payload = nat_lt (length payload) 8
 
--- Whether a message from this side is translated. Of ICMP (RFC 792) these are destination unreachable (3), time
+-- Returns whether a message from this side is translated. Of ICMP (RFC 792) these are destination unreachable (3), time
 -- exceeded (11) and parameter problem (12), echo requests from inside, and echo replies from outside.
 abbrev pub is_translated_message : Side → TransportForm → ℕ → Bool
 is_translated_message side Udp type = true
@@ -40,7 +40,7 @@ is_translated_message Outside Reply type = true
 is_translated_message side Error type = type == 3 || type == 11 || type == 12
 is_translated_message _ _ type = false
 
--- Whether an error from this side may quote a datagram of this form. That datagram went the other way, so a quoted echo
+-- Returns whether an error from this side may quote a datagram of this form. That datagram went the other way, so a quoted echo
 -- is a request if the error comes from outside, and a reply if it comes from inside.
 abbrev pub is_quotable : Side → TransportForm → Bool
 is_quotable side Udp = true
@@ -49,7 +49,7 @@ is_quotable Outside Request = true
 is_quotable Inside Reply = true
 is_quotable _ _ = false
 
--- Whether the datagram at offset `at`, which an error quotes, is bad (RFC 5508 section 4): it is too short or damaged,
+-- Returns whether the datagram at offset `at`, which an error quotes, is bad (RFC 5508 section 4): it is too short or damaged,
 -- it is not a first fragment, or its source is not the destination of the error.
 unfoldable pub has_bad_inner : Side → ℕ → List ℕ → Bool
 has_bad_inner side at bytes =
@@ -63,7 +63,7 @@ has_bad_inner side at bytes =
     || not (is_quotable side (form_at at bytes))
     || not (address at Source bytes == address 0 Destination bytes)
 
--- Whether a transport header of this form, which begins at `start`, has ports and one of them is 0.
+-- Returns whether a transport header of this form, which begins at `start`, has ports and one of them is 0.
 abbrev pub has_zero_port : TransportForm → ℕ → List ℕ → Bool
 has_zero_port form start bytes = has_ports form && (word_at start bytes == 0 || word_at (start + 2) bytes == 0)
 

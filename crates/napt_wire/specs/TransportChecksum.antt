@@ -38,6 +38,6 @@ checksummed_words _ at bytes =
     if nat_lt size 6 || nat_lt (length bytes) (transport_start at bytes + size) then None
     else Some (message_words at size bytes)
 
--- Whether the transport checksum of the datagram at `at` is right, if it is present with all the words that it covers.
+-- Returns whether the transport checksum of the datagram at `at` is right, if it is present with all the words that it covers.
 unfoldable pub transport_right : ℕ → List ℕ → Option Bool
 transport_right at bytes = option_map is_right (checksummed_words (form_at at bytes) at bytes)
