@@ -1,4 +1,4 @@
--- What an input made, as it is in the log after it.
+-- The entries that an input made, as they are in the log after it.
 use Rattle.std.proofs.lemmas.{Bool.{Decides.nat_tests, and_parts, and_from}}
 use Rattle.std.proofs.Common.{◌≡◌, ℕ, ◌+◌, ◌≤◌, Bool, true, false, ◌&&◌, cond, List, [], ◌∷◌, ◌++◌, map, filter, find, Option, Some, None, refl, sym, ◌∙◌, ap, arith, append-nil}
 use Rattle.std.{specs.{Prelude.option_to_list, List.list_any, Option.option_map}}

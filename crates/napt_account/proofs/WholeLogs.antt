@@ -1,4 +1,4 @@
--- The parts that the inputs of a run add, with the entries that are left, are its log.
+-- The parts that the inputs of a run add, with the entries that are open at the end, make up its log.
 use Rattle.std.proofs.lemmas.{Grind.common_steps, Bool.{Decides.nat_tests, and_parts}}
 use Rattle.std.proofs.Common.{◌≡◌, ℕ, ◌+◌, ◌≤◌, max, Bool, true, false, not, ◌&&◌, cond, List, [], ◌∷◌, ◌++◌, length, map, drop, filter, Option, refl, sym, ◌∙◌, ap, subst, arith, append-nil, append_assoc}
 use Rattle.std.specs.List.{fold, Sorted.IsPermutation}
