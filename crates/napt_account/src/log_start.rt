@@ -55,10 +55,10 @@ impl<'a> LogBuilder<'a> {
         Ok(started.log)
     }
 
-    /// Returns the log at a state before the first input. The entries of its bindings continue, each
-    /// with its binding's end under the configuration. A live binding without an entry gets one that
-    /// begins at the clock. An entry ends at the clock if its binding has ended under the timers, or
-    /// is a redirect that the configuration does not have. Fails only if memory is refused.
+    /// Returns the log at a state before the first input. The entries of its bindings continue,
+    /// each with the end under the configuration. A live binding without an entry gets one that
+    /// begins at the clock. An entry ends at the clock if its binding has ended under the timers,
+    /// or is a redirect that the configuration does not have. Fails only if memory is refused.
     pub fn resume(
         alloc: Global,
         config: &'a Config,
