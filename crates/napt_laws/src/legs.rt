@@ -3,8 +3,8 @@
 ghost use Rattle.napt_rules.specs.Prelude.{ErrorsChangeNothing, LegsEndAtTheirSide, InboundStaysInside, LegsAnswerAlone, LegsLeaveTheirOwn};
 ghost use Rattle.napt_laws.specs.BindingUses.{OutboundNamesItsBinding, InboundNamesItsBinding, ErrorsGoThroughNone, DroppedGoThroughNone};
 
-/// Law: an ICMP error changes no binding and no time. Of outgoing packets, only those that end onward go
-/// to an address of the pool, at its place. An incoming packet reaches the inside or is dropped.
+/// Law: an ICMP error changes no binding and no time. Only a packet that ends onward goes to the
+/// pool, to the address at its place. An incoming packet reaches the inside or is dropped.
 pub fn legs_keep_to_their_way()
     ensures errors { ErrorsChangeNothing }
     ensures sides { LegsEndAtTheirSide }

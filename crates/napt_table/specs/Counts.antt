@@ -11,11 +11,11 @@ abbrev pub count_by : Option AddressCounts → ℕ → ℕ
 count_by None host = 0
 count_by (Some counts) host = count_at counts host
 
--- The number of bindings of the host, or 0 if nothing is counted.
+-- Returns the number of bindings of the host, or 0 if nothing is counted.
 abbrev pub count_in : HostCounts → ℕ → ℕ
 count_in hosts host = count_by hosts.counts host
 
--- How many more hosts fit without an allocation; where nothing is counted, always 1.
+-- Returns the number of further hosts that fit without an allocation, or 1 if nothing is counted.
 abbrev pub place_by : Option AddressCounts → ℕ
 place_by None = 1
 place_by (Some counts) = room_of counts

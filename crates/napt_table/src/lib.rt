@@ -35,7 +35,7 @@ pub struct TimedRow {
     pub end: Option<u128>,
 }
 
-/// Law: no host ever exceeds both the quota and its number of bindings at the start (RFC 6888, REQ-4).
+/// Law: no host ever exceeds both the quota and its count at the start (RFC 6888, REQ-4).
 pub fn tables_keep_the_quota()
     ensures { PlayedKeepsQuota }
 {}

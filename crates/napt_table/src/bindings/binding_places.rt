@@ -10,8 +10,8 @@ use std::alloc::{AllocError, Global};
 /// The number of external numbers of a protocol.
 const NUMBERS: usize = 65_536;
 
-/// The index where the binding of each external number was last stored, by protocol. The caller checks
-/// this hint, so that contracts do not mention it. An index of 65,536 or more is not recorded.
+/// The index where the binding of each external number was last stored, by protocol. Callers check
+/// this hint, and contracts do not mention it. An index of 65,536 or more is not recorded.
 #[derive(Drop)]
 pub(crate) struct BindingPlaces {
     noted: [Vec<u16>; 3],
