@@ -34,7 +34,7 @@ fn is_live(binding: &StateBinding, timers: IdleTimers, now: u64) -> bool
     }
 }
 
-/// Returns the binding of a state without expired flows, or `None` if it is not live at `now` (ns).
+/// Returns the table's binding, without expired flows, or `None` if it is not live at `now` (ns).
 pub fn from_state(
     alloc: Global,
     binding: &StateBinding,
