@@ -241,7 +241,7 @@ impl Flows {
         })
     }
 
-    /// Returns the last time (ns), at most `u64::MAX`, of a live TCP flow. One must live at `now`.
+    /// Returns the last time (ns) at which a TCP flow lives, at most 2^64 - 1. One must at `now`.
     pub(crate) fn last_moment(&self, timers: IdleTimers, now: u64) -> u64
         requires live { list_any (life.is_live_flow timers now) self.now ≡ true }
         ensures later { now ≤ result }

@@ -16,7 +16,7 @@ use napt_rules::{Flow, OutboundPacket};
 use napt_wire::{Endpoint, Flags, Protocol, Way};
 use std::alloc::AllocError;
 
-/// Returns the last time (ns), at most `u64::MAX`, of a live flow. One must live at `now`.
+/// Returns the last time (ns) at which a flow lives, at most 2^64 - 1. One must live at `now`.
 pub(super) fn last_moment_of(flows: &[Flow], timers: IdleTimers, now: u64) -> u64
     requires live { list_any (life.is_live_flow timers now) flows.now ≡ true }
     ensures later { now ≤ result }
