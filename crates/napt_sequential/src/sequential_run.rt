@@ -44,7 +44,7 @@ impl SequentialRun {
     }
 
     /// Returns a run that starts from a state, before its first input. It has the configuration's
-    /// redirects, then the state's bindings, live or held at its clock. Inputs are numbered from 0.
+    /// redirects, then the state's bindings live or held at its clock. Inputs are numbered from 0.
     pub fn resume(
         alloc: Global,
         config: &Config,
@@ -64,8 +64,8 @@ impl SequentialRun {
     }
 
     /// Translates the next input at the latest clock so far, including its own. Returns its outcome
-    /// and what its legs did, which are the last ones of the run over all inputs so far. The bytes
-    /// of the input are copied once. After a fault the run must not be continued.
+    /// and the effects of its legs, which are the last ones of the run over all inputs so far. The
+    /// bytes of the input are copied once. After a fault, the run must not continue.
     ///
     /// Fails with `RunFault::TooMany` exactly if there were `MOST_INPUTS` inputs before, with
     /// `RunFault::Memory` only if memory is refused, and never with `RunFault::Pool`.
