@@ -11,7 +11,7 @@ use std::alloc::{AllocError, Global};
 use std::collections::VecDeque;
 use std::marker::Model;
 
-/// Returns whether the next record is the outside one, which must be earlier than the inside one.
+/// Returns whether the outside record is next: it is earlier, or there is no inside one.
 fn is_outside_next(inside: &VecDeque<Record>, outside: &VecDeque<Record>) -> bool
     ensures { result ≡ is_outside_next inside.now.items outside.now.items }
 {
