@@ -1,4 +1,4 @@
--- What the slots have in them after one is filled or emptied.
+-- The contents of the slots after one is filled or emptied.
 use Rattle.std.proofs.lemmas.Grind.{common_steps}
 use Rattle.std.proofs.Common.{◌≡◌, ◌≢◌, ℕ, zero, suc, ◌+◌, ◌<◌, ◌⊎◌, inl, inr, Bool, true, false, ◌||◌, cond, List, [], ◌∷◌, ◌++◌, length, set, Option, Some, None, nat_lt, refl, sym, ◌∙◌, ap, arith, filter, ◌==◌}
 use Rattle.std.{specs.List.list_any, proofs.lemmas.{Bool.Decides.nat_tests, Option.same_Some, List.{length_push, Sums.sum_by-cons}}}

@@ -1,4 +1,4 @@
--- The visible elements of a list: each element that passes a test, as it is seen.
+-- The visible elements of a list: the visible part of each element that passes a test.
 use Rattle.std.proofs.Common.{◌≡◌, ℕ, ◌≤◌, Bool, true, false, not, ◌&&◌, List, [], ◌∷◌, ◌++◌, map, Some, None, refl, arith, filter, find}
 use Rattle.std.specs.Option.{option_map}
 use Rattle.napt_rules.specs.Prelude.{Binding, change_first, purge, hold_ago, live_and_held, Timers}

@@ -1,4 +1,4 @@
--- The answers at hand: those that were received from an answer ring, and not handed out.
+-- The stored answers, which were received from an answer ring and have not been returned yet.
 use Rattle.std.proofs.lemmas.Grind.{common_steps}
 use Rattle.std.proofs.Common.{◌≡◌, sym, ap, ◌∙◌, arith, List, map, length, [], ◌∷◌, ◌++◌, append-nil, append_assoc, length-append}
 use Rattle.std.{proofs.lemmas.List.{length-map, take_at}, specs.Prelude.{Option, None, Some, MatchOption, option_to_list}}

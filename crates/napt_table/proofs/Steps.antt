@@ -1,4 +1,4 @@
--- A step leaves the other protocols unchanged; and a list of events with one more.
+-- A step changes no binding of another protocol; and a list of events with one more event.
 use Rattle.std.proofs.Common.{◌≡◌, ◌≢◌, ℕ, Bool, true, false, cond, List, [], ◌∷◌, ◌++◌, Option, Some, None, Result, Ok, Err, refl, sym, ◌∙◌, ap, subst, eqb, eqb-true}
 use Rattle.std.{specs.Prelude.{find, OnErr}, proofs.lemmas.Bool.{eq-eqb, true≢false}}
 use Rattle.napt_wire.specs.declared.{Protocol.Protocol, Cause.TheVariants.{NoBinding, Filtered}}

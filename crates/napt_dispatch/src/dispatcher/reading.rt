@@ -122,7 +122,7 @@ impl<P: LegTrace> Dispatcher<P> {
         arrivals.next(spare)
     }
 
-    /// Reads the inputs until their end or a fault, and takes answers between them. Copies no bytes.
+    /// Reads the inputs until their end or a fault, taking answers in between. Moves their bytes.
     fn read_all<R: Wait, G: Gate, A: InputSource, D: OutcomeSink<Told = P>>(
         &mut self,
         rt: &R,
