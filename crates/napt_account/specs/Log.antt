@@ -117,7 +117,7 @@ after_record timers log a = after_leg a.leg.now (passage_of timers a) log
 unfoldable pub log_on : Rules → State → LogModel → List Arrival → LogModel
 log_on rules state log inputs = fold (after_record rules.timers) log (effect_from rules state inputs).acts
 
--- WHERE IT BEGINS
+-- THE BEGINNING
 
 -- Returns the entries with consecutive numbers from the given one.
 abbrev pub numbered_from : ℕ → List Entry → List LogEntry

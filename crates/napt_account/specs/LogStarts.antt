@@ -85,7 +85,7 @@ resumed_entry rules clock kept = entry_by_account kept.0.row (resumed_end rules 
 abbrev pub resumed_entries : Rules → State → SavedLogStateModel → List LogEntry
 resumed_entries rules state saved = map (resumed_entry rules state.clock) (accounted state.list saved.accounts)
 
--- THE LOG WITH WHICH A RUN BEGINS
+-- THE LOG WITH WHICH A RUN STARTS
 
 -- Inserts an entry before the first one with a greater number.
 abbrev pub placed_by_number : LogEntry → List LogEntry → List LogEntry
@@ -121,7 +121,7 @@ new_entries rules state saved = numbered_from (saved.made + 1)
     (map (λ timed. unused_entry timed.row state.clock timed.end)
     (unlisted_rows rules state (continued_entries rules state saved)))
 
--- THE LOG OF A STATE as a configuration takes it up: with it the run from `with_redirects rules state` begins.
+-- THE LOG OF A STATE under a configuration, with which the run from `with_redirects rules state` starts.
 abbrev pub log_started : Rules → State → SavedLogStateModel → LogModel
 log_started rules state saved = record {
   made = saved.made + length (new_entries rules state saved);
@@ -178,7 +178,7 @@ abbrev pub is_saved_log_state : State → SavedLogStateModel → Bool
 is_saved_log_state state saved =
     nat_le saved.made most_saved && are_accounts saved.made state.clock [] (accounted state.list saved.accounts)
 
--- WHAT IS SAVED of a log at a time, in addition to the bindings of a state
+-- THE SAVED PART of a log at a time, in addition to the bindings of a state
 
 abbrev pub account_at : ℕ → LogModel → Row → Option Account
 account_at now log row = option_map account_of_entry (open_of now row log)

@@ -42,7 +42,7 @@ external_cmp a b = ordering_then (nat_cmp a.address b.address)
 abbrev pub due_cmp : DueEntry → DueEntry → Ordering
 due_cmp a b = ordering_then (nat_cmp a.at b.at) (external_cmp a.key b.key)
 
--- WHAT IS KEPT
+-- THE STORED ENTRIES
 
 abbrev pub open_at : OpenEntries → EntryKey → Option Open
 open_at all x = hash.get external_eq all.by_external x

@@ -181,7 +181,7 @@ impl Flows {
         }
     }
 
-    /// Creates the flows from a list of them, oldest first, no two of one remote endpoint.
+    /// Creates the flows from a list of distinct ones, oldest first. Fails if memory is refused.
     pub fn from_flows(alloc: Global, flows: &[Flow]) -> Result<Flows, AllocError>
         requires { AreDistinct flows.now }
         ensures { IfOk result (λ made. made ≡ flows.now) }
@@ -208,7 +208,7 @@ impl Flows {
         }
     }
 
-    /// Returns a copy of the flows of a protocol that live at `now` (ns), oldest first.
+    /// Copies the flows of a protocol live at `now` (ns), in order. Fails if memory is refused.
     #[tactic(auto, using(crate::proofs::DistinctFlows::distinct_live))]
     pub fn live(
         &self,
@@ -226,7 +226,7 @@ impl Flows {
         Ok(flows)
     }
 
-    /// Creates the flows of a binding whose first packet goes out, without allocating.
+    /// Creates the flows of a binding whose first packet goes out. Never allocates or fails.
     pub fn from_packet(
         _alloc: Global,
         timers: IdleTimers,

@@ -56,7 +56,7 @@ pub record IsLeftWith (rules : Rules) (state : State) (address : ℕ) (translato
   pub past : translator.table.at ≤ state.clock
   pub taken_are : live_and_held rules.timers state.clock translator.table.list ≡ bindings_at address state.list
 
--- WHAT IS OFFERED AND ANSWERED
+-- OFFERS AND ANSWERS
 
 -- The answers taken from each worker, with their records, are its translator's first answers to the legs offered to it.
 abbrev pub AnswersAreRight : {P : Type 0} → (Passage → P) → Rules → State → List (List Leg) →

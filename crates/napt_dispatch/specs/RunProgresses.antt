@@ -82,7 +82,7 @@ abbrev pub is_incoming : Way → Bool
 is_incoming Incoming = true
 is_incoming Outgoing = false
 
--- Returns whether it is unknown if an input has a second leg (RFC 4787, REQ-9). True of an incoming leg and of no input.
+-- Returns whether it is unknown if an input has a second leg (RFC 4787, REQ-9), also after an incoming leg or for none.
 abbrev pub is_unknown : {P : Type 0} → Option (InputProgress P) → Bool
 is_unknown (Some (Answered owed end first second)) = is_incoming owed.way
 is_unknown _ = true

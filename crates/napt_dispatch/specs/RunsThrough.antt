@@ -14,7 +14,7 @@ use Rattle.napt_dispatch.specs.declared.faults.DispatchFault.TheVariants as disp
 use Rattle.napt_dispatch.specs.declared.dispatcher.DispatchEnd.TheVariants as endings
 use Rattle.napt_dispatch.specs.declared.faults.PassFault.TheVariants as pass_faults
 
--- OUTCOMES THAT ARE WRITTEN
+-- WRITTEN OUTCOMES
 
 -- Returns the results of inputs, each with the arrival time of its input, in ns.
 abbrev pub timed_results : {X : Type 0} → List Arrival → List X → List (ℕ × X)

@@ -77,8 +77,8 @@ impl<P: LegTrace> Dispatcher<P> {
     }
 }
 
-/// Runs the inputs over a pool of workers, and returns each input's outcome and each worker's
-/// number of legs. After an error, the pool can only be closed.
+/// Runs the inputs over a pool of workers. Returns each input's outcome and each worker's number of
+/// legs. Fails if a worker stopped or memory is refused; the pool can then only be closed.
 ///
 /// If `close` then confirms that the answers are those of the workers, the outcomes, the numbers
 /// and the legs are those of the sequential run.

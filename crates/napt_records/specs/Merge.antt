@@ -32,7 +32,7 @@ clock_at place inputs = latest (take (place + 1) inputs)
 abbrev pub reach : Side → ℕ → List Arrival → ℕ
 reach side place inputs = latest (filter (is_from side) (take (place + 1) inputs))
 
--- An inside input precedes an outside one exactly if the latest inside time up to the inside input is at most the
+-- An inside input precedes an outside one if and only if the latest inside time up to the inside input is at most the
 -- latest outside time up to the outside one.
 abbrev pub AreInOrder : List Arrival → Type 0
 AreInOrder inputs =

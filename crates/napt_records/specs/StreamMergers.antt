@@ -110,7 +110,7 @@ abbrev pub HandsOutInputs : {R Q : Type 0} {G : Ghosts R} {H : Ghosts Q} → Str
     StreamMerger R Q G H → Type 0
 HandsOutInputs old inputs new = AreSame old new × (IsMergerLive old → Goes old inputs new)
 
--- The end of both captures was reached, and no input is left.
+-- The end of both captures was reached, and no input remains.
 pub record NextEnd {R Q : Type 0} {G : Ghosts R} {H : Ghosts Q} (old new : StreamMerger R Q G H) : Type 0 where
   pub inside_count : NoneFailed old.inside new.inside
   pub outside_count : NoneFailed old.outside new.outside

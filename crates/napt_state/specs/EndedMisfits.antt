@@ -7,7 +7,7 @@ use Rattle.napt_config.specs.Rules.{Rules, AreTimers}
 use Rattle.napt_rules.specs.{Prelude.{Binding, State, Timers, dynamic_bindings, hold_ago, is_live, misfit, ns_per_second, with_live_flows}, Misfits.misfit_of, declared.Misfit.Misfit}
 use Rattle.napt_account.specs.{LogStarts.resumed_entry, LogParts.is_open, declared.account.Account.Account}
 
--- WHAT FITS
+-- BINDINGS THAT FIT
 
 abbrev pub before_fitting : Binding → Option Misfit → List Binding → List Binding
 before_fitting b None others = b ∷ others
@@ -34,7 +34,7 @@ abbrev pub fitting_in : Rules → ℕ → List Binding → List Binding
 fitting_in rules clock list =
     fitting rules clock (dynamic_bindings rules (record { clock = clock; list = list }))
 
--- WHAT ENDS
+-- BINDINGS THAT END
 
 -- Returns the binding as one that ended long ago: its last use is at time 0, and it has no flow.
 abbrev pub given_up : Binding → Binding

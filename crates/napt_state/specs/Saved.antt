@@ -15,7 +15,7 @@ use Rattle.napt_state.specs.declared.{line.{LogEnd.LogEnd, LogPosition.LogPositi
 use Rattle.napt_state.specs.declared.saved_bindings.SavedBinding.TheVariants as bindings
 use Rattle.napt_state.specs.{EndedMisfits.{misfit_count, without_misfits}, StateText.{IsStateLine, saved_lines}}
 
--- WHAT IS SAVED, by a run under these timers
+-- THE SAVED CONTENTS, by a run under these timers
 
 abbrev pub saved_binding : Timers → ℕ → Binding → Option Account → SavedBinding
 saved_binding timers clock b account = cond (is_live timers clock b) (bindings.Live b account)
@@ -50,7 +50,7 @@ pub record IsSavedState (rules : Rules) (state : State) (file : StateFileModel) 
   pub log : Option (SavedLogStateModel × LogEnd)
   pub contents : file ≡ contents_of rules ordered log
 
--- WHAT CAN BE SAVED: accounts of one log, and ends by the clock
+-- CONTENTS THAT CAN BE SAVED: accounts of one log, and ends by the clock
 
 abbrev pub accounted_in : List SavedBinding → List (Binding × Account)
 accounted_in [] = []
@@ -81,7 +81,7 @@ HasAccounts saved = has_accounts saved ≡ true
 abbrev pub IsSaved : StateFileModel → Type 0
 IsSaved saved = Each IsStateLine (saved_lines saved) × HasAccounts saved
 
--- WHAT IS TAKEN UP under these timers
+-- THE STATE FROM THE CONTENTS under these timers
 
 -- Returns the timer of a binding, in seconds; for TCP, that of a flow that is not established.
 abbrev pub timer_of : Protocol → Timers → ℕ

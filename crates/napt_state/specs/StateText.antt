@@ -1,6 +1,6 @@
--- The text of a state: a line for its clock; one for the log of the run if it had one; one for each binding, with the
--- account of its entry in the log, followed by one for each of its flows; and one that says how many there are. A line
--- has words with a space between them.
+-- The text of a state: a line for its clock; one for the log of the run, if it had one; one for each binding, with the
+-- account of its entry in the log, followed by one for each of its flows; and one with the numbers of these. A line has
+-- words with a space between them.
 use Rattle.napt_state.specs.StateFiles.{StateFileModel}
 use Rattle.std.specs.{Prelude.{◌≡◌, ℕ, ◌^◌, ◌<◌, ◌≤◌, ◌==◌, Bool, true, false, List, [], ◌∷◌, ◌++◌, map, length, flat_map, codes, decimal, Option, Some, None, IfSome}, List.{slice_split, sum_by}}
 use Rattle.napt_wire.specs.declared.{Endpoint.Endpoint, Protocol.{Protocol, TheVariants.{Icmp, Tcp, Udp}}}

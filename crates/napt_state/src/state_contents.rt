@@ -43,7 +43,7 @@ pub struct TakenState {
 }
 
 impl StateFileContents {
-    /// Returns the contents of a state without bindings and without a log.
+    /// Returns the contents of a state without bindings and without a log, at a clock in ns.
     pub fn new(alloc: Global, clock: u64) -> StateFileContents
         ensures { result ≡ said.empty_contents clock }
     {

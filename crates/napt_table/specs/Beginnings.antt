@@ -1,4 +1,4 @@
--- A table before its first packet, and the bindings that it takes from a saved state.
+-- A table before its first packet, and the bindings that it gets from a saved state.
 use Rattle.std.specs.Prelude.{◌≡◌, ℕ, not, List, map, filter, find}
 use Rattle.napt_wire.specs.declared.Protocol.{Protocol}
 use Rattle.napt_config.specs.declared.settings.Timers.{Timers}

@@ -191,7 +191,7 @@ impl Packet {
         ensures reads { (side : Side) → reading side self.old ≡ Ok self.old → reading side self.new
             ≡ Ok self.new }
         // The same holds for the quoted datagram. The checksums of both IPv4 headers and of the
-        // ICMP message stay right, because the packet reads.
+        // ICMP message are still right, because the bytes read as a packet.
         ensures right { transport_right (inner_datagram_start self.old) self.new
             ≡ transport_right (inner_datagram_start self.old) self.old }
     {
