@@ -164,7 +164,7 @@ impl<'a> LogBuilder<'a> {
         if self.is_stopped {
             return Err(RunFault::Memory);
         }
-        // reset at the end, if nothing fails
+        // This is reset at the end, if nothing fails.
         self.is_stopped = true;
         if self.taken >= MOST_INPUTS {
             return Err(RunFault::TooMany);

@@ -80,7 +80,7 @@ impl<'a> LogBuilder<'a> {
         ensures before { IfOk result (λ from.
             from.before ≡ starts.log_before config.now state.now saved.now) }
     {
-        // called only for its clause: the rules of a configuration are valid
+        // Only the contract of this call is used: the rules of a configuration are valid.
         let _pool = config.pool();
         let all = resumed_entries(alloc, config, state, saved)?;
         let continued = open_among(alloc, &all, state.clock)?;

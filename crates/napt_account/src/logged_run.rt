@@ -181,7 +181,7 @@ impl<'a> LoggedRun<'a> {
         if self.is_stopped {
             return Err(RunFault::Memory);
         }
-        // reset at the end, if nothing fails
+        // This is reset at the end, if nothing fails.
         self.is_stopped = true;
         let config = self.log.config();
         let stepped = self.run.step(alloc, config, input)?;

@@ -144,7 +144,7 @@ pub fn run_workers<
     ensures gate { G.is_open ≡ true → IfErr result (λ fault. is_run_gate_fault fault ≡ false) }
 {
     runs_are_sound();
-    // called for its clause alone: a configuration's rules are valid
+    // Only the contract of this call is used: a configuration's rules are valid.
     let _pool = config.pool();
     if inputs.len() > MOST_INPUTS {
         return Err(RunFault::TooMany);

@@ -5,7 +5,7 @@ ghost use Rattle.napt_laws.specs.SecondLegs.{AnswersFillPlaces, PlacesStandForLe
 
 use napt_wire::packets_keep_their_way;
 
-/// Law: if translators get the legs of a run and answer correctly, the answers are those of the run.
+/// Law: if translators get the legs of a run and answer correctly, the answers are the run's.
 pub fn right_answers()
     ensures right { RightAnswersAreTheRuns }
     ensures grow { RunsGrow }

@@ -78,7 +78,7 @@ impl LegTrace for Passage {
         translator: &mut Translator,
         leg: Leg,
     ) -> Result<TracedAnswer<Passage>, AllocError> {
-        // called for its clause alone: the rules of a translator are valid
+        // Only the contract of this call is used: the rules of a translator are valid.
         translator.keep_rules();
         let now = leg.now;
         let seen = PacketTuple::from_packet(&leg.packet);

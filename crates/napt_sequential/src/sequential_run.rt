@@ -89,7 +89,7 @@ impl SequentialRun {
             (result ≡ Err RunFault.TooMany) ↔ (2 ^ 32 ≤ length before + 1) }
         ensures never_pool { IfErr result IsOneThreadFault }
     {
-        // called for its clause alone: the rules of a configuration are valid
+        // Only the contract of this call is used: the rules of a configuration are valid.
         let _pool = config.pool();
         if self.many >= MOST_INPUTS as u64 {
             return Err(RunFault::TooMany);
