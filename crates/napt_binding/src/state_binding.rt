@@ -34,7 +34,7 @@ fn is_live(binding: &StateBinding, timers: IdleTimers, now: u64) -> bool
     }
 }
 
-/// Returns the binding without expired flows if it lives at `now` (ns). Fails if memory is refused.
+/// Returns the binding without expired flows if live at `now` (ns). Fails if memory is refused.
 pub fn from_state(
     alloc: Global,
     binding: &StateBinding,

@@ -23,7 +23,7 @@ pub enum Which {
 }
 
 /// The reason why a run over captures ended early. After a fault of a capture or of the run,
-/// `run_captures` has written nothing, and `run_streams` the outputs that it documents.
+/// `run_captures` has written nothing. For `run_streams`, its documentation has the outputs.
 #[derive(Clone, Copy, Debug, PartialEq, Eq)]
 pub enum Fault {
     /// The capture of this side is malformed or could not be read.

@@ -78,10 +78,10 @@ impl StateFileContents {
         Ok(true)
     }
 
-    /// Converts the contents to a state of a configuration. If `ends_misfits`, each binding that
-    /// does not fit ends at the clock, with its entry; otherwise, or if the clock is not past a timer
-    /// and the hold, returns the first one and why. Redirects, and bindings neither live nor held
-    /// at the clock, need not fit. Takes linear time. Fails only if memory is refused.
+    /// Converts the contents to a state for a configuration. If `ends_misfits`, each binding that
+    /// does not fit ends at the clock, with its entry; otherwise, or if the clock is not past a
+    /// timer and the hold, returns the first one and why. Redirects, and bindings neither live nor
+    /// held at the clock, need not fit. Takes linear time. Fails only if memory is refused.
     pub fn take_up(
         self,
         alloc: Global,

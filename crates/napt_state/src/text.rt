@@ -65,8 +65,8 @@ fn push_log<W: Write>(writer: &mut W, line: &mut String, log: Option<LogPosition
     }
 }
 
-/// Writes the text of a state line by line, and flushes it, in the memory of one line. Fails if a write or the flush
-/// fails, or memory is refused; the writer may then have got a beginning of the text.
+/// Writes the text of a state line by line, in the memory of one line, and flushes it. Fails if a
+/// write or the flush fails, or memory is refused; a prefix may then have been written.
 pub fn write_state<W: Write>(
     alloc: Global,
     writer: &mut W,
