@@ -103,7 +103,7 @@ impl SavedLogState {
         }
     }
 
-    /// Returns whether no binding of a state has an account, although one other than a redirect is live.
+    /// Returns whether no binding of a state has an account, but one other than a redirect is live.
     pub fn lacks_all(&self, config: &Config, state: &State) -> bool {
         let (timers, now) = (config.timers(), u128::from(state.clock));
         let mut lives = false;

@@ -107,8 +107,8 @@ pub fn end_of(binding: &TableBinding, timers: IdleTimers) -> Option<u128>
     Some(end)
 }
 
-/// Returns a time (ns) up to which a live binding is certain to live, whatever packets come: at least `now`, and
-/// no later than a packet at `now` would let it live. Unless it is a redirect, it is the last such time.
+/// Returns a time (ns) from `now` on up to which a live binding lives, whatever packets come, but
+/// not after a packet at `now` would let it live: the last such time, except for a redirect.
 pub fn until(binding: &TableBinding, timers: IdleTimers, now: u64) -> u64
     requires live { life.is_live timers now binding.now ≡ true }
     ensures later { now ≤ result }

@@ -70,8 +70,8 @@ impl PacketTuple {
     }
 }
 
-/// Returns the passage in direction `way` through the binding found, or `Nothing` without one. `made` says whether the
-/// leg made the binding of an outgoing packet.
+/// Returns the passage in direction `way` through the binding found, or `Nothing` without one.
+/// `made` is true if the leg of an outgoing packet made the binding.
 pub(crate) fn gone_by(way: Way, made: bool, found: Option<TimedRow>) -> Passage
     ensures { result ≡ lookups.gone_by way made found }
 {

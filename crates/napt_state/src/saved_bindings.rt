@@ -154,7 +154,7 @@ fn end_of(binding: &StateBinding, config: &Config) -> u64
     }
 }
 
-/// Returns the end of the last of these TCP flows, in ns, or 0 if there is none; at most `u64::MAX`.
+/// Returns the end of the last TCP flow, in ns, or 0 if there is none; at most `u64::MAX`.
 fn last_end(flows: &[Flow], config: &Config) -> u64
     ensures { result ≡ min (last_end config.now.timers flows.now) (2 ^ 64 - 1) }
 {

@@ -79,9 +79,9 @@ impl Numbers {
         self.protocol
     }
 
-    /// Returns the external number for an inside endpoint of a host with this block or without one: the first free
-    /// candidate, or `None` if none is free. Without a block, the first candidate is the number itself, or with a seed
-    /// that at the place of a hash; the next ones of its class follow, wrapping around (RFC 4787, REQ-3 and REQ-4).
+    /// Returns the external number for an inside endpoint, of a host with this block or without
+    /// one: the first free candidate, if any. Without a block, the search begins at the number
+    /// itself, or with a seed at the place of a hash, and wraps around (RFC 4787, REQ-3 and REQ-4).
     pub fn choose(
         &self,
         choosing: NumberAssignment,

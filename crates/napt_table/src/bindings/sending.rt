@@ -151,7 +151,7 @@ impl Bindings {
         Flows::from_packet(alloc, self.timers, packet)
     }
 
-    /// Makes the packet's binding with these flows. Returns its number or `NoPort`. Never allocates.
+    /// Makes the packet's binding with these flows. Returns a number or `NoPort`. Never allocates.
     fn insert_new(&mut self, packet: OutboundPacket, flows: Flows) -> Result<u16, Cause>
         requires room { BindingsHaveRoom self.old }
         requires at { self.old.at ≡ packet.now }
