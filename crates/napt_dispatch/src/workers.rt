@@ -182,8 +182,8 @@ impl RunSummary {
     ghost use Rattle.napt_rules.specs.Prelude.{IsStateInOrder, State};
     ghost use Rattle.napt_dispatch.specs.RunsThrough.{LeavesState};
 
-    /// Returns the state after the run if it is to be saved, or `None`: the bindings live or held at the last clock, by
-    /// address in pool order, then by protocol (ICMP, TCP, UDP) and external number. Fails only if memory is refused.
+    /// Returns the state after the run, or `None` unless `is_saved`: the bindings live or held at
+    /// the last clock, by address in pool order, protocol and number. Fails if memory is refused.
     pub fn into_state_if(self, is_saved: bool, alloc: Global) -> Result<Option<State>, AllocError>
         ensures saved { IfOk result (λ state. is_some state ≡ is_saved) }
         ensures state { (rules : Rules) (state : State) → LeavesState rules state self →

@@ -1,8 +1,8 @@
 //! The stored bindings of one external address, of all protocols.
 //!
-//! A binding that has ended remains stored while it is held. No look-up finds it, and once its hold time is over, it is
-//! removed before the next new binding is assigned a number. Its queue entry has a time until which it is known to be
-//! live. A packet that refreshes the binding does not move the entry: when it is due, the binding is checked again.
+//! A binding that has ended is stored while held: no look-up finds it, and once its hold time is
+//! over, it is removed before a new one gets a number. Its queue entry has a time until which it
+//! surely lives. A packet that refreshes it does not move the entry; it is checked again when due.
 
 ghost use Rattle.std.specs.{Prelude.{◌≡◌, ℕ, ◌+◌, ◌*◌, ◌^◌, ◌≤◌, ◌<◌, All, true, false, Some, None, OnOk, IfOk}, Option.{option_map, is_some}};
 ghost use Rattle.napt_rules.specs.Prelude.{Binding, ns_per_second, is_live, hold_ago};
@@ -258,8 +258,8 @@ impl Bindings {
     ghost use Rattle.napt_table.specs.BindingIndexes.{held_at};
     ghost use Rattle.napt_table.specs.Bindings.{IsPurged};
 
-    /// Returns the least number from 1 on that no live or held binding has at `now` (ns), which becomes the time.
-    /// Removes the bindings whose hold time is over first, so that the search reads only a few words.
+    /// Returns the least number from 1 on that no live or held binding has at `now` (ns). Before
+    /// that, sets the time to `now`, and removes the bindings whose hold is over.
     pub(crate) fn spare(&mut self, now: u64, protocol: Protocol) -> Option<u16>
         requires later { self.old.at ≤ now }
         ensures purged { IsPurged now self.old self.new }
