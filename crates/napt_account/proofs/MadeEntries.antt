@@ -92,7 +92,7 @@ module _ (now made : ℕ) where
 
   -- A SECOND LEG AFTER IT
 
-  -- What the first leg made is open before the second.
+  -- The entry that the first leg made is open before the second leg.
   abbrev IsThere : Passage → LogModel → Type 0
   IsThere (Made timed) x = (n : LogEntry) × (open_of now timed.row x ≡ Some n)
   IsThere _ x = Unit {0}

@@ -198,7 +198,7 @@ module _ (rules : Rules) (keeps : RulesInvariant rules) (saved : State) (left : 
         | Some other ↦ inr (has_kept list b a there e)
       ]
 
-  -- What an account contributes to the entries that go on.
+  -- The entry of an account is one of the entries that continue.
   record IsAgain (k : Kept) : Type 0 where
     pub n : LogEntry
     pub has : Has left.entries n

@@ -110,7 +110,7 @@ second_known whole progress number second goes asks known =
 abbrev window_of : {P : Type 0} → List (ℕ × InputResult P) → List (OpenInput P) → RunProgressModel P
 window_of left items = record { left = left; under_way = items }
 
--- What is read of all inputs if one open input changes.
+-- The list that is read from all inputs if one open input changes.
 module _ {P X : Type 0} (f : ℕ × InputResult P → X) (h : OpenInput P → X) (left : List (ℕ × InputResult P))
     (items : List (OpenInput P)) (number place : ℕ) (later : OpenInput P) where
   reads_set : (x : X) → number ≡ length left + place → h later ≡ x →

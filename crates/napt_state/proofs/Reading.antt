@@ -22,7 +22,7 @@ unless_weaker OtherCounts f h = f h
 unless_weaker Accounts f h = f h
 unless_weaker AfterEnd f h = f h
 
--- What a call returns that reads the next line.
+-- The result of a call that reads the next line.
 abbrev pub Reads : Result StateLine StateReason → Option StateTextBytes → Option StateTextBytes → Type 0
 Reads read old new = (line : StateLine) (rest : StateTextBytes) → IsStateLine line →
     old ≡ Some (line_text line ++ rest) →
