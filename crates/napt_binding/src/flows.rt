@@ -181,7 +181,7 @@ impl Flows {
         }
     }
 
-    /// Creates the flows from a list of distinct ones, oldest first. Fails if memory is refused.
+    /// Creates the flows from a list, oldest first, one of each remote. Fails if memory is refused.
     pub fn from_flows(alloc: Global, flows: &[Flow]) -> Result<Flows, AllocError>
         requires { AreDistinct flows.now }
         ensures { IfOk result (λ made. made ≡ flows.now) }

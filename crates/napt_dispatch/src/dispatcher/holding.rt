@@ -60,7 +60,7 @@ impl<P: LegTrace> Dispatcher<P> {
         }
     }
 
-    /// Records an answer of worker `w`. Fails if no such answer is awaited, which cannot happen.
+    /// Records an answer of worker `w`. Fails if no such answer is awaited; no worker gives one.
     #[inline(always)]
     pub(super) fn note(&mut self, w: u32, told: TracedAnswer<P>) -> Result<(), ImpossibleAnswer>
         requires { w < length self.old.queues }

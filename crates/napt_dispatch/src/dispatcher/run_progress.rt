@@ -147,7 +147,7 @@ impl<P: LegTrace> RunProgress<P> {
         }
     }
 
-    /// Sets the progress of open input `number`. Fails if there is none, which cannot happen.
+    /// Sets the progress of open input `number`. Fails if there is none; no worker answers for it.
     #[inline(always)]
     pub(crate) fn write(
         &mut self,

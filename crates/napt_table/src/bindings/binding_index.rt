@@ -179,7 +179,7 @@ impl BindingIndex {
         Ok(())
     }
 
-    /// Stores a binding, for which there is room and whose endpoints are free.
+    /// Stores a binding. There must be room for it, and its endpoints must be free.
     pub(crate) fn insert(&mut self, binding: TableBinding)
         requires room { 0 < self.old.room }
         requires at { binding.row.external.address ≡ self.old.address }

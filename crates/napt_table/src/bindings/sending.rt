@@ -28,7 +28,7 @@ impl Bindings {
         due.reserve()
     }
 
-    /// Stores and queues a binding that is live at `from`, for which there must be room.
+    /// Stores and queues a binding live at `from` (ns). There must be room, and free endpoints.
     fn insert(&mut self, binding: TableBinding, from: u64)
         requires room { BindingsHaveRoom self.old }
         requires from { from ≤ self.old.at }
