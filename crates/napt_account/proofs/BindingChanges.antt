@@ -1,4 +1,4 @@
--- What a leg does to the bindings: nothing, a change of one that it found and went through, or a new one.
+-- The effects of a leg on the bindings: none, a change of the one through which its packet went, or a new one.
 use Rattle.std.proofs.Common.{arith, ◌≡◌, ℕ, Bool, true, false, not, cond, List, [], ◌∷◌, ◌++◌, map, filter, Option, Some, None, Result, Ok, Err, refl, sym, ◌∙◌, ap, subst, true≢false}
 use Rattle.std.{proofs.lemmas.{Grind.common_steps, Bool.{Decides.nat_tests, not-true}}, specs.{Prelude.find, List.list_any}}
 use Rattle.napt_rules.specs.Prelude.{BindingUse, Binding, Each, change_first, has_number, is_live, with_live_flows, purge, hold_ago, live_and_held, permits, inbound_rules, assignment_rules, is_of_source, binding_after_out, other_bindings, new_binding, out_made, granted_again, out_found, is_of_destination, binding_after_in, in_found, outbound_packet, inbound_packet, LegEffect, act_out, act_in, act_by, act, row, Protocol, Cause, Flags, Way, Outgoing, Kind, kind, Rules, AreTimers}

@@ -1,4 +1,4 @@
--- A log that goes on from what was kept of it.
+-- A log that continues from its open entries.
 use Rattle.std.proofs.lemmas.{Grind.common_steps, Bool.{Decides.nat_tests}}
 use Rattle.std.proofs.Common.{◌≡◌, ℕ, ◌+◌, ◌≤◌, max, Bool, false, true, not, ◌&&◌, cond, List, [], ◌∷◌, ◌++◌, length, map, drop, filter, refl, sym, ◌∙◌, ap, subst, arith, append_assoc, append-nil}
 use Rattle.std.specs.{List.fold}

@@ -14,7 +14,7 @@ use Rattle.napt_account.proofs.OpenEntries.{due_of, external_is, external_itself
 
 -- A LIST THAT IS SORTED
 
--- Whether two entries have one endpoint.
+-- Returns whether two entries have one endpoint.
 abbrev share : LogEntry → LogEntry → Bool
 share l m = external_eq (entry_key l.entry.binding) (entry_key m.entry.binding)
 

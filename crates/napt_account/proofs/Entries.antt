@@ -260,7 +260,7 @@ module _ (ends : EndsAreFirst) (rules : Rules) (t : AreTimers rules.timers) (add
         differ = differ_act rules address leg list tells.differ;
       }
 
-  -- What was named before the leg's time does not change.
+  -- The bindings named before the leg's time do not change.
   pub past_act : (past : ℕ) → past < leg.now → (entries : List Entry) →
       named past (logged_by rules.timers leg (act rules address leg list).through entries) ≡ named past entries
   past_act past lt entries =

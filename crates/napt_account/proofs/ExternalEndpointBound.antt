@@ -1,4 +1,4 @@
--- There are few external endpoints, and so few rows of which no two have one.
+-- There are few external endpoints, and therefore few rows of which no two share one.
 use Rattle.std.proofs.lemmas.{Bool.{eqb-true, true≢false}, List.length-map, Map.Steps.length-le_from_distinct_below}
 use Rattle.std.proofs.Common.{◌≡◌, ℕ, ◌+◌, ◌*◌, ◌^◌, ◌<◌, ◌≤◌, ◌||◌, true, false, List, [], ◌∷◌, length, map, refl, sym, ◌∙◌, subst, arith, eqb}
 use Rattle.std.specs.List.{AllByRecursion, IsDistinct, list_any}

@@ -1,4 +1,4 @@
--- A number goes to another inside endpoint only after the hold of its last binding, in terms of the log.
+-- A number is assigned to another inside endpoint only after the hold of its last binding, in terms of the log.
 use Rattle.std.proofs.lemmas.Grind.{common_steps}
 use Rattle.std.proofs.Common.{◌≡◌, ℕ, ◌≤◌, Bool, true, false, not, ◌&&◌, cond, List, [], ◌∷◌, ◌++◌, map, filter, find, Option, Some, None, Ok, inl, inr, refl, sym, ◌∙◌, ap, subst, arith, append_assoc, true≢false}
 use Rattle.std.{specs.List.{fold, Sorted.IsPermutation}, proofs.lemmas.{Bool.{and_parts, and_from}, Option.same_Some}}

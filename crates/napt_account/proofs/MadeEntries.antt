@@ -1,4 +1,4 @@
--- What an input made, as it is in the log after it.
+-- The entries that an input made, as they are in the log after it.
 use Rattle.std.proofs.lemmas.{Bool.{Decides.nat_tests, and_parts, and_from}}
 use Rattle.std.proofs.Common.{◌≡◌, ℕ, ◌+◌, ◌≤◌, Bool, true, false, ◌&&◌, cond, List, [], ◌∷◌, ◌++◌, map, filter, find, Option, Some, None, refl, sym, ◌∙◌, ap, arith, append-nil}
 use Rattle.std.{specs.{Prelude.option_to_list, List.list_any, Option.option_map}}
@@ -92,7 +92,7 @@ module _ (now made : ℕ) where
 
   -- A SECOND LEG AFTER IT
 
-  -- What the first leg made is open before the second.
+  -- The entry that the first leg made is open before the second leg.
   abbrev IsThere : Passage → LogModel → Type 0
   IsThere (Made timed) x = (n : LogEntry) × (open_of now timed.row x ≡ Some n)
   IsThere _ x = Unit {0}

@@ -1,4 +1,4 @@
--- What a run leaves of its log is what the next run begins with.
+-- The open log at the end of a run is that with which the next run starts.
 use Rattle.std.proofs.lemmas.{Bool.{and_from, and_parts, true≢false}, Option.{same_Some, slice_get-get_or, slice_get_within}}
 use Rattle.std.proofs.Common.{◌≡◌, ◌≢◌, ℕ, suc, ◌+◌, ◌≤◌, inl, inr, Bool, true, false, not, cond, find, List, [], ◌∷◌, ◌++◌, length, get_or, map, filter, flat_map, Option, Some, None, refl, sym, ◌∙◌, ap, subst, arith, append-nil}
 use Rattle.std.specs.{List.{slice_get, Sorted.IsPermutation}, Option.option_map}
@@ -198,7 +198,7 @@ module _ (rules : Rules) (keeps : RulesInvariant rules) (saved : State) (left : 
         | Some other ↦ inr (has_kept list b a there e)
       ]
 
-  -- What an account contributes to the entries that go on.
+  -- The entry of an account is one of the entries that continue.
   record IsAgain (k : Kept) : Type 0 where
     pub n : LogEntry
     pub has : Has left.entries n

@@ -1,4 +1,4 @@
--- The parts that the inputs of a run add, with the entries that are left, are its log.
+-- The parts that the inputs of a run add, with the entries that are open at the end, make up its log.
 use Rattle.std.proofs.lemmas.{Grind.common_steps, Bool.{Decides.nat_tests, and_parts}}
 use Rattle.std.proofs.Common.{◌≡◌, ℕ, ◌+◌, ◌≤◌, max, Bool, true, false, not, ◌&&◌, cond, List, [], ◌∷◌, ◌++◌, length, map, drop, filter, Option, refl, sym, ◌∙◌, ap, subst, arith, append-nil, append_assoc}
 use Rattle.std.specs.List.{fold, Sorted.IsPermutation}
@@ -290,7 +290,7 @@ module _ (rules : Rules) (keeps : RulesInvariant rules) (state : State) (log : L
         (subst (Tells ((before ++ input ∷ []) ++ inputs)) (append_assoc told ended rest)
         (tells_all (before ++ input ∷ []) inputs (told ++ ended) (tells_next before input told tells)))
 
-    -- What each input adds, joined in order, is what the log of all inputs has.
+    -- The lists from the parts of the inputs, joined in order, are the list from the log of all inputs.
     joins_all : {X : Type 0} (of_log : LogModel → List X) (of_part : LogDelta → List X) →
         ((before : List Arrival) (input : Arrival) →
         of_log (at (before ++ input ∷ [])) ≡ of_log (at before) ++ of_part (part before input)) →

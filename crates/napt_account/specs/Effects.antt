@@ -1,4 +1,4 @@
--- The log by what the legs of each input did, as the recorder of a translator returns it, without the inputs.
+-- The log by the effects of the inputs, as the translators record them, without the inputs themselves.
 use Rattle.std.specs.{Prelude.{◌≡◌, ◌≤◌, ℕ, true, false, List, [], ◌∷◌, ◌++◌}, List.{fold, list_any}}
 use Rattle.napt_rules.specs.Prelude.{Arrival, Rules, RulesInvariant, State, TakesState, last_clock, with_redirects}
 use Rattle.napt_binding.specs.Ends.{is_before}
@@ -8,7 +8,7 @@ use Rattle.napt_account.specs.{Log.{LogModel, after_input, after_leg, entry_is_o
 abbrev pub log_after : LogModel → List Trace → LogModel
 log_after log effects = fold after_input log effects
 
--- Whether a leg can have an effect at a time, after this log: the end of its binding is in the future, and the external
+-- A leg can have this effect at a time, in ns, after this log: the end of its binding is later, and the external
 -- endpoint of a binding that it makes has no open entry.
 abbrev pub CanCome : ℕ → LogModel → Passage → Type 0
 CanCome now log (Made timed) = (is_before now timed.end ≡ true)
@@ -17,7 +17,7 @@ CanCome now log (Out timed) = is_before now timed.end ≡ true
 CanCome now log (In timed) = is_before now timed.end ≡ true
 CanCome now log _ = Unit {0}
 
--- Whether the legs of the next input can have these effects.
+-- The legs of the next input can have these effects.
 pub record IsNext (was : ℕ) (log : LogModel) (effects : Trace) : Type 0 where
   pub later : was ≤ effects.now
   pub first : CanCome effects.now log effects.first

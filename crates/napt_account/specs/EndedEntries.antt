@@ -3,7 +3,7 @@ use Rattle.std.specs.{Prelude.{◌≡◌, ℕ, max, false, List, ◌∷◌, ◌+
 use Rattle.napt_rules.specs.Prelude.{Arrival, last_clock, Rules, State}
 use Rattle.napt_account.specs.{declared.log.LogEntry.LogEntry, Log.{LogModel, log_on}, LogParts.is_open}
 
--- An entry whose end is not after the time of the next input is at its index in the log of each longer run.
+-- An entry whose end is not after the time of the next input is unchanged, at its index, in the log of each longer run.
 abbrev pub EndedEntriesStay : Type 0
 EndedEntriesStay = (rules : Rules) (state : State) (log : LogModel) (front : List Arrival) (next : Arrival)
     (rest : List Arrival) (place : ℕ) (numbered : LogEntry) →

@@ -1,8 +1,8 @@
--- The log of a run: an entry for each binding that was ever made, redirects too, in the order in which they were made,
--- and the packets that got none. It is one fold over what the legs of the run did.
+-- The log of a run has an entry for each binding that was ever made, including redirects, in the order in which they
+-- were made, and the packets that got none. It is one fold over the acts of the run's legs.
 --
--- RFC 6888, section 4: it can be found out afterwards who had which external endpoint at a time. RFC 8158: that a host
--- has its quota, and that a pool has no port left, are events of their own.
+-- The log allows an operator to find who had an external endpoint at a time (RFC 6888, section 4). A host that exceeds
+-- its quota, and a pool without a free port, are events of their own (RFC 8158).
 use Rattle.std.specs.{Prelude.{ℕ, ◌+◌, nat_le, Bool, true, false, ◌&&◌, cond, length, List, [], ◌∷◌, ◌++◌, map, Option}, List.fold}
 use Rattle.napt_rules.specs.Prelude.{Way, Outgoing, Incoming, Cause, OverQuota, NoPort, Rules, Timers}
 use Rattle.napt_rules.specs.{Prelude.{Binding, same_protocol, same_endpoint, Arrival, row, LegAct, State, initial_state, effect_from, purge}, declared.Row.Row}
@@ -14,7 +14,7 @@ use Rattle.napt_account.specs.declared.log.{Entry.Entry, LogEntry.LogEntry, Shor
 
 -- AN ENTRY
 
--- The entry of a binding that is made at a time and has this end, before a packet goes through it.
+-- Returns the entry of a binding that is made at a time and has this end, both in ns, before a packet goes through it.
 abbrev pub unused_entry : Row → ℕ → Option ℕ → Entry
 unused_entry binding made end = record {
   binding = binding;
@@ -29,50 +29,50 @@ unused_entry binding made end = record {
 abbrev pub first_entry : Timers → ℕ → Binding → Entry
 first_entry timers made binding = unused_entry (row binding) made (end_of timers binding)
 
--- The entry after a packet went out, or came in, through its binding, which has this end then.
+-- Returns the entry after a packet went through its binding at a time, in ns, after which the binding has this end.
 abbrev pub counted : Way → ℕ → Option ℕ → Entry → Entry
 counted Outgoing now end entry = record entry { end = end; sent = entry.sent + 1; last = now; last_sent = now }
 counted Incoming now end entry = record entry { end = end; received = entry.received + 1; last = now }
 
--- The entry of a binding that a packet makes and goes out through.
+-- Returns the entry of a binding that a packet made, and went out through, at a time, in ns.
 abbrev pub made_by : ℕ → TimedRow → Entry
 made_by now timed = counted Outgoing now timed.end (unused_entry timed.row now timed.end)
 
--- Whether a row has the protocol and the external endpoint of another.
+-- Returns whether a row has the protocol and the external endpoint of another.
 abbrev pub shares : Row → Row → Bool
 shares wanted other = same_protocol wanted.protocol other.protocol && same_endpoint wanted.external other.external
 
--- Whether an entry has not ended by a time and has the external endpoint of a row.
+-- Returns whether an entry has not ended by a time and has the external endpoint of a row.
 abbrev pub entry_is_of : ℕ → Row → Entry → Bool
 entry_is_of now wanted entry = is_before now entry.end && shares wanted entry.binding
 
--- The entry after a change of the open entry of a row.
+-- Returns the entry, changed if it is the open entry of a row at a time, in ns.
 abbrev pub entry_through : ℕ → Row → (Entry → Entry) → Entry → Entry
 entry_through now wanted change entry = cond (entry_is_of now wanted entry) (change entry) entry
 
 -- A LOG
 
 pub record LogModel : Type 0 where
-  -- The number of entries that were made so far.
+  -- The number of all entries that were made so far.
   pub made : ℕ
-  -- Entries with their numbers, in the order of making: all of a whole run; in a run from a state also those that had
-  -- not ended there.
+  -- The entries with their numbers, in the order of making: all entries of the run and, if it starts from a state, the
+  -- entries that had not ended there.
   pub entries : List LogEntry
   -- The packets that got no binding, in their order.
   pub shortages : List Shortage
 
--- Its entries, without their numbers.
+-- Returns the entries of a log without their numbers.
 abbrev pub unnumbered : LogModel → List Entry
 unnumbered log = map (λ numbered. numbered.entry) log.entries
 
--- The log with one more entry, which gets the next number.
+-- Returns the log with one more entry, which gets the next number.
 abbrev pub with_entry : Entry → LogModel → LogModel
 with_entry entry log = record log {
   made = log.made + 1;
   entries = log.entries ++ record { number = log.made + 1; entry = entry } ∷ [];
 }
 
--- The log after a packet went through a binding.
+-- Returns the entry after a packet went through a binding at a time, in ns.
 abbrev pub use_entry : Way → ℕ → TimedRow → LogEntry → LogEntry
 use_entry way now timed numbered =
     record numbered { entry = entry_through now timed.row (counted way now timed.end) numbered.entry }
@@ -85,12 +85,12 @@ is_shortage OverQuota = true
 is_shortage NoPort = true
 is_shortage _ = false
 
--- The shortage of a dropped packet, if no binding could be made for it.
+-- Returns the shortage of a dropped packet, if no binding could be made for it.
 abbrev pub shortages_of : ℕ → DroppedPacket → List Shortage
 shortages_of now loss = cond (is_shortage loss.cause)
     (record { at = now; cause = loss.cause; protocol = loss.protocol; host = loss.host } ∷ []) []
 
--- The shortages of a leg, and those of both legs of an input.
+-- Returns the shortages of a leg, and then those of both legs of an input.
 abbrev pub shortages_by : ℕ → Passage → List Shortage
 shortages_by now (Dropped loss) = shortages_of now loss
 shortages_by now _ = []
@@ -113,27 +113,27 @@ after_input log effects = after_leg effects.now effects.second (after_leg effect
 abbrev pub after_record : Timers → LogModel → LegAct → LogModel
 after_record timers log a = after_leg a.leg.now (passage_of timers a) log
 
--- The log of a run from a state that has this log.
+-- Returns the log of a run from a state that has this log.
 unfoldable pub log_on : Rules → State → LogModel → List Arrival → LogModel
 log_on rules state log inputs = fold (after_record rules.timers) log (effect_from rules state inputs).acts
 
--- WHERE IT BEGINS
+-- THE BEGINNING
 
--- Entries with consecutive numbers from the given one.
+-- Returns the entries with consecutive numbers from the given one.
 abbrev pub numbered_from : ℕ → List Entry → List LogEntry
 numbered_from number [] = []
 numbered_from number (entry ∷ entries) = record { number = number; entry = entry } ∷ numbered_from (number + 1) entries
 
--- A log that has `before` earlier entries and begins with one for each live binding of a state, made at its clock.
+-- Returns a log that has `before` earlier entries, and one for each live binding of a state, made at its clock.
 abbrev pub begun_after : ℕ → Rules → State → LogModel
 begun_after before rules state =
     let entries : List Entry = map (first_entry rules.timers state.clock) (purge rules.timers state.clock state.list) in
     record { made = before + length entries; entries = numbered_from (before + 1) entries; shortages = [] }
 
--- The log of a new run, which begins with the redirects.
+-- Returns the log of a new run, which begins with the redirects.
 abbrev pub log_of : Rules → List Arrival → LogModel
 log_of rules inputs = log_on rules (initial_state rules) (begun_after 0 rules (initial_state rules)) inputs
 
--- Whether the binding of an entry was made by a time and has not ended by then.
+-- Returns whether the binding of an entry was made by a time and has not ended by then.
 abbrev pub stands_at : ℕ → Entry → Bool
 stands_at now entry = nat_le entry.made now && is_before now entry.end

@@ -1,4 +1,4 @@
--- A run with its log, by the inputs that it took.
+-- A run with its log, as a function of its inputs.
 use Rattle.std.specs.Prelude.{◌≡◌, ℕ, ◌^◌, ◌≤◌, Bool, false, List, [], ◌∷◌, ◌++◌, length}
 use Rattle.napt_rules.specs.Prelude.{Arrival, Rules, RulesInvariant, State, effect_from, last_clock, with_redirects}
 use Rattle.napt_sequential.specs.{SequentialRuns.SequentialRunInvariant, Traces.traces_of, declared.{fault.RunFault.RunFault, passage.Trace.Trace, sequential_run.SequentialRun.SequentialRun}}
@@ -7,14 +7,14 @@ use Rattle.napt_account.specs.{declared.logged_run.LogStep.LogStep, BindingTalli
 
 pub record LoggedRunModel : Type 0 where
   pub rules : Rules
-  -- The state from which the run goes on, as its configuration takes it up, and the log there.
+  -- The state from which the run starts, with the redirects of its configuration, and the log there.
   pub state : State
   pub log : LogModel
   pub inputs : List Arrival
-  -- Whether a step failed.
+  -- True if a step failed.
   pub is_stopped : Bool
 
--- The only value in a ghost log, or a default if it has none.
+-- Returns the only value in a ghost log, or a default if it has none.
 abbrev pub only_in : {X : Type 0} → X → List (ℕ × X) → X
 only_in none [] = none
 only_in none (kept ∷ more) = kept.1
@@ -25,13 +25,13 @@ state_begun rules kept = with_redirects rules (only_in empty_state kept)
 abbrev pub log_begun : Rules → List (ℕ × State) → List (ℕ × SavedLogStateModel) → LogModel
 log_begun rules kept saved = log_started rules (only_in empty_state kept) (only_in no_saved_log saved)
 
--- A step fails if too many inputs came, or if memory ran out.
+-- A step fails because there were too many inputs, or because memory is refused.
 abbrev pub IsStepFault : List Arrival → RunFault → Type 0
 IsStepFault inputs reasons.TooMany = 2 ^ 32 ≤ length inputs
 IsStepFault inputs reasons.Memory = Unit {0}
 IsStepFault inputs (reasons.Pool fault) = ⊥
 
--- The run took these inputs from a state, and its log what their legs did.
+-- The run had these inputs from a state, and its log has the effects of their legs.
 pub record IsLoggedRun (state : State) (log : LogModel) (inputs : List Arrival) (it : SequentialRun)
     (builder : LogBuilderModel) : Type 0 where
   pub keeps : RulesInvariant builder.rules
@@ -42,8 +42,8 @@ pub record IsLoggedRun (state : State) (log : LogModel) (inputs : List Arrival) 
   pub taken : builder.taken ≡ length inputs
   pub goes_on : builder.is_stopped ≡ false
 
--- What a step returns of an input after those that the run took: the last outcome of the run over all of them, what its
--- packet did to the bindings, and the part of the log.
+-- The result of a step on one more input of the run: the last outcome of the run over all inputs, the bindings that the
+-- packet used, and the part of the log.
 pub record LoggedStepPost (run : LoggedRunModel) (input : Arrival) (step : LogStep) : Type 0 where
   pub outcome : (effect_from run.rules run.state (run.inputs ++ input ∷ [])).outcomes
       ≡ (effect_from run.rules run.state run.inputs).outcomes ++ step.outcome ∷ []

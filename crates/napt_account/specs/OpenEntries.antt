@@ -1,5 +1,5 @@
--- The entries that have not ended, as they are kept while a run goes on: found by their endpoints, and queued by the
--- times at which they are looked at.
+-- The entries that have not ended, as they are stored during a run: found by their endpoints, and queued by the times
+-- at which they are checked.
 use Rattle.std.specs.Prelude.{◌≡◌, ◌⊎◌, ℕ, ◌^◌, ◌<◌, ◌≤◌, ◌==◌, nat_le, Bool, true, false, ◌&&◌, cond, List, [], ◌∷◌, length, map, filter, Option, Some, None, unwrap_or}
 use Rattle.std.specs.{List.IsDistinct, Option.{option_and_then, option_map}, Ordering.{ordering_then, nat_cmp, bool_cmp}, declared.cmp.Ordering.Ordering}
 use Rattle.std.specs.BTreeSet as sorted
@@ -16,7 +16,7 @@ use Rattle.napt_account.specs.{declared.open_entries.OpenEntries.OpenEntries, Lo
 abbrev pub entry_key : Row → EntryKey
 entry_key row = record { address = row.external.address; number = row.external.number; protocol = row.protocol }
 
--- Its external endpoint is one of IPv4.
+-- The address of the row's external endpoint has 32 bits, and its number 16.
 abbrev pub IsNumberedRow : Row → Type 0
 IsNumberedRow row = (row.external.address < 2 ^ 32) × (row.external.number < 2 ^ 16)
 
@@ -27,7 +27,7 @@ end_key_of (Some end) number = record { is_endless = false; end = end; number = 
 abbrev pub end_key : LogEntry → EndKey
 end_key numbered = end_key_of numbered.entry.end numbered.number
 
--- The comparison of the keys of a map.
+-- Returns whether two keys of a map are equal.
 abbrev pub external_eq : EntryKey → EntryKey → Bool
 external_eq a b = (a.address == b.address) && ((a.number == b.number) && sameb the_type a.protocol b.protocol)
 
@@ -42,12 +42,12 @@ external_cmp a b = ordering_then (nat_cmp a.address b.address)
 abbrev pub due_cmp : DueEntry → DueEntry → Ordering
 due_cmp a b = ordering_then (nat_cmp a.at b.at) (external_cmp a.key b.key)
 
--- WHAT IS KEPT
+-- THE STORED ENTRIES
 
 abbrev pub open_at : OpenEntries → EntryKey → Option OpenEntry
 open_at all x = hash.get external_eq all.by_external x
 
--- The entry of an endpoint, and when it is looked at next.
+-- Returns the entry of an endpoint, if there is one.
 abbrev pub entry_at : OpenEntries → EntryKey → Option LogEntry
 entry_at all x = option_map (λ (o : OpenEntry). o.numbered) (open_at all x)
 
@@ -61,31 +61,31 @@ abbrev pub entry_is_at : Option ℕ → ℕ → Bool
 entry_is_at None time = false
 entry_is_at (Some at) time = at == time
 
--- All entries, in no particular order.
+-- Returns all entries, in no particular order.
 abbrev pub kept : OpenEntries → List LogEntry
 kept all = map (λ (o : OpenEntry). o.numbered) (hash.values all.by_external)
 
--- The number of entries that are to be checked by a time.
+-- Returns the number of entries that are to be checked by a time, in ns.
 abbrev pub due_within : ℕ → OpenEntries → ℕ
 due_within now all = length (filter (λ (due : DueEntry). nat_le due.at now) all.queue.keys)
 
--- The entry is under its endpoint, and checked no later than at its end.
+-- The entry is stored at its own endpoint, and is checked no later than at its end.
 abbrev pub IsPlaced : EntryKey → OpenEntry → Type 0
 IsPlaced x o = (x ≡ entry_key o.numbered.entry.binding)
     × ((time : ℕ) → time < unwrap_or o.due (2 ^ 64) → is_open time o.numbered ≡ true)
 
--- Each entry is at its endpoint, and the queue has the time of each that has one, and nothing else.
+-- Each entry is stored at its own endpoint, and the queue has exactly the times of the entries that have one.
 pub record IsIndexed (all : OpenEntries) : Type 0 where
   pub placed : (x : EntryKey) (o : OpenEntry) → open_at all x ≡ Some o → IsPlaced x o
   pub queued : (due : DueEntry) → is_queued all due ≡ entry_is_at (due_at all due.key) due.at
 
--- The same except for one endpoint, which the queue has at another time.
+-- The same holds except for one endpoint, which the queue has at another time, in ns.
 pub record IsIndexedBut (key : EntryKey) (at : Option ℕ) (all : OpenEntries) : Type 0 where
   pub placed : (x : EntryKey) (o : OpenEntry) → open_at all x ≡ Some o → IsPlaced x o
   pub queued : (due : DueEntry) → is_queued all due
       ≡ entry_is_at (cond (external_eq key due.key) at (due_at all due.key)) due.at
 
--- It is in the list.
+-- The element is in the list.
 abbrev pub Has : {X : Type 0} → List X → X → Type 0
 Has [] x = ⊥
 Has (y ∷ ys) x = (y ≡ x) ⊎ Has ys x

@@ -17,7 +17,7 @@ binding_key row = record {
   external_number = row.external.number;
 }
 
--- As the keys of a set are compared.
+-- Returns whether two keys of a set are equal.
 abbrev pub binding_key_eq : BindingKey → BindingKey → Bool
 binding_key_eq a b = sameb the_type a.protocol b.protocol
     && ((a.inside == b.inside) && ((a.inside_number == b.inside_number)

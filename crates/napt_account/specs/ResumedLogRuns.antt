@@ -1,11 +1,11 @@
--- A log that goes on from a state.
+-- A log that continues from a state.
 use Rattle.std.specs.{Prelude.{◌≡◌, ℕ, ◌≤◌, max, List, [], ◌∷◌, ◌++◌, map}, List.Sorted.IsPermutation}
 use Rattle.napt_config.specs.Rules.{Rules, RulesInvariant}
 use Rattle.napt_rules.specs.Prelude.{Arrival, Each, last_clock, State, next_state, purge, with_redirects, TakesState, IsStateInOrder}
 use Rattle.napt_table.specs.{declared.TimedRow.TimedRow, TimedRows.timed_row}
 use Rattle.napt_account.specs.{declared.log.LogEntry.LogEntry, Log.{LogModel, log_on}, LogParts.{LogDelta, IsNumbered, kept_at, part_between}}
 
--- What an input adds after others, and what is kept after them.
+-- Returns the part that an input adds to the log after the given other inputs.
 abbrev pub part_of : Rules → State → LogModel → List Arrival → Arrival → LogDelta
 part_of rules state log before input =
     let was : ℕ = last_clock state.clock before in
@@ -15,7 +15,7 @@ part_of rules state log before input =
 abbrev pub left_of : Rules → State → LogModel → List Arrival → LogModel
 left_of rules state log inputs = kept_at (last_clock state.clock inputs) (log_on rules state log inputs)
 
--- LAWS: a run that goes on with what was kept of its log adds what the run over all inputs adds, and leaves the same
+-- LAWS: a run that continues the open log adds what the run over all inputs adds, and ends with the same open log
 pub record LogGoesOn (rules : Rules) (state later : State) (log : LogModel) (first rest : List Arrival) : Type 0 where
   pub told : (input : Arrival) → part_of rules state log (first ++ rest) input
       ≡ part_of rules later (left_of rules state log first) rest input
@@ -25,7 +25,7 @@ abbrev pub LogsGoOn : Type 0
 LogsGoOn = (rules : Rules) (state : State) (log : LogModel) → IsNumbered log → (first rest : List Arrival) →
     LogGoesOn rules state (next_state rules state first) log first rest
 
--- The same from the state as it was saved and taken up.
+-- The same holds from the state after it was saved and read.
 abbrev pub SavedLogsGoOn : Type 0
 SavedLogsGoOn = (rules : Rules) → RulesInvariant rules → (state saved : State) → TakesState rules state →
     (log : LogModel) →
@@ -38,7 +38,7 @@ SavedLogsGoOn = (rules : Rules) → RulesInvariant rules → (state saved : Stat
 abbrev pub timed_by : LogEntry → TimedRow
 timed_by numbered = record { row = numbered.entry.binding; end = numbered.entry.end }
 
--- Whether a log is that of a state: its entries are those of the live bindings, each with its row and its end.
+-- The log is that of the state: its entries are those of the live bindings, each with its row and its end.
 pub record IsLogOf (rules : Rules) (state : State) (log : LogModel) : Type 0 where
   pub kept : kept_at state.clock log ≡ log
   pub numbered : IsNumbered log
@@ -46,7 +46,7 @@ pub record IsLogOf (rules : Rules) (state : State) (log : LogModel) : Type 0 whe
   pub rows : IsPermutation (map timed_by log.entries)
       (map (timed_row rules.timers) (purge rules.timers state.clock state.list))
 
--- LAW: what a run leaves of its log is the log of the state that it leaves, as saved and taken up
+-- LAW: the open log at the end of a run is the log of the state at the end, also after this was saved and read
 abbrev pub LogsAreOfTheirStates : Type 0
 LogsAreOfTheirStates = (rules : Rules) → RulesInvariant rules → (state : State) → TakesState rules state →
     (log : LogModel) →

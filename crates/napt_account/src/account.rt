@@ -1,4 +1,4 @@
-//! What a state keeps of a log: an account for each binding that has an entry.
+//! The part of a log that a state contains: an account for each binding that has an entry.
 
 ghost use Rattle.std.specs.Prelude.{◌≡◌, ◌∷◌, [], Some, None, cond, nat_lt, IfOk, true};
 ghost use Rattle.napt_account.specs.LogStarts as starts;
@@ -13,32 +13,32 @@ use std::alloc::{AllocError, Global};
 use std::collections::HashSet;
 use std::marker::Model;
 
-/// The greatest number of entries, and of packets of one entry, that a state may keep.
+/// The largest number of entries, and of packets of one entry, that a state may have: 2^61.
 const MOST_SAVED: u64 = 2_305_843_009_213_693_952;
 
-/// The account of a binding: what its entry of the log says in addition to its row and its end. Times are in ns.
+/// The account of a binding: its log entry without the row and the end. Times are in ns.
 #[derive(Clone, Copy, Debug, PartialEq, Eq)]
 pub struct Account {
     /// The number of the entry, from 1.
     pub number: u64,
-    /// When the binding was made; 0 for a redirect of the first configuration.
+    /// The time when the binding was made; 0 for a redirect of the first configuration.
     pub made: u64,
     /// The number of packets that went out through it.
     pub sent: u64,
     /// The number of packets that came in through it.
     pub received: u64,
-    /// When a packet last went through it, either way.
+    /// The time when a packet last went through it, in either direction.
     pub last: u64,
-    /// When a packet last went out through it.
+    /// The time when a packet last went out through it.
     pub last_sent: u64,
 }
 
-/// What a state keeps of a log, in addition to its bindings.
+/// The part of a log that a state contains in addition to its bindings.
 #[derive(Drop)]
 pub struct SavedLogState {
     /// The number of entries that the log has so far.
     pub made: u64,
-    /// The accounts of the state's bindings, in their order; a binding without an open entry has none.
+    /// The account of each binding of the state, in order, or `None` if it has no open entry.
     pub accounts: Vec<Option<Account>>,
 }
 
@@ -83,7 +83,7 @@ impl Account {
         }
     }
 
-    /// Returns whether its number is from 1 to `made`, it was made by a time, in ns, and its counts may be saved.
+    /// Returns whether its number is in 1..=`made`, it was made by `clock` (ns), and may be saved.
     fn is_within(self, made: u64, clock: u64) -> bool
         ensures { result ≡ starts.is_account made clock self }
     {
@@ -93,7 +93,7 @@ impl Account {
 }
 
 impl SavedLogState {
-    /// Returns what the state of a run without a log keeps.
+    /// Returns the value for the state of a run without a log: no entries and no accounts.
     pub fn none(alloc: Global) -> SavedLogState
         ensures { result ≡ starts.no_saved_log }
     {
@@ -103,7 +103,7 @@ impl SavedLogState {
         }
     }
 
-    /// Returns whether no binding of a state has an account, although one other than a redirect is live.
+    /// Returns whether no binding of a state has an account, but one other than a redirect is live.
     pub fn lacks_all(&self, config: &Config, state: &State) -> bool {
         let (timers, now) = (config.timers(), u128::from(state.clock));
         let mut lives = false;
@@ -123,9 +123,9 @@ impl SavedLogState {
         }
     }
 
-    /// Returns whether a run with a log can begin with it at a state: it has at most 2^61 entries and packets, each
-    /// number is among those of the log, each binding was made by the clock, and no two accounts have the same number
-    /// or external endpoint. This holds of what a run leaves. Takes linear time. Fails only if memory is refused.
+    /// Returns whether a run with a log can start with it: the entries and the packets of each are
+    /// at most 2^61, each number is one of the log's, each binding was made by the clock, and no
+    /// two share a number or an external endpoint. Takes linear time. Fails if memory is refused.
     pub fn is_valid(&self, alloc: Global, state: &State) -> Result<bool, AllocError>
         ensures { IfOk result (λ is. is ≡ starts.is_saved_log_state state.now self.now) }
     {

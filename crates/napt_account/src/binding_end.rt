@@ -1,4 +1,4 @@
-//! When the binding of a state ends under a configuration, as its entry of the log has it.
+//! Computes when the log entry of a state's binding ends under a configuration.
 
 ghost use Rattle.std.specs.Prelude.{◌≡◌, IfOk};
 ghost use Rattle.napt_binding.specs.Ends as ends;
@@ -71,7 +71,7 @@ impl Redirects {
     }
 }
 
-/// Returns the entry of a binding of a state with an account.
+/// Returns the entry of a state's binding from its account.
 pub(crate) fn resumed_entry(
     redirects: &Redirects,
     timers: Timers,
@@ -85,8 +85,8 @@ pub(crate) fn resumed_entry(
     account.to_entry(binding.row, end)
 }
 
-/// Returns when the entry of a binding of a state ends, in ns, under the timers and redirects of a configuration;
-/// `None` if it never does. A redirect that the configuration does not have ends at the clock.
+/// Returns the end (ns) of the entry of a state's binding under a configuration, or `None` if it
+/// never ends. A redirect that the configuration does not have ends at the clock.
 fn resumed_end(
     redirects: &Redirects,
     timers: Timers,
@@ -105,7 +105,7 @@ fn resumed_end(
     }
 }
 
-/// Returns when a binding that is not a redirect ends, in ns.
+/// Returns the end of a binding that is not a redirect, in ns.
 pub(crate) fn dynamic_end(timers: Timers, binding: &StateBinding) -> u128
     ensures { result ≡ ends.end_by_protocol binding.now.row.protocol timers binding.now }
 {
@@ -116,7 +116,7 @@ pub(crate) fn dynamic_end(timers: Timers, binding: &StateBinding) -> u128
     }
 }
 
-/// Returns when the last of these TCP flows ends, in ns, or 0 if there is none.
+/// Returns the end of the last of these TCP flows, in ns, or 0 if there is none.
 fn last_end(timers: Timers, flows: &[Flow]) -> u128
     ensures { result ≡ ends.last_end timers flows.now }
 {

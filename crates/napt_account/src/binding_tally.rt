@@ -1,4 +1,4 @@
-//! What an input did to the bindings that it used.
+//! The bindings that an input used.
 
 ghost use Rattle.std.specs.Prelude.{◌≡◌};
 ghost use Rattle.napt_account.specs.BindingTallies as uses;
@@ -6,10 +6,10 @@ ghost use Rattle.napt_account.specs.BindingTallies as uses;
 use crate::log::Entry;
 use napt_wire::Way;
 
-/// What a packet did to the binding that it used first.
+/// The relation of a packet to the first binding that it used.
 #[derive(Clone, Copy, Debug, PartialEq, Eq)]
 pub enum LogNote {
-    /// The packet used no binding: it was dropped before, is an ICMP error, or found none.
+    /// The packet used no binding: it was dropped earlier, is an ICMP error, or found none.
     Nothing,
     /// The packet made the binding.
     Made,
@@ -19,25 +19,25 @@ pub enum LogNote {
     Redirect,
 }
 
-/// What a packet did to the bindings, and the numbers of their entries in the log.
+/// The bindings that a packet used, by the numbers of their entries in the log.
 #[derive(Clone, Copy, Debug, PartialEq, Eq)]
 pub struct BindingTally {
-    /// What the packet did to the binding that it used first.
+    /// The relation of the packet to the first binding that it used.
     pub note: LogNote,
-    /// The number of the entry of the binding that it went out through.
+    /// The number of the entry of the binding through which it went out, if any.
     pub outbound: Option<u64>,
-    /// The number of the entry of the binding that it came in through; a hairpin has both numbers.
+    /// The number of the entry of the binding through which it came in. A hairpin has both numbers.
     pub inbound: Option<u64>,
 }
 
-/// No binding was used.
+/// The tally of an input that used no binding.
 pub(crate) const NO_USE: BindingTally = BindingTally {
     note: LogNote::Nothing,
     outbound: None,
     inbound: None,
 };
 
-/// Returns what a packet did to a binding that existed before it.
+/// Returns the note for a packet whose binding existed before it.
 pub(crate) fn found(entry: &Entry) -> LogNote
     ensures { result ≡ uses.noted entry.now }
 {
@@ -49,7 +49,7 @@ pub(crate) fn found(entry: &Entry) -> LogNote
 }
 
 impl BindingTally {
-    /// Returns what a packet did that went one way through the binding of an entry.
+    /// Returns the tally of a packet that went through the binding with this entry number.
     #[inline(always)]
     pub(crate) fn through(way: Way, note: LogNote, number: u64) -> BindingTally
         ensures { result ≡ uses.tally_used way note number }
@@ -69,7 +69,7 @@ impl BindingTally {
     }
 }
 
-/// Returns what both legs of an input did.
+/// Returns the tally of an input from those of its two legs.
 pub(crate) fn both_uses(first: BindingTally, second: BindingTally) -> BindingTally
     ensures { result ≡ uses.both_uses first second }
 {

@@ -1,4 +1,4 @@
-//! Records in the log what the legs of an input did.
+//! Records the legs of an input in the log.
 
 ghost use Rattle.std.specs.Prelude.{◌≡◌, ◌+◌, ◌<◌, ◌^◌, ◌++◌, ℕ, [], ◌∷◌, List, true, false, filter, length, drop, OnOk, IfOk, IfSome, Ok, None};
 ghost use Rattle.napt_account.specs.{BindingTallies.use_of, Effects.CanCome, Log.{LogModel, after_input, after_leg, shortages_by, shortages_in}, MadeEntries.made_entry, OpenEntries.OpenEntriesShow, LogParts.is_after};
@@ -9,7 +9,7 @@ use crate::open_entries::OpenEntries;
 use napt_sequential::{Passage, Trace};
 use std::alloc::{AllocError, Global};
 
-/// What the legs of an input did to the bindings.
+/// The effects of an input's legs on the bindings.
 #[derive(Drop)]
 pub(crate) struct InputTally {
     pub(crate) used: BindingTally,
@@ -63,7 +63,7 @@ impl OpenEntries {
         }))
     }
 
-    /// Appends the entry that a leg made, as it is now, if it made one.
+    /// Appends the entry that a leg made, in its present form, if the leg made one.
     #[inline(always)]
     fn list_made(&self, made: &mut Vec<LogEntry>, effect: Passage) -> Result<(), AllocError>
         ensures { (now most : ℕ) (log : LogModel) → OpenEntriesShow now most log self.now →
@@ -80,7 +80,7 @@ impl OpenEntries {
     }
 }
 
-/// Returns the packets of the legs for which no binding could be made.
+/// Returns a shortage for each leg for whose packet no binding could be made.
 #[inline(always)]
 fn refused_by(alloc: Global, effects: Trace) -> Result<Vec<Shortage>, AllocError>
     ensures { IfOk result (λ refused. refused.items ≡ shortages_in effects) }
@@ -91,7 +91,7 @@ fn refused_by(alloc: Global, effects: Trace) -> Result<Vec<Shortage>, AllocError
     Ok(refused)
 }
 
-/// Appends the loss of a packet, if no binding could be made for it.
+/// Appends a shortage if no binding could be made for the packet.
 #[inline(always)]
 fn list_refused(refused: &mut Vec<Shortage>, now: u64, effect: Passage) -> Result<(), AllocError>
     ensures { OnOk result (refused.new.items ≡ refused.old.items ++ shortages_by now effect) }

@@ -1,5 +1,5 @@
-//! The log of a run in progress: what each packet did to the bindings, and how long each binding was live. It is proved
-//! to name whoever had an external endpoint.
+//! The log of a run in progress, which records when each binding was live and how many packets went
+//! through it. It is proved to name exactly the host that had an external endpoint at a time.
 #![tactic(auto)]
 
 mod account;

@@ -1,4 +1,4 @@
-//! The bindings of a state that are live under a configuration, as a log has them.
+//! The bindings of a state that are live under a configuration, with their ends.
 
 ghost use Rattle.std.specs.Prelude.{◌≡◌, [], ◌∷◌, map, filter, not, true, false, IfOk, OnOk, option_to_list};
 ghost use Rattle.napt_rules.specs.Prelude.{TakesState, flows_share, is_live, opening, purge, with_redirects, with_live_flows};
@@ -12,8 +12,8 @@ use napt_rules::{State, StateBinding};
 use napt_table::TimedRow;
 use std::alloc::{AllocError, Global};
 
-/// Returns the bindings that are live at the clock of a state under a configuration: its redirects, and then those of
-/// the state that are not redirects.
+/// Returns the bindings that are live at the clock of a state under a configuration: first its
+/// redirects, then the other bindings of the state.
 pub(crate) fn live_rows(
     alloc: Global,
     config: &Config,
@@ -49,7 +49,7 @@ pub(crate) fn redirects(alloc: Global, config: &Config) -> Result<Vec<TimedRow>,
     Ok(made)
 }
 
-/// Returns the row and the end of a binding of a state, if it is not a redirect and is live at a time, in ns.
+/// Returns the row and the end of a binding if it is not a redirect and is live at `now`, in ns.
 fn live_row(
     alloc: Global,
     binding: &StateBinding,

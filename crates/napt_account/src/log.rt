@@ -1,4 +1,4 @@
-//! The log of a run: who had which external endpoint, from when and until when (RFC 6888, section 4).
+//! The log of a run: which host had which external endpoint at which times (RFC 6888, section 4).
 
 ghost use Rattle.std.specs.{Prelude.{◌≡◌, ◌+◌, ◌<◌, ◌^◌, List, map, IfOk}, List.Sorted.IsPermutation};
 ghost use Rattle.napt_config.specs.Rules.{pair_of};
@@ -19,23 +19,23 @@ pub struct Entry {
     pub binding: Row,
     /// The time when the binding was made; 0 for a redirect, which exists before the first packet.
     pub made: u64,
-    /// The first time at which the binding is no longer live, if no packet comes after the last input; `None` for a
-    /// redirect, which stays live. The time may not fit 64 bits.
+    /// The first time at which the binding is not live, if no packet follows the last input. It may
+    /// exceed 64 bits. `None` for a redirect, which never ends.
     pub end: Option<u128>,
-    /// The number of packets that went out through the binding. An ICMP error changes no binding and is not counted.
+    /// The number of packets that went out through the binding, without ICMP errors.
     pub sent: u64,
-    /// The number of packets that came in through the binding.
+    /// The number of packets that came in through the binding, without ICMP errors.
     pub received: u64,
-    /// The time when a packet last went through the binding, either way; 0 for a redirect that none has used.
+    /// The time when a packet last went through the binding, in either direction; 0 if none has.
     pub last: u64,
-    /// The time when a packet last went out through the binding; 0 for a redirect if none has.
+    /// The time when a packet last went out through the binding; 0 if none has.
     pub last_sent: u64,
 }
 
 impl Entry {
     ghost use Rattle.napt_account.specs.Log.{counted, made_by, unused_entry};
 
-    /// Returns the entry of a binding that is made at a time, in ns, before a packet goes through it.
+    /// Returns the entry of a binding that is made at `made` (ns), before a packet goes through it.
     pub(crate) fn unused(timed: TimedRow, made: u64) -> Entry
         ensures { result ≡ unused_entry timed.row made timed.end }
     {
@@ -50,7 +50,7 @@ impl Entry {
         }
     }
 
-    /// Returns the entry of a binding that a packet made at a time, in ns, and went out through.
+    /// Returns the entry of a binding that a packet made, and went out through, at `now`, in ns.
     pub(crate) fn from_packet(now: u64, timed: TimedRow) -> Entry
         ensures { result ≡ made_by now timed }
     {
@@ -59,7 +59,7 @@ impl Entry {
         entry
     }
 
-    /// Counts a packet that went one way through the binding at a time, in ns, after which the binding has this end.
+    /// Counts a packet that went through the binding at `now`, and sets the end, both in ns.
     #[inline(always)]
     pub(crate) fn count(&mut self, way: Way, now: u64, end: Option<u128>)
         requires { (self.old.sent + 1 < 2 ^ 64) × (self.old.received + 1 < 2 ^ 64) }
@@ -100,7 +100,7 @@ pub fn redirected(config: &Config, redirect: Redirect) -> Row
     }
 }
 
-/// Whether a time, in ns, is before an end.
+/// Returns whether a time, in ns, is before an end.
 pub(crate) fn is_before(now: u64, end: Option<u128>) -> bool
     ensures { result ≡ is_before now end }
 {
@@ -118,15 +118,15 @@ pub struct LogEntry {
     pub entry: Entry,
 }
 
-/// Whether a cause says that no binding could be made.
+/// Returns whether a cause says that no binding could be made.
 pub(crate) fn is_shortage(cause: Cause) -> bool
     ensures { result ≡ is_shortage cause }
 {
     matches!(cause, Cause::OverQuota | Cause::NoPort)
 }
 
-/// An outgoing packet for which no binding could be made: its host has reached its quota, or each number of its class
-/// is in use (RFC 8158: quota exceeded, ports exhausted).
+/// An outgoing packet for which no binding could be made: its host has reached its quota, or each
+/// candidate number is in use (RFC 8158: quota exceeded, ports exhausted).
 #[derive(Clone, Copy, Debug, PartialEq, Eq)]
 pub struct Shortage {
     /// The time when the packet arrived, in ns.
@@ -138,8 +138,8 @@ pub struct Shortage {
     pub host: u32,
 }
 
-/// Returns the entries in the order in which their bindings were made, given all entries of a run's log in any order.
-/// Fails only if memory is refused.
+/// Returns all entries of a run's log, given in any order, in the order in which their bindings
+/// were made. Fails only if memory is refused.
 pub fn in_order_of_making(alloc: Global, numbered: Vec<LogEntry>) -> Result<Vec<Entry>, AllocError>
     ensures { (rules : Rules) (inputs : List Arrival) →
         IsPermutation numbered.items (log_of rules inputs).entries →
@@ -157,7 +157,7 @@ fn without_numbers(alloc: Global, numbered: &[LogEntry]) -> Result<Vec<Entry>, A
     numbered.iter().map(|one| one.entry).collect(alloc)
 }
 
-/// The log of a run follows from the effects of its inputs, each of which is possible when it comes (`CanCome`).
+/// Law: the log of a run follows from the effects of its inputs; each is possible when it comes.
 pub fn effects_are_the_log()
     ensures log { EffectsAreTheLog }
     ensures come { EffectsCome }
@@ -166,8 +166,8 @@ pub fn effects_are_the_log()
     taken_states_are_kept();
 }
 
-/// At each moment of a run the log of the whole run names exactly the live bindings: each host that it names had the
-/// endpoint, and each host that had it is named. The run may go on from a state, with a log of it.
+/// Law: at each time of a run, a host had an external endpoint if and only if the log of the whole
+/// run names the host for it. The run may start from a state and its log.
 pub fn log_attributes()
     ensures ends { EndsAreFirst }
     ensures names { LogNamesTheHolders }
@@ -177,9 +177,9 @@ pub fn log_attributes()
     taken_states_are_kept();
 }
 
-/// If two entries of one protocol and external endpoint have different inside endpoints, the later one was made no
-/// sooner than the hold after the earlier one's end (RFC 6888, REQ-8). Where the run goes on from a state, the earlier
-/// one may be a binding that had ended there and whose number the state holds.
+/// Law: if two entries of one protocol and external endpoint have different inside endpoints, the
+/// later one was made at least the hold after the end of the earlier one (RFC 6888, REQ-8). If the
+/// run starts from a state, the earlier one may be a binding whose number the state holds.
 pub fn held_numbers_have_one_holder()
     ensures ends { EndsAreFirst }
     ensures held { HeldNumbersHaveOneHolder }
@@ -189,15 +189,15 @@ pub fn held_numbers_have_one_holder()
     taken_states_are_kept();
 }
 
-/// An entry whose end is not after the time of the next input is final: the log of each longer run has it, unchanged,
-/// at its index. So it can be written then, and forgotten.
+/// Law: an entry whose end is not after the time of the next input is final: the log of each longer
+/// run has it, unchanged, at its index. It can therefore be written then, and its memory freed.
 pub fn ended_entries_stay()
     ensures { EndedEntriesStay }
 {}
 
-/// A run that goes on from a state, with the open entries of the log there, adds to the log with each input what the
-/// run over all inputs adds, and leaves the same open entries. The same holds if the state was saved and taken up. The
-/// entries that it leaves are those of the state that it leaves.
+/// Law: a run from a state, with the open entries of the log there, adds to the log with each input
+/// what the run over all inputs adds, and ends with the same open entries, also if the state was
+/// saved and read. These entries are those of the live bindings of the state at the end.
 pub fn logs_go_on()
     ensures go_on { LogsGoOn }
     ensures saved { SavedLogsGoOn }
@@ -208,10 +208,10 @@ pub fn logs_go_on()
     taken_states_are_kept();
 }
 
-/// The parts that the inputs of a run add are its log. The entries that end in a part, with those that are left, are
-/// the entries of the log, each once and with its number. The bindings that are made in a part, after the first ones,
-/// are those of the log in its order, each with its number and the time when it was made. The refused packets are its
-/// shortages, in its order.
+/// Law: the parts that the inputs of a run add make up its log. The entries that end in a part, and
+/// those that are open at the end, are the entries of the log, each once and with its number. The
+/// bindings made in the parts, after the first ones, are those of the log in its order, each with
+/// its number and the time when it was made. The refused packets are its shortages, in its order.
 pub fn parts_are_the_log()
     ensures { PartsAreTheLog }
 {}

@@ -1,4 +1,4 @@
-//! The log of a run as it is built, by what the legs of its inputs did.
+//! Builds the log of a run from the effects of its inputs.
 
 ghost use Rattle.std.specs.Prelude.{◌≡◌, ◌==◌, ◌+◌, ◌^◌, ◌<◌, OnOk, IfErr, IfOk, Some, None, cond, false};
 ghost use Rattle.napt_account.specs.{BindingTallies.use_of, Log.after_input, LogParts.{kept_at, living_at, part_between}};
@@ -15,11 +15,11 @@ use napt_sequential::{RunFault, Trace};
 use std::alloc::{AllocError, Global};
 use std::marker::Model;
 
-/// The greatest number of inputs of a log, so that its counts fit 64 bits. No run reaches it.
+/// The largest number of inputs of a log, 2^62 - 1, so that its counts fit 64 bits.
 const MOST_INPUTS: u64 = 4_611_686_018_427_387_903;
 
-/// A log under a configuration, built from what the legs of a run's inputs did, one input after another. Contracts see
-/// the whole log, but only the entries whose bindings have not ended are kept in memory.
+/// A log under a configuration, built from the effects of a run's inputs, one after another.
+/// Contracts see the whole log, but only the entries that have not ended are in memory.
 #[derive(Drop)]
 pub struct LogBuilder<'a> {
     config: &'a Config,
@@ -30,23 +30,23 @@ pub struct LogBuilder<'a> {
     entries: OpenEntries,
     /// The log at its beginning. It takes no memory: only proofs read it.
     begun: Log<u64, OpenLog>,
-    /// What the inputs did. It takes no memory: only proofs read it.
+    /// The effects of the inputs. They take no memory: only proofs read them.
     past: Log<u64, Trace>,
-    /// Whether an input was refused. All later inputs are then refused too.
+    /// `true` if an input was refused. All later inputs are then refused too.
     is_stopped: bool,
 }
 
-/// What an input adds to the log.
+/// The part that an input adds to the log.
 #[derive(Drop)]
 pub struct InputPart {
-    /// What the input did to the bindings.
+    /// The bindings that the input used.
     pub used: BindingTally,
-    /// The bindings that ended since the time of the input before, each with its final entry, by end, equal ends by
-    /// number.
+    /// The final entries of the bindings that ended since the time of the input before, sorted by
+    /// end and then by number.
     pub ended: Vec<LogEntry>,
-    /// The binding that the packet made, if any (at most one), with its entry as the packet left it.
+    /// The entry, after the packet, of the binding that it made: at most one.
     pub made: Vec<LogEntry>,
-    /// The packet, if no binding could be made for it.
+    /// The shortage, if no binding could be made for the packet: at most one.
     pub refused: Vec<Shortage>,
 }
 
@@ -102,14 +102,14 @@ impl<'a> LogBuilder<'a> {
         })
     }
 
-    /// Returns its configuration.
+    /// Returns the configuration of the log.
     pub fn config(&self) -> &'a Config
         ensures { result.now ≡ self.now.rules }
     {
         self.config
     }
 
-    /// Returns the time of the last input, in ns; `None` before the first.
+    /// Returns the time of the last input, in ns, or `None` before the first.
     #[inline(always)]
     pub fn last(&self) -> Option<u64>
         ensures { result ≡ cond (self.now.taken == 0) None (Some self.now.clock) }
@@ -121,8 +121,8 @@ impl<'a> LogBuilder<'a> {
         }
     }
 
-    /// Returns the entries that have not ended by the time of the last input, by end, equal ends by number; redirects,
-    /// which never end, come last. Fails only if memory is refused.
+    /// Returns the entries that have not ended by the time of the last input, sorted by end and
+    /// then by number. Redirects never end and come last. Fails only if memory is refused.
     pub fn living(&self, alloc: Global) -> Result<Vec<LogEntry>, AllocError>
         ensures { self.now.is_stopped ≡ false → IfOk result (λ all.
             all.items ≡ living_at self.now.clock self.now.log) }
@@ -131,7 +131,7 @@ impl<'a> LogBuilder<'a> {
         Ok(living)
     }
 
-    /// Returns what is kept of the log in addition to the state that the run leaves. Fails only if memory is refused.
+    /// Returns the open entries of the log, to be saved. Fails only if memory is refused.
     pub fn to_open_log(&self, alloc: Global) -> Result<OpenLog, AllocError>
         ensures { self.now.is_stopped ≡ false → IfOk result (λ left. left
             ≡ kept_at self.now.clock self.now.log) }
@@ -139,11 +139,11 @@ impl<'a> LogBuilder<'a> {
         self.entries.to_open_log(alloc)
     }
 
-    /// Records what the legs of the next input did, and returns what this adds to the log. After a fault each later
-    /// input fails with `RunFault::Memory`.
+    /// Records the effects of the next input, and returns the part that they add to the log. After
+    /// a fault, each later call returns `RunFault::Memory`.
     ///
-    /// Fails with `RunFault::TooMany` exactly if there were 4,611,686,018,427,387,903 inputs before, with
-    /// `RunFault::Pool` if no run has this input next, and otherwise with `RunFault::Memory` only if memory is refused.
+    /// Fails with `RunFault::TooMany` exactly if there were 2^62 - 1 inputs before, with `Pool` if
+    /// no run has these effects next, and otherwise with `Memory` only if memory is refused.
     #[inline(always)]
     pub fn enter(&mut self, alloc: Global, effects: Trace) -> Result<InputPart, RunFault>
         ensures tells { self.old.is_stopped ≡ false → IfOk result (λ part. part_in part
@@ -164,7 +164,7 @@ impl<'a> LogBuilder<'a> {
         if self.is_stopped {
             return Err(RunFault::Memory);
         }
-        // reset at the end, if nothing fails
+        // This is reset at the end, if nothing fails.
         self.is_stopped = true;
         if self.taken >= MOST_INPUTS {
             return Err(RunFault::TooMany);

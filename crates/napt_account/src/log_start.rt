@@ -1,4 +1,4 @@
-//! The log with which a run begins, of the redirects or of a state.
+//! Creates the log with which a run starts, from the redirects or from a state.
 
 ghost use Rattle.std.specs.Prelude.{◌≡◌, ◌+◌, ◌≤◌, ◌^◌, not, [], map, filter, length, true, false, IfOk};
 ghost use Rattle.napt_rules.specs.Prelude.{TakesState, initial_state};
@@ -21,21 +21,21 @@ use napt_table::TimedRow;
 use std::alloc::{AllocError, Global};
 use std::collections::HashSet;
 
-/// A log that begins at a state, and what this adds to its text before the first input.
+/// A log that continues from a state, and the entries that end or begin there.
 #[derive(Drop)]
 pub struct LogFromState<'a> {
     pub log: LogBuilder<'a>,
-    /// The log as it was saved: an entry for each account, in the order of their numbers.
+    /// The log as it was saved: one entry for each account, sorted by number.
     pub before: OpenLog,
-    /// The entries that end at the clock of the state, in the order of their numbers.
+    /// The entries that end at the clock of the state, sorted by number.
     pub ended: Vec<LogEntry>,
-    /// The entries that begin at the clock, for live bindings that had none, in the order of their numbers.
+    /// The entries that begin at the clock, for live bindings that had none, sorted by number.
     pub made: Vec<LogEntry>,
 }
 
 impl<'a> LogBuilder<'a> {
-    /// Returns the log of a new run before its first input, with an entry for each redirect. Fails only if memory is
-    /// refused.
+    /// Returns the log of a new run before its first input, with an entry for each redirect. Fails
+    /// only if memory is refused.
     pub fn from_config(alloc: Global, config: &'a Config) -> Result<LogBuilder<'a>, AllocError>
         ensures { IfOk result (λ builder. builder ≡ record {
           rules = config.now;
@@ -55,10 +55,10 @@ impl<'a> LogBuilder<'a> {
         Ok(started.log)
     }
 
-    /// Returns the log at a state before the first input, with the entries that end or begin there. The entries of the
-    /// bindings go on, each with the end that its binding has under the configuration; a live binding without an entry
-    /// gets one that begins at the clock. An entry ends at the clock if its binding has ended under the timers of the
-    /// configuration, or is a redirect that the configuration does not have. Fails only if memory is refused.
+    /// Returns the log at a state before the first input. The entries of its bindings continue,
+    /// each with the end under the configuration. A live binding without an entry gets one that
+    /// begins at the clock. An entry ends at the clock if its binding has ended under the timers,
+    /// or is a redirect that the configuration does not have. Fails only if memory is refused.
     pub fn resume(
         alloc: Global,
         config: &'a Config,
@@ -80,7 +80,7 @@ impl<'a> LogBuilder<'a> {
         ensures before { IfOk result (λ from.
             from.before ≡ starts.log_before config.now state.now saved.now) }
     {
-        // called only for its clause: the rules of a configuration are valid
+        // Only the contract of this call is used: the rules of a configuration are valid.
         let _pool = config.pool();
         let all = resumed_entries(alloc, config, state, saved)?;
         let continued = open_among(alloc, &all, state.clock)?;
@@ -109,7 +109,7 @@ impl<'a> LogBuilder<'a> {
     }
 }
 
-/// Returns the entries of the bindings of a state, each with the end that its binding has under a configuration.
+/// Returns the entries of a state's bindings, with the ends of these under a configuration.
 fn resumed_entries(
     alloc: Global,
     config: &Config,
@@ -152,7 +152,7 @@ fn ended_among(alloc: Global, all: &[LogEntry], now: u64) -> Result<Vec<LogEntry
         .collect(alloc)
 }
 
-/// Returns entries, whose numbers are distinct, in the order of their numbers.
+/// Returns the entries, whose numbers are distinct, sorted by number.
 fn by_number(entries: Vec<LogEntry>) -> Result<Vec<LogEntry>, AllocError>
     requires { starts.NumbersDiffer entries.items }
     ensures { IfOk result (λ sorted. sorted.items ≡ starts.in_order_of_number entries.items) }
@@ -162,7 +162,7 @@ fn by_number(entries: Vec<LogEntry>) -> Result<Vec<LogEntry>, AllocError>
     Ok(sorted)
 }
 
-/// Returns the entries with a time, in ns, as their end.
+/// Returns the entries with `now`, in ns, as their end.
 fn all_ended_at(alloc: Global, entries: &[LogEntry], now: u64) -> Result<Vec<LogEntry>, AllocError>
     ensures { IfOk result (λ ended. ended.items ≡ map (starts.entry_ended_at now) entries.now) }
 {
@@ -172,7 +172,7 @@ fn all_ended_at(alloc: Global, entries: &[LogEntry], now: u64) -> Result<Vec<Log
         .collect(alloc)
 }
 
-/// Returns the entry with a time, in ns, as its end.
+/// Returns the entry with `now`, in ns, as its end.
 fn entry_ended_at(numbered: LogEntry, now: u64) -> LogEntry
     ensures { result ≡ starts.entry_ended_at now numbered }
 {
@@ -181,8 +181,8 @@ fn entry_ended_at(numbered: LogEntry, now: u64) -> LogEntry
     ended
 }
 
-/// Returns new entries, with the numbers after `made`, for the rows whose external endpoint no open entry has. They begin
-/// at a time, in ns. There are few rows, since no two of them have one external endpoint.
+/// Returns new entries, numbered from `made` + 1 and made at a time in ns, for the rows whose
+/// external endpoint no open entry has. No two rows share an external endpoint.
 fn new_entries(
     alloc: Global,
     entries: &[LogEntry],
@@ -216,8 +216,8 @@ fn new_entries(
     Ok(begun)
 }
 
-/// A log begins with an entry for each live binding, with its row and its end. In a new run these are the redirects. At
-/// a state that a run leaves they are the entries that the run left, and none ends or begins there.
+/// Law: a log starts with an entry for each live binding, with its row and its end. In a new run
+/// these are the redirects. At the state after a run they are its open entries, unchanged.
 pub fn started_logs_go_on()
     ensures states { starts.StartedLogsAreOfTheirStates }
     ensures anew { starts.StartedLogsBeginAnew }

@@ -1,4 +1,4 @@
-//! A run with its log, one input at a time, of which contracts see the inputs.
+//! A run with its log, which handles one input at a time.
 
 ghost use Rattle.std.specs.Prelude.{◌≡◌, ◌↔◌, ◌+◌, ◌^◌, ◌≤◌, ◌++◌, [], ◌∷◌, length, OnOk, Err, IfErr, IfOk, false, true};
 ghost use Rattle.napt_rules.specs.Sequential as model;
@@ -19,23 +19,23 @@ use napt_table::Row;
 use std::alloc::{AllocError, Global};
 use std::marker::Model;
 
-/// A run on one thread under a configuration, and its log. Contracts see the inputs that it took, but only the bindings
-/// that have not ended are kept in memory.
+/// A run on one thread under a configuration, and its log. Contracts see all its inputs, but only
+/// the bindings that have not ended, and their entries, are in memory.
 #[derive(Drop)]
 pub struct LoggedRun<'a> {
     run: SequentialRun,
     log: LogBuilder<'a>,
-    /// The state from which it goes on. It takes no memory: only proofs read it.
+    /// The state from which it starts. It takes no memory: only proofs read it.
     begun: Log<u64, State>,
-    /// What the state keeps of a log. It takes no memory: only proofs read it.
+    /// The part of a log in that state. It takes no memory: only proofs read it.
     saved: Log<u64, SavedLogState>,
-    /// The inputs that it took. It takes no memory: only proofs read it.
+    /// The inputs so far. They take no memory: only proofs read them.
     past: Log<u64, Input>,
-    /// Whether a step failed. All later steps then fail too.
+    /// `true` if a step failed. All later steps then fail too.
     is_stopped: bool,
 }
 
-/// A run that goes on from a state, and what this adds to its log before the first input (`LogFromState`).
+/// A run that starts from a state, and the changes of its log at the start (`LogFromState`).
 #[derive(Drop)]
 pub struct RunFromState<'a> {
     pub run: LoggedRun<'a>,
@@ -45,7 +45,7 @@ pub struct RunFromState<'a> {
     pub made: Vec<LogEntry>,
 }
 
-/// What an input of a run did: its outcome, and the part of the log that comes with it.
+/// The result of an input of a run: its outcome, and the part that it adds to the log.
 #[derive(Drop)]
 pub struct LogStep {
     pub outcome: Outcome,
@@ -73,7 +73,7 @@ impl<'a> Model for LoggedRun<'a> {
 }
 
 impl<'a> LoggedRun<'a> {
-    /// Returns a new run before its first input; its log has the redirects. Fails only if memory is refused.
+    /// Returns a new run, whose log has the redirects. Fails only if memory is refused.
     pub fn from_config(alloc: Global, config: &'a Config) -> Result<LoggedRun<'a>, AllocError>
         ensures { IfOk result (λ run. run ≡ record {
           rules = config.now;
@@ -93,7 +93,7 @@ impl<'a> LoggedRun<'a> {
         Ok(resumed.run)
     }
 
-    /// Returns a run from a state before its first input, with the log that the state keeps (`LogBuilder::resume`).
+    /// Returns a run from a state, with the log that the state contains (`LogBuilder::resume`).
     /// Fails only if memory is refused.
     pub fn resume(
         alloc: Global,
@@ -135,15 +135,15 @@ impl<'a> LoggedRun<'a> {
         })
     }
 
-    /// Returns its configuration.
+    /// Returns the configuration of the run.
     pub fn config(&self) -> &'a Config
         ensures { result.now ≡ self.now.rules }
     {
         self.log.config()
     }
 
-    /// Returns the entries that have not ended by the latest clock, by end, equal ends by number; redirects, which never
-    /// end, last. Fails only if memory is refused.
+    /// Returns the entries that have not ended by the latest clock, sorted by end and then by
+    /// number. Redirects never end and come last. Fails only if memory is refused.
     pub fn living(&self, alloc: Global) -> Result<Vec<LogEntry>, AllocError>
         ensures { self.now.is_stopped ≡ false → IfOk result (λ all. all.items
             ≡ living_at (last_clock self.now.state.clock self.now.inputs)
@@ -152,7 +152,7 @@ impl<'a> LoggedRun<'a> {
         self.log.living(alloc)
     }
 
-    /// Returns the bindings that are live at the latest clock: by external address in the order of the pool, then by
+    /// Returns the bindings that are live at the latest clock, by address in pool order, then by
     /// protocol (ICMP, TCP, UDP) and external number. Fails only if memory is refused.
     pub fn bindings(&self, alloc: Global) -> Result<Vec<Row>, AllocError>
         ensures { self.now.is_stopped ≡ false → IfOk result (λ made.
@@ -162,11 +162,11 @@ impl<'a> LoggedRun<'a> {
         self.run.bindings(alloc)
     }
 
-    /// Handles the next input at the latest clock so far, its own included, and returns its outcome and what it adds to
-    /// the log. After a fault each later step fails with `RunFault::Memory`.
+    /// Handles the next input at the latest clock so far, including its own. Returns its outcome
+    /// and its part of the log. After a fault, each later step fails with `RunFault::Memory`.
     ///
-    /// Fails with `RunFault::TooMany` exactly if it took 4,294,967,295 inputs before and no step failed, with
-    /// `RunFault::Memory` only if memory is refused or a step failed before, and never with `RunFault::Pool`.
+    /// Fails with `RunFault::TooMany` exactly if there were 4,294,967,295 inputs before and no step
+    /// failed, with `Memory` only if memory is refused or a step failed, and never with `Pool`.
     pub fn step(&mut self, alloc: Global, input: &Input) -> Result<LogStep, RunFault>
         ensures tells { self.old.is_stopped ≡ false →
             IfOk result (LoggedStepPost self.old input.now) }
@@ -181,7 +181,7 @@ impl<'a> LoggedRun<'a> {
         if self.is_stopped {
             return Err(RunFault::Memory);
         }
-        // reset at the end, if nothing fails
+        // This is reset at the end, if nothing fails.
         self.is_stopped = true;
         let config = self.log.config();
         let stepped = self.run.step(alloc, config, input)?;

@@ -16,7 +16,7 @@ use napt_wire::{Protocol, Way};
 use std::alloc::{AllocError, Global};
 use std::collections::{BTreeSet, HashMap};
 
-/// An external endpoint under its protocol.
+/// An external endpoint and its protocol.
 #[derive(Clone, Copy, PartialEq, Eq, PartialOrd, Ord, Hash)]
 pub(crate) struct EntryKey {
     address: u32,
@@ -24,11 +24,11 @@ pub(crate) struct EntryKey {
     protocol: Protocol,
 }
 
-/// The end of a binding, and the number of its entry. They are ordered by end, equal ends by number, and those without
-/// an end come last.
+/// The end of a binding and the number of its entry. Keys are ordered by end, and equal ends by
+/// number; a key without an end comes last.
 #[derive(Clone, Copy, PartialEq, Eq, PartialOrd, Ord, Drop)]
 pub(crate) struct EndKey {
-    /// Whether the binding never ends; then `end` is 0.
+    /// `true` if the binding never ends; then `end` is 0.
     is_endless: bool,
     /// The end, in ns.
     end: u128,
@@ -40,23 +40,23 @@ pub(crate) struct EndKey {
 #[derive(Clone, Copy)]
 pub(crate) struct OpenEntry {
     pub(crate) numbered: LogEntry,
-    /// When the entry is checked next, in ns: never after its end. `None` if its end does not fit 64 bits.
+    /// The next time (ns) to check the entry, at most its end, or `None` if that exceeds 64 bits.
     due: Option<u64>,
 }
 
-/// When the entry of an endpoint is checked next, in ns.
+/// The next time, in ns, at which the entry of an endpoint is checked.
 #[derive(Clone, Copy, PartialEq, Eq, PartialOrd, Ord)]
 pub(crate) struct DueEntry {
     at: u64,
     key: EntryKey,
 }
 
-/// The entries of the bindings that have not ended, found by their external endpoints. A packet that moves the end of
-/// its binding leaves the queue alone: the entry is queued again when its time in the queue has come.
+/// The entries of the bindings that have not ended, found by their external endpoints. A packet
+/// that moves the end of its binding does not change the queue: the entry is queued again when due.
 #[derive(Drop)]
 pub(crate) struct OpenEntries {
     by_external: HashMap<EntryKey, OpenEntry>,
-    /// An element for each entry that has a time.
+    /// One element for each entry that has a time at which it is checked.
     queue: BTreeSet<DueEntry>,
     /// The number of entries of the log.
     made: u64,
@@ -90,7 +90,7 @@ fn end_key(numbered: LogEntry) -> EndKey
     }
 }
 
-/// Returns when an entry with this end is checked next, in ns: at its time `was` in the queue, or at an earlier end.
+/// Returns the next time, in ns, to check an entry: its time `was` in the queue, or an earlier end.
 fn due_by(was: Option<u64>, end: Option<u128>) -> Option<u64>
     ensures early { (time : ℕ) → time < unwrap_or result (2 ^ 64) → is_before time end ≡ true }
     ensures first { was ≡ None → (time : ℕ) → is_before time end ≡ true →
@@ -103,7 +103,7 @@ fn due_by(was: Option<u64>, end: Option<u128>) -> Option<u64>
     }
 }
 
-/// Sorts entries by end, equal ends by number.
+/// Sorts entries by end, and equal ends by number.
 #[inline(always)]
 pub(crate) fn sort_by_end(entries: &mut Vec<LogEntry>)
     ensures moved { IsPermutation entries.old.items entries.new.items }
@@ -136,7 +136,7 @@ impl OpenEntries {
         }
     }
 
-    /// Returns the open entries that were kept of a log.
+    /// Returns the open entries of an open log.
     pub(crate) fn from_entries(alloc: Global, log: &OpenLog) -> Result<OpenEntries, AllocError>
         ensures { (now most : ℕ) → kept_at now log.now ≡ log.now → IsNumbered log.now →
             Rises 1 log.now.entries →
@@ -151,7 +151,7 @@ impl OpenEntries {
         Ok(all)
     }
 
-    /// Returns what is kept of the log.
+    /// Returns the open log: the entries that have not ended.
     pub(crate) fn to_open_log(&self, alloc: Global) -> Result<OpenLog, AllocError>
         ensures { (now most : ℕ) (log : LogModel) → OpenEntriesShow now most log self.now →
             IfOk result (λ left. left ≡ kept_at now log) }
@@ -164,7 +164,7 @@ impl OpenEntries {
         })
     }
 
-    /// Adds an entry, and returns its number. Its external endpoint has no other.
+    /// Adds an entry and returns its number. No other entry has its external endpoint.
     #[inline(never)]
     fn insert(&mut self, entry: Entry) -> Result<u64, AllocError>
         requires { self.old.made + 1 < 2 ^ 64 }
@@ -180,7 +180,7 @@ impl OpenEntries {
         Ok(number)
     }
 
-    /// Sets the entry of an endpoint, which is queued at `was`, or not at all.
+    /// Sets the entry of an endpoint, which is queued at `was`, in ns, or not queued.
     fn set(&mut self, numbered: LogEntry, was: Option<u64>) -> Result<(), AllocError>
         ensures made { self.new.made ≡ self.old.made }
         ensures entry { OnOk result ((x : Endpoint) → entry_at self.new x
@@ -222,7 +222,7 @@ impl OpenEntries {
         self.enter_queue(key, due)
     }
 
-    /// Removes an endpoint from the queue, if it is there at a time.
+    /// Removes an endpoint from the queue, where it is at `was`, in ns, if that is a time.
     fn leave_queue(&mut self, key: EntryKey, was: Option<u64>)
         ensures open { (x : Endpoint) → open_at self.new x ≡ open_at self.old x }
         ensures made { self.new.made ≡ self.old.made }
@@ -236,7 +236,7 @@ impl OpenEntries {
         }
     }
 
-    /// Inserts an endpoint into the queue at a time, if there is one.
+    /// Inserts an endpoint into the queue at `due`, in ns, if that is a time.
     fn enter_queue(&mut self, key: EntryKey, due: Option<u64>) -> Result<(), AllocError>
         ensures open { (x : Endpoint) → open_at self.new x ≡ open_at self.old x }
         ensures made { self.new.made ≡ self.old.made }
@@ -251,14 +251,14 @@ impl OpenEntries {
         Ok(())
     }
 
-    /// Returns the entry of an external endpoint.
+    /// Returns the open entry of a row's external endpoint, if there is one.
     pub(crate) fn find(&self, row: Row) -> Option<OpenEntry>
         ensures { result ≡ open_at self.now (keys.entry_key row) }
     {
         self.by_external.get(&external_key(row)).copied()
     }
 
-    /// Whether a leg can have this effect at a time, in ns.
+    /// Returns whether a leg can have this effect at `now`, in ns.
     #[inline(always)]
     pub(crate) fn can_come(&self, now: u64, effect: Passage) -> bool
         ensures yes { (most : ℕ) (log : LogModel) → OpenEntriesShow now most log self.now → result ≡ true →
@@ -276,8 +276,8 @@ impl OpenEntries {
         }
     }
 
-    /// Counts a packet that went one way through the binding of a row, which now has this end, and returns what it did
-    /// to the binding, if the binding has an entry.
+    /// Counts a packet that went through the binding of a row, and sets the end of its entry, if it
+    /// has one. Returns the use of the binding.
     #[inline(always)]
     fn count(&mut self, way: Way, now: u64, timed: TimedRow) -> Result<BindingTally, AllocError>
         requires { (most : ℕ) × (log : LogModel) × OpenEntriesShow now most log self.old
@@ -301,7 +301,7 @@ impl OpenEntries {
         Ok(used)
     }
 
-    /// Removes and returns the first endpoint in the queue, if its time there has come by a time, in ns.
+    /// Removes and returns the first endpoint in the queue, if its time is at most `now`, in ns.
     #[inline(always)]
     fn take_due(&mut self, now: u64) -> Option<EntryKey>
         ensures open { (x : Endpoint) → open_at self.new x ≡ open_at self.old x }
@@ -326,8 +326,8 @@ impl OpenEntries {
         Some(due.key)
     }
 
-    /// Checks the entry of an endpoint that is not queued: removes it if its binding has ended by a time, in ns, and
-    /// queues it at its end otherwise.
+    /// Checks the entry of an endpoint that is not queued. Removes and returns it if its binding
+    /// has ended by `now`, in ns, or else queues it at its end.
     #[inline(never)]
     fn end_or_queue(&mut self, key: EntryKey, now: u64) -> Result<Option<LogEntry>, AllocError>
         ensures made { self.new.made ≡ self.old.made }
@@ -350,7 +350,7 @@ impl OpenEntries {
         Ok(Some(open.numbered))
     }
 
-    /// Removes and returns the entries of the bindings that have ended by a time, in ns.
+    /// Removes and returns the entries of the bindings that have ended by `now`, in ns.
     #[inline(always)]
     pub(crate) fn take_ended(
         &mut self,
@@ -373,7 +373,7 @@ impl OpenEntries {
         Ok(ended)
     }
 
-    /// Returns the entries, with their numbers, in order of end.
+    /// Returns the entries with their numbers, by end, and equal ends by number.
     pub(crate) fn list(&self, alloc: Global) -> Result<Vec<LogEntry>, AllocError>
         ensures { (now most : ℕ) (log : LogModel) → OpenEntriesShow now most log self.now →
             IfOk result (λ all. all.items ≡ living_at now log) }
@@ -394,7 +394,7 @@ impl OpenEntries {
             .collect(alloc)
     }
 
-    /// Records the effect of one leg, and returns what it did to the bindings.
+    /// Records the effect of one leg at `now`, in ns, and returns its use of a binding.
     #[inline(always)]
     pub(crate) fn record_leg(
         &mut self,

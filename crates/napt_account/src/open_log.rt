@@ -1,4 +1,4 @@
-//! What is kept of a log.
+//! The open part of a log, from which its next run continues it.
 
 ghost use Rattle.std.specs.Prelude.{◌≡◌, ℕ, [], IfOk};
 ghost use Rattle.std.specs.HashMap as hash;
@@ -13,12 +13,12 @@ use std::alloc::{AllocError, Global};
 use std::collections::HashMap;
 use std::marker::Model;
 
-/// What is kept of a log when a run leaves its state: a log of the open entries, with which the next run goes on.
+/// The open entries of a log at the end of a run, with which the next run continues the log.
 #[derive(Drop)]
 pub struct OpenLog {
-    /// The number of entries that the log had so far.
+    /// The number of all entries that the log has so far.
     pub made: u64,
-    /// The entries that have not ended by the clock of the state, with their numbers, in the order of making.
+    /// The entries that have not ended by the clock of the state, with their numbers, oldest first.
     pub entries: Vec<LogEntry>,
 }
 
@@ -32,7 +32,7 @@ impl Model for OpenLog {
 }
 
 impl OpenLog {
-    /// Returns what is kept of a log without entries.
+    /// Returns the open log of a log without entries.
     pub fn none(alloc: Global) -> OpenLog
         ensures { result ≡ record { made = 0; entries = []; shortages = [] } }
     {
@@ -42,8 +42,8 @@ impl OpenLog {
         }
     }
 
-    /// Returns what a state that a run leaves keeps of the log: the account of each binding of the state that has an
-    /// entry. Takes linear time. Fails only if memory is refused.
+    /// Returns the part of the log that the state after a run contains: the account of each binding
+    /// that has an entry. Takes linear time. Fails only if memory is refused.
     pub fn saved(&self, alloc: Global, state: &State) -> Result<SavedLogState, AllocError>
         ensures { IfOk result (λ saved. (now : ℕ) → kept_at now self.now ≡ self.now →
             saved ≡ saved_log_state now self.now state.now) }
@@ -66,7 +66,7 @@ impl OpenLog {
     }
 }
 
-/// Returns the account under the external endpoint of a row.
+/// Returns the account for the external endpoint of a row, if there is one.
 fn account_under(by_key: &HashMap<EntryKey, Account>, row: Row) -> Option<Account>
     ensures { result ≡ hash.get external_eq by_key.now (entry_key row) }
 {

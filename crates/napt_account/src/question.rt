@@ -1,4 +1,4 @@
-//! The subject of a request to the log (RFC 6888, section 4; RFC 6269, section 12).
+//! The subject of a request for log entries (RFC 6888, section 4; RFC 6269, section 12).
 
 ghost use Rattle.std.specs.Prelude.{◌≡◌};
 ghost use Rattle.napt_account.specs.Questions.{is_meant};
@@ -10,12 +10,12 @@ use napt_wire::Endpoint;
 pub struct Party {
     /// The address, in host order.
     pub address: u32,
-    /// The port or identifier; `None` for any.
+    /// The port or identifier, or `None` for any number.
     pub number: Option<u16>,
 }
 
 impl Party {
-    /// Whether an endpoint is the requested one, or one of the requested address.
+    /// Returns whether an endpoint is the requested one, or has the requested address.
     pub fn has(self, endpoint: Endpoint) -> bool
         ensures { result ≡ is_meant self endpoint }
     {

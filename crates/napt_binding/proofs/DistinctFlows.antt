@@ -1,4 +1,4 @@
--- Flows of which no two are of one remote, in lists and in slots.
+-- Flows of distinct remotes, in lists and in slots.
 use Rattle.std.proofs.lemmas.{Grind.common_steps, Bool.Decides.nat_tests}
 use Rattle.std.proofs.Common.{◌≡◌, ℕ, zero, suc, ◌+◌, ◌<◌, Bool, true, false, ◌||◌, cond, List, [], ◌∷◌, ◌++◌, length, take, set, get_or, Option, Some, None, refl, sym, ◌∙◌, ap, arith, filter}
 use Rattle.std.{specs.List.list_any, proofs.lemmas.{Bool.{or_parts, true≢false}, List.Folds.list_any_at}}

@@ -39,7 +39,7 @@ ends_are_first timers t now binding = ap (λ v. binding.row.fixed || v)
     (by_before binding.row.protocol timers t now binding)
     ∙ either_fixed binding.row.fixed now (end_by_protocol binding.row.protocol timers binding)
 
--- What is before an end was before it earlier, too.
+-- A time that is at most another one, which is before an end, is also before that end.
 pub before_sooner : (n m : ℕ) → n ≤ m → (end : Option ℕ) → is_before m end ≡ true → is_before n end ≡ true
 before_sooner n m le None h = refl
 before_sooner n m le (Some end) h = grind (arith, nat_tests)

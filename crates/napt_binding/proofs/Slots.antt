@@ -1,4 +1,4 @@
--- What the slots have in them after one is filled or emptied.
+-- The contents of the slots after one is filled or emptied.
 use Rattle.std.proofs.lemmas.Grind.{common_steps}
 use Rattle.std.proofs.Common.{◌≡◌, ◌≢◌, ℕ, zero, suc, ◌+◌, ◌<◌, ◌⊎◌, inl, inr, Bool, true, false, ◌||◌, cond, List, [], ◌∷◌, ◌++◌, length, set, Option, Some, None, nat_lt, refl, sym, ◌∙◌, ap, arith, filter, ◌==◌}
 use Rattle.std.{specs.List.list_any, proofs.lemmas.{Bool.Decides.nat_tests, Option.same_Some, List.{length_push, Sums.sum_by-cons}}}
@@ -11,7 +11,7 @@ module _ {X : Type 0} where
   stands_within (o ∷ slots) zero x h = omega arith
   stands_within (o ∷ slots) (suc i) x h = omega (arith, stands_within slots i x h)
 
-  -- What the slots have in them after one was written.
+  -- The contents of the slots after one was written.
   pub stands_set : (slots : List (Option X)) (i : ℕ) (o : Option X) (k : ℕ) (y : X) → IsInSlot (set slots i o) k y →
       ((k ≡ i) × (o ≡ Some y)) ⊎ ((k ≢ i) × IsInSlot slots k y)
   stands_set [] i o k y h = cc
@@ -41,7 +41,7 @@ module _ {X : Type 0} where
   set_twice (z ∷ slots) zero a b = refl
   set_twice (z ∷ slots) (suc i) a b = ap (λ (l : List (Option X)). z ∷ l) (set_twice slots i a b)
 
-  -- What the slots have in them after one was appended.
+  -- The contents of the slots after one was appended.
   pub stands_pushed : (slots : List (Option X)) (o : Option X) (k : ℕ) (y : X) → IsInSlot (slots ++ o ∷ []) k y →
       ((k ≡ length slots) × (o ≡ Some y)) ⊎ IsInSlot slots k y
   stands_pushed [] o zero y h = inl (refl, same_Some o (Some y) h)

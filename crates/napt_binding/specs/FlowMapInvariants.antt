@@ -1,10 +1,10 @@
--- How many flows of one binding are stored: in slots, with a map from a remote endpoint to its slot.
+-- The store of many flows of one binding: slots, with a map from a remote endpoint to its slot.
 use Rattle.std.specs.{Prelude.{◌≡◌, ℕ, ◌+◌, ◌*◌, ◌/◌, ◌<◌, nat_lt, max, Bool, ◌&&◌, List, length, Option, Some}, HashMap.{get, hash_map_len, spare}}
 use Rattle.napt_wire.specs.declared.Endpoint.{Endpoint}
 use Rattle.napt_rules.specs.declared.Flow.{Flow}
 use Rattle.napt_binding.specs.{Lists.pair_eq, Counts.{count_at, room_of}, Slots.{standing_flows, IsInSlot, count_of}, declared.flows.flow_maps.FlowMaps.FlowMaps}
 
--- The place of the remote's flow, if there is one.
+-- Returns the place of the remote's flow, if there is one.
 abbrev pub place_of_remote : FlowMaps → Endpoint → Option ℕ
 place_of_remote many remote = get pair_eq many.places (remote.address, remote.number)
 
@@ -24,7 +24,7 @@ pub record FlowMapsHaveRoom (many : FlowMaps) : Type 0 where
 
 -- THE NUMBER OF SLOTS
 
--- With at most this many slots, empty ones stay.
+-- The largest number of slots with which empty ones are not removed.
 abbrev pub most_sparse : ℕ
 most_sparse = 64
 
@@ -32,6 +32,6 @@ most_sparse = 64
 abbrev pub is_sparse : List (Option Flow) → Bool
 is_sparse slots = nat_lt most_sparse (length slots) && nat_lt (length (standing_flows slots)) (length slots / 2)
 
--- The maximum number of slots after a new flow took one more, given the number of flows before it.
+-- Returns the maximum number of slots after a new flow, given the number of flows before it.
 abbrev pub most_slots : ℕ → ℕ
 most_slots flows = max most_sparse (2 * flows + 1) + 1

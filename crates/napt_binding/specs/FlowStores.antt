@@ -1,4 +1,4 @@
--- How the flows of a binding are stored: one flow as it is, few flows in a list, and many with maps.
+-- The store of the flows of a binding: one flow by itself, a few in a list, and many with maps.
 use Rattle.std.specs.{Prelude.{ℕ, ◌≤◌, nat_le, Bool, true, false, not, ◌&&◌, List, [], ◌∷◌, length}, List.list_any}
 use Rattle.napt_config.specs.declared.settings.Timers.{Timers}
 use Rattle.napt_rules.specs.declared.{Flow.Flow, OutboundPacket.OutboundPacket}
@@ -14,7 +14,7 @@ abbrev pub is_full : Timers → OutboundPacket → List Flow → Bool
 is_full timers sent flows = nat_le most_listed (length (standing_at timers sent flows))
     && not (list_any (standing_flow_of timers sent.now sent.protocol sent.remote) flows)
 
--- The flows in the order in which they began.
+-- Returns the flows in the order in which they began.
 abbrev pub flows_of : FlowStore → List Flow
 flows_of Empty = []
 flows_of (One flow) = flow ∷ []

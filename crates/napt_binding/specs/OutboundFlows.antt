@@ -2,17 +2,17 @@
 use Rattle.std.specs.Prelude.{List}
 use Rattle.napt_rules.specs.{declared.{Flow.Flow, OutboundPacket.OutboundPacket}, Prelude.{change_first, no_marks, live_flows, is_flow_of, flow_after, with_flow, Outgoing, Timers}}
 
--- The flow that begins with the packet.
+-- Returns the flow that begins with the packet.
 abbrev pub new_flow : OutboundPacket → Flow
 new_flow sent =
     flow_after sent.protocol Outgoing sent.flags sent.now
     (record { remote = sent.remote; marks = no_marks; last = sent.now })
 
--- The flows that stand when the packet goes out.
+-- Returns the flows that stand when the packet goes out.
 abbrev pub standing_at : Timers → OutboundPacket → List Flow → List Flow
 standing_at timers sent flows = live_flows timers sent.now sent.protocol flows
 
--- The flows after the packet, which uses the flow of its remote. If there is none, one begins.
+-- Returns the flows after the packet, which uses the flow of its remote or, if there is none, begins one.
 abbrev pub flows_after_outbound : OutboundPacket → List Flow → List Flow
 flows_after_outbound sent flows =
     change_first (is_flow_of sent.remote) (flow_after sent.protocol Outgoing sent.flags sent.now)

@@ -1,4 +1,4 @@
--- What contracts see of the slots of a binding.
+-- The slots of a binding, as contracts see them.
 use Rattle.std.specs.Prelude.{ℕ, List, Option}
 use Rattle.napt_rules.specs.declared.Flow.{Flow}
 

@@ -1,4 +1,4 @@
--- How slots are stored: with their flows linked in rows by last use.
+-- The store of the slots, whose flows are linked in rows by last use.
 use Rattle.std.specs.Prelude.{◌≡◌, ℕ, ◌+◌, ◌-◌, ◌<◌, ◌≤◌, nat_lt, Bool, ◌||◌, min, List, length, slice_index_or, Option, Some, None, is_some}
 use Rattle.std.specs.Vec.{vec_len, vec_capacity}
 use Rattle.napt_collections.specs.{declared.links.Links.Links, Links.{next, prev, IsRow}}
@@ -16,7 +16,7 @@ shown_flow it = record {
       (min (vec_capacity it.flows - vec_len it.flows) (vec_capacity it.links - vec_len it.links));
 }
 
--- The flow in the slot, or none if the slot is empty or past the end.
+-- Returns the flow in the slot, or none if the slot is empty or past the end.
 abbrev pub flow_in : List (Option Flow) → ℕ → Option Flow
 flow_in flows place = slice_index_or flows place None
 

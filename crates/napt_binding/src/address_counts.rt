@@ -51,7 +51,7 @@ impl AddressCounts {
         }
     }
 
-    /// Increments the count of the address, for which there must be room. Takes no memory.
+    /// Increments the count of the address, for which there must be room. Allocates no memory.
     pub fn increment(&mut self, address: u32)
         requires room { 0 < room_of self.old }
         requires fits { count_at self.old address + 1 < 2 ^ 64 }

@@ -1,6 +1,6 @@
 //! The flows of one binding.
 //!
-//! No call looks at more than a few of them, except to remove expired flows and empty slots.
+//! No call reads more than a few of them, except to remove expired flows and empty slots.
 
 ghost use Rattle.std.specs.{Prelude.{◌≡◌, ◌==◌, ◌≤◌, ◌<◌, ◌^◌, ◌||◌, ℕ, Bool, true, false, filter, OnOk, OnErr, IfOk, [], ◌∷◌}, List.list_any};
 ghost use Rattle.napt_binding.specs.{Ends.last_end, FlowStores.{flows_of, FlowStoreInvariant}, Slots.{AreDistinct, NoneUsedAfter, standing_flows}, FlowMapInvariants.FlowMapsInvariant};
@@ -27,7 +27,7 @@ use std::marker::Model;
 /// The maximum number of flows that are stored without maps, and searched one by one.
 const FEW: usize = 8;
 
-/// How flows are stored. Most bindings have one flow, which takes no memory of its own.
+/// The store of the flows. Most bindings have one flow, which takes no memory of its own.
 #[derive(Drop)]
 enum FlowStore {
     Empty,
@@ -36,7 +36,7 @@ enum FlowStore {
     Mapped(Box<FlowMaps>),
 }
 
-/// The flows of one binding, oldest first, no two of one remote endpoint; contracts see a list.
+/// The flows of one binding, oldest first, no two of one remote endpoint. Contracts see a list.
 #[derive(Drop)]
 pub struct Flows {
     kept: FlowStore,
@@ -55,7 +55,7 @@ impl Model for Flows {
     ghost invariant = { λ flows. FlowStoreInvariant flows.kept };
 }
 
-/// Returns whether the packet begins a flow that needs maps, since `FEW` or more flows stand.
+/// Returns whether the packet begins a flow that needs maps, because `FEW` or more flows stand.
 fn is_full(flows: &[Flow], timers: IdleTimers, sent: OutboundPacket) -> bool
     ensures { result ≡ storage.is_full timers sent flows.now }
 {
@@ -66,7 +66,7 @@ fn is_full(flows: &[Flow], timers: IdleTimers, sent: OutboundPacket) -> bool
         && flow_list::standing_place(flows, timers, sent).is_none()
 }
 
-/// Returns the store after a packet goes out: one flow still, if it is the packet's or expired.
+/// Returns the store after a packet goes out: one flow, if the old one is the packet's or expired.
 fn one_after_outbound(
     alloc: Global,
     timers: IdleTimers,
@@ -93,8 +93,8 @@ fn one_after_outbound(
     Ok(FlowStore::Listed(flows))
 }
 
-/// Puts these flows, no two of one remote, into maps, and uses that of the packet's remote. This is
-/// not inlined, since a function pays at its entry for all its locals.
+/// Moves these flows, no two of one remote, to maps, and uses that of the packet's remote. Not
+/// inlined, since a function pays at its entry for all its locals.
 #[inline(never)]
 fn with_maps(
     alloc: Global,
@@ -117,7 +117,7 @@ fn with_maps(
 }
 
 /// Uses the flow of the packet's remote, or begins one if none is live. Changes nothing if memory
-/// is refused. A list of flows gets maps if it is full, and only then.
+/// is refused. A list of flows is moved to maps if and only if it is full.
 fn use_flow_in_store(
     kept: &mut FlowStore,
     alloc: Global,
@@ -181,7 +181,7 @@ impl Flows {
         }
     }
 
-    /// Creates the flows from a list of them, oldest first, no two of one remote endpoint.
+    /// Creates the flows from a list, oldest first, one of each remote. Fails if memory is refused.
     pub fn from_flows(alloc: Global, flows: &[Flow]) -> Result<Flows, AllocError>
         requires { AreDistinct flows.now }
         ensures { IfOk result (λ made. made ≡ flows.now) }
@@ -208,7 +208,7 @@ impl Flows {
         }
     }
 
-    /// Returns a copy of the flows of a protocol that live at `now` (ns), oldest first.
+    /// Copies the flows of a protocol live at `now` (ns), in order. Fails if memory is refused.
     #[tactic(auto, using(crate::proofs::DistinctFlows::distinct_live))]
     pub fn live(
         &self,
@@ -226,7 +226,7 @@ impl Flows {
         Ok(flows)
     }
 
-    /// Creates the flows of a binding whose first packet goes out, without allocating.
+    /// Creates the flows of a binding whose first packet goes out. Never allocates or fails.
     pub fn from_packet(
         _alloc: Global,
         timers: IdleTimers,
@@ -241,7 +241,7 @@ impl Flows {
         })
     }
 
-    /// Returns until when (ns) one of these TCP flows is live, at most `u64::MAX`; one is at `now`.
+    /// Returns the last time (ns) at which a TCP flow lives, at most 2^64 - 1. One must at `now`.
     pub(crate) fn last_moment(&self, timers: IdleTimers, now: u64) -> u64
         requires live { list_any (life.is_live_flow timers now) self.now ≡ true }
         ensures later { now ≤ result }
@@ -258,7 +258,7 @@ impl Flows {
         }
     }
 
-    /// Returns when the last of these TCP flows ends, in ns, or 0 if there is none.
+    /// Returns the end of the last of these TCP flows, in ns, or 0 if there is none.
     pub(crate) fn last_end(&self, timers: IdleTimers) -> u128
         ensures { result ≡ last_end timers self.now }
     {
@@ -310,7 +310,7 @@ impl Flows {
         }
     }
 
-    /// Returns whether a flow is of the remote.
+    /// Returns whether there is a flow of the remote.
     pub(crate) fn has_remote(&self, remote: Endpoint) -> bool
         ensures { result ≡ list_any (traffic.is_flow_of remote) self.now }
     {
@@ -338,7 +338,7 @@ impl Flows {
         use_flow_in_store(&mut self.kept, alloc, timers, sent)
     }
 
-    /// Marks the remote's flow, if there is one, as used now by an incoming segment.
+    /// Records that an incoming segment used the remote's flow, if there is one, at `now` (ns).
     pub(crate) fn refresh_flow(&mut self, now: u64, remote: Endpoint, flags: Flags)
         requires { NoneUsedAfter self.old now }
         ensures { self.new ≡ change_first (traffic.is_flow_of remote)

@@ -45,8 +45,8 @@ impl IdleTimers {
         let _ = &self.seconds;
     }
 
-    /// Returns the time one hold before `now` (ns), or 0. What had ended by then is no longer held
-    /// (RFC 6888, REQ-8).
+    /// Returns the time (ns) one hold before `now` (ns), or 0 if that is negative. The number of a
+    /// binding that had ended by then is no longer held (RFC 6888, REQ-8).
     pub fn hold_ago(self, now: u64) -> u64
         ensures { result ≡ life.hold_ago self now }
     {

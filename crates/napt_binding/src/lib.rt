@@ -1,4 +1,4 @@
-//! One binding of a translator: how long it lives, which remotes it lets in, what packets do to it.
+//! One binding of a translator: its lifetime, its filter, and its changes by packets.
 //!
 //! The rules are those of RFC 3022, 4787, 5382 and 5508; `specs/` states them with their sections.
 #![tactic(auto)]
@@ -25,5 +25,5 @@ pub use state_binding::{from_state, to_state};
 pub use traffic::{purge_and_receive, send};
 
 /// A binding as a table stores it: an inside endpoint, the external endpoint to which it is mapped
-/// under one protocol (RFC 3022, section 2.2), and its flows.
+/// for one protocol (RFC 3022, section 2.2), and its flows.
 pub type TableBinding = napt_rules::StoredBinding<PackedRow, Flows>;

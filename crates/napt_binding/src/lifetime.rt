@@ -1,4 +1,4 @@
-//! How long bindings and flows live (RFC 4787, REQ-5; RFC 5382, REQ-5).
+//! The lifetimes of bindings and flows (RFC 4787, REQ-5; RFC 5382, REQ-5).
 
 ghost use Rattle.std.specs.{Prelude.{◌≡◌, ◌≤◌, ◌<◌, ◌+◌, ◌*◌, ◌^◌, ℕ, true, false, filter}, List.list_any};
 ghost use Rattle.napt_rules.specs.Life as life;
@@ -22,7 +22,7 @@ pub fn is_recent(now: u64, last: u64, seconds: u64) -> bool
     now.saturating_sub(last) < seconds * SECOND
 }
 
-/// Returns the last time (ns) at which what was used at `last` is live, at most `u64::MAX`.
+/// Returns the last time (ns) less than `seconds` seconds after `last` (ns), at most `u64::MAX`.
 pub(crate) fn last_moment(last: u64, seconds: u64) -> u64
     requires some { 0 < seconds }
     requires few { seconds ≤ 1_000_000_000 }
@@ -65,7 +65,7 @@ pub fn is_live_flow(flow: &Flow, timers: IdleTimers, now: u64) -> bool
     is_recent(now, flow.last, idle(flow.marks, timers))
 }
 
-/// Returns whether a flow stands: under TCP a live one; any other lives as long as its binding.
+/// Returns whether a flow stands at `now` (ns): a TCP flow if it is live, any other flow always.
 pub(crate) fn is_standing(flow: &Flow, timers: IdleTimers, now: u64, protocol: Protocol) -> bool
     ensures { result ≡ is_standing timers now protocol flow.now }
 {
@@ -75,8 +75,8 @@ pub(crate) fn is_standing(flow: &Flow, timers: IdleTimers, now: u64, protocol: P
     }
 }
 
-/// Returns whether the binding is live at `now` (ns): it, or under TCP one of its flows, was used less than
-/// its timer ago (RFC 4787, REQ-5 and REQ-6; RFC 5508, REQ-2; RFC 5382, REQ-5). A redirect always is.
+/// Returns whether a binding is live at `now` (ns): it is a redirect, or it or (for TCP) a flow was
+/// used less than its timer ago (RFC 4787 REQ-5 and REQ-6; RFC 5508 REQ-2; RFC 5382 REQ-5).
 #[inline(always)]
 pub fn is_live(binding: &TableBinding, timers: IdleTimers, now: u64) -> bool
     ensures { result ≡ life.is_live timers now binding.now }
@@ -91,7 +91,7 @@ pub fn is_live(binding: &TableBinding, timers: IdleTimers, now: u64) -> bool
     }
 }
 
-/// Returns when the binding ends if no packet goes through it: the first time, in ns, at which it
+/// Returns the end of the binding if no packet goes through it: the first time, in ns, at which it
 /// is not live. Returns `None` for a redirect, which never ends.
 pub fn end_of(binding: &TableBinding, timers: IdleTimers) -> Option<u128>
     ensures { result ≡ end_of timers binding.now }
@@ -107,8 +107,8 @@ pub fn end_of(binding: &TableBinding, timers: IdleTimers) -> Option<u128>
     Some(end)
 }
 
-/// Returns a time (ns) until which a live binding is sure to live, whatever packets come: at least `now`, and
-/// no later than a packet at `now` would let it live. If it is no redirect, it is the last such time.
+/// Returns a time (ns) from `now` on up to which a live binding lives, whatever packets come, but
+/// not after a packet at `now` would let it live: the last such time, except for a redirect.
 pub fn until(binding: &TableBinding, timers: IdleTimers, now: u64) -> u64
     requires live { life.is_live timers now binding.now ≡ true }
     ensures later { now ≤ result }

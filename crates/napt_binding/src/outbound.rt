@@ -1,4 +1,4 @@
-//! What an outgoing packet does to the flow of its remote.
+//! The change of a remote's flow by an outgoing packet.
 
 ghost use Rattle.std.specs.Prelude.{◌≡◌};
 ghost use Rattle.napt_rules.specs.Prelude as rules;

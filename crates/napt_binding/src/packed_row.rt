@@ -6,7 +6,7 @@ use napt_rules::Row;
 use napt_wire::{Endpoint, Protocol};
 use std::marker::Model;
 
-/// A row in 16 bytes, without the padding of its endpoints; contracts see a `Row`.
+/// A row in 16 bytes, without the padding of its endpoints. Contracts see a `Row`.
 #[derive(Drop)]
 pub struct PackedRow {
     inside_address: u32,

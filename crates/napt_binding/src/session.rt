@@ -15,14 +15,14 @@ pub(crate) const NO_MARKS: SessionMarks = SessionMarks {
     reset: false,
 };
 
-/// Returns whether the flow is closing: it was reset, or a FIN was seen each way.
+/// Returns whether the flow is closing: it was reset, or a FIN was seen in each direction.
 fn is_closing(marks: SessionMarks) -> bool
     ensures { result ≡ rules.is_closing marks }
 {
     marks.reset || (marks.fin_out && marks.fin_in)
 }
 
-/// Returns whether the session is established: a SYN was seen each way, and it is not closing.
+/// Returns whether the session is established: a SYN was seen in each direction, and no closing.
 pub(crate) fn is_established(marks: SessionMarks) -> bool
     ensures { result ≡ rules.is_established marks }
 {

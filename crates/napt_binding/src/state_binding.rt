@@ -34,7 +34,7 @@ fn is_live(binding: &StateBinding, timers: IdleTimers, now: u64) -> bool
     }
 }
 
-/// Returns the binding of a state without expired flows, or `None` if it is not live at `now` (ns).
+/// Returns the binding without expired flows if live at `now` (ns). Fails if memory is refused.
 pub fn from_state(
     alloc: Global,
     binding: &StateBinding,
@@ -57,7 +57,7 @@ pub fn from_state(
     }))
 }
 
-/// Returns the binding as a state has it, without the flows that have expired at `now` (ns).
+/// Returns the state's binding without flows expired at `now` (ns). Fails if memory is refused.
 pub fn to_state(
     alloc: Global,
     binding: &TableBinding,

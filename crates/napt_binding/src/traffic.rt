@@ -1,4 +1,4 @@
-//! What packets do to one binding.
+//! Sends and receives packets through one binding.
 
 ghost use Rattle.std.specs.Prelude.{◌≡◌, true, OnOk, OnErr};
 ghost use Rattle.napt_rules.specs.Filtering as filtering;
@@ -17,7 +17,7 @@ use napt_rules::{Flow, InboundPacket, InboundRules, OutboundPacket};
 use napt_wire::{Cause, Endpoint, Flags, Protocol, Way};
 use std::alloc::{AllocError, Global};
 
-/// Returns a flow of the remote that begins now, without marks.
+/// Returns a flow of the remote that begins at `now` (ns), without marks.
 pub(crate) fn fresh_flow(remote: Endpoint, now: u64) -> Flow
     ensures { result ≡ record { remote = remote; marks = marks.no_marks; last = now } }
 {
@@ -35,7 +35,7 @@ pub(crate) fn is_flow_of(flow: &Flow, remote: Endpoint) -> bool
     flow.remote == remote
 }
 
-/// Returns the flow, used now and, under TCP, with the marks of the segment.
+/// Returns the flow, used at `now` (ns) and, for TCP, with the marks of the segment added.
 pub(crate) fn used(flow: Flow, protocol: Protocol, way: Way, flags: Flags, now: u64) -> Flow
     ensures { result ≡ traffic.flow_after protocol way flags now flow }
 {
@@ -64,8 +64,8 @@ fn permits(binding: &TableBinding, inbound: InboundRules, remote: Endpoint) -> b
     }
 }
 
-/// Sends a packet out through the binding, under the binding's protocol. A redirect does not
-/// change. Expired flows may stay and have no effect. No flow may have been used after the packet's
+/// Sends a packet of the binding's protocol out through the binding. A redirect does not change.
+/// Expired flows may remain and have no effect. No flow may have been used after the packet's
 /// time. Returns `AllocError`, and changes nothing, if memory for a new flow is refused.
 pub fn send(
     binding: &mut TableBinding,
@@ -113,9 +113,9 @@ fn receive(binding: &mut TableBinding, inbound: InboundRules, packet: InboundPac
     }
 }
 
-/// Receives a packet through the binding, under the binding's protocol, and removes expired flows.
+/// Receives a packet of the binding's protocol through the binding, and removes expired flows.
 /// Returns the inside endpoint, or `Cause::Filtered` if the filter refuses the remote (RFC 4787,
-/// REQ-8). No flow may have been used after the packet's time. Takes no memory.
+/// REQ-8). No flow may have been used after the packet's time. Allocates no memory.
 pub fn purge_and_receive(
     binding: &mut TableBinding,
     timers: IdleTimers,

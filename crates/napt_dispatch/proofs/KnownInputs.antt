@@ -1,4 +1,4 @@
--- What is known of the inputs that were read.
+-- The known progress of the inputs that were read.
 use Rattle.std.proofs.lemmas.{Grind.common_steps, Bool.Decides.nat_tests}
 use Rattle.std.proofs.Common.{◌≡◌, ◌⊎◌, inl, inr, ℕ, zero, suc, ◌+◌, ◌<◌, ◌≤◌, Bool, true, false, List, [], ◌∷◌, ◌++◌, length, map, set, get_or, Option, Some, None, option_to_list, refl, sym, ◌∙◌, ap, subst, arith, append-nil, append_assoc, length-append}
 use Rattle.std.{specs.Prelude.{IfSome, slice_get, slice_set}, proofs.lemmas.List.{map-set, map-append, get_or-map, length-map}}
@@ -110,7 +110,7 @@ second_known whole progress number second goes asks known =
 abbrev window_of : {P : Type 0} → List (ℕ × InputResult P) → List (OpenInput P) → RunProgressModel P
 window_of left items = record { left = left; under_way = items }
 
--- What is read of all inputs if one open input changes.
+-- The list that is read from all inputs if one open input changes.
 module _ {P X : Type 0} (f : ℕ × InputResult P → X) (h : OpenInput P → X) (left : List (ℕ × InputResult P))
     (items : List (OpenInput P)) (number place : ℕ) (later : OpenInput P) where
   reads_set : (x : X) → number ≡ length left + place → h later ≡ x →

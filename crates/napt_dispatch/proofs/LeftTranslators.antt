@@ -1,4 +1,4 @@
--- The state that the translators hold after a run.
+-- The state that the translators have after a run.
 use Rattle.std.proofs.{lemmas.{List.length-map, Option.{slice_get-map, slice_get_within, slice_get_cases}}, Common.{◌≡◌, ℕ, max, List, length, map, ◌∙◌, ap, arith, inl, inr}}
 use Rattle.std.specs.Option.{option_map}
 use Rattle.napt_config.specs.{Rules.Rules, declared.settings.Timers.Timers}

@@ -1,4 +1,4 @@
--- What holds of a worker after legs were offered to it and answers taken from it.
+-- Properties of a worker after legs were offered to it and answers were taken from it.
 use Rattle.std.{proofs.lemmas.{Grind.common_steps, Bool.{Decides.nat_tests, cases_lt}, List.length-map}, specs.Prelude.slice_set}
 use Rattle.std.proofs.Common.{◌≡◌, ◌≢◌, ◌⊎◌, ◌||◌, ℕ, zero, suc, ◌+◌, ◌<◌, ◌≤◌, min, Bool, true, false, List, [], ◌∷◌, ◌++◌, length, map, take, drop, length-append, length-drop, take-append-drop, Option, refl, sym, ◌∙◌, ap, subst, arith}
 use Rattle.napt_rules.specs.{Prelude.effect_from, declared.Leg.Leg}

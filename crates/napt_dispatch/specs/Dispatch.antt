@@ -1,7 +1,7 @@
 -- The legs that a dispatcher offers to its workers, and the answers that it takes from them.
 --
--- As long as the answers are right, they are the run's, and so the next leg offered is the run's next leg. That they
--- are right is a premise here. It is proved once the workers are joined.
+-- As long as the answers are right, they are those of the run, and the next leg offered is that of the run. It is a
+-- premise here that they are right, which is proved once the workers are joined.
 use Rattle.std.specs.Prelude.{◌≡◌, ⊤, ℕ, zero, suc, ◌<◌, ◌≤◌, max, Bool, true, false, List, [], ◌∷◌, ◌++◌, map, length, slice_index, slice_index_or, Result, Ok, Err}
 use Rattle.napt_config.specs.Rules.{Rules}
 use Rattle.napt_rules.specs.{Prelude.{bindings_at, live_and_held, Arrival, rows, State, initial_state, effect_from, legs_at, LocalState}, declared.{Row.Row, Leg.Leg, Outcome.Outcome}}
@@ -15,22 +15,22 @@ use Rattle.napt_laws.specs.Dispatching.{IsFrontOf}
 
 -- WORKERS
 
--- The bindings of a state at one external address, and the clock of the state, in ns.
+-- Returns the bindings of a state at one external address, and the clock of the state, in ns.
 abbrev pub local_bindings : State → ℕ → LocalState
 local_bindings start address = record { list = bindings_at address start.list; at = start.clock }
 
--- The translators of the first n addresses of the pool, each with the bindings of the state at its address.
+-- Returns the translators of the first n addresses of the pool, each with the bindings of the state at its address.
 abbrev pub started_from : Rules → State → ℕ → List TranslatorModel
 started_from rules start zero = []
 started_from rules start (suc n) =
     started_from rules start n ++ with_local_state (initial_translator n rules)
     (local_bindings start (slice_index rules.pool n)) ∷ []
 
--- The translators of the first n addresses of the pool before any leg.
+-- Returns the translators of the first n addresses of the pool before any leg.
 abbrev pub started_translators : Rules → ℕ → List TranslatorModel
 started_translators rules n = started_from rules (initial_state rules) n
 
--- The list of worker w, in a list with one list for each worker.
+-- Returns the list of worker w, from a list with one list for each worker.
 abbrev pub of_worker : {X : Type 0} → List (List X) → ℕ → List X
 of_worker lists w = slice_index_or lists w []
 
@@ -46,17 +46,17 @@ IsDispatchFault open_gate faults.Memory = ⊤
 IsDispatchFault open_gate faults.TooMany = ⊥
 IsDispatchFault open_gate (faults.Pool fault) = IsFaultOf (λ w. ⊤) fault × (open_gate ≡ true → is_shut fault ≡ false)
 
--- The bindings of a translator that are live at `now` or at its own time, whichever is later, in ns.
+-- Returns the rows of a translator that are live at the later of `now` and its own time, in ns.
 abbrev pub rows_after : ℕ → TranslatorModel → List Row
 rows_after now state = rows state.rules.timers (max now state.table.at) state.table.list
 
--- The translator holds the bindings of its address in the state: those that are live or held at the state's clock.
+-- The translator has the bindings of its address in the state, which are live or held at the state's clock.
 pub record IsLeftWith (rules : Rules) (state : State) (address : ℕ) (translator : TranslatorModel) : Type 0 where
   pub timers : translator.rules.timers ≡ rules.timers
   pub past : translator.table.at ≤ state.clock
   pub taken_are : live_and_held rules.timers state.clock translator.table.list ≡ bindings_at address state.list
 
--- WHAT IS OFFERED AND ANSWERED
+-- OFFERS AND ANSWERS
 
 -- The answers taken from each worker, with their records, are its translator's first answers to the legs offered to it.
 abbrev pub AnswersAreRight : {P : Type 0} → (Passage → P) → Rules → State → List (List Leg) →
@@ -69,7 +69,7 @@ AnswersAreRight tells rules start offered taken =
 
 -- THE RESULTS OF INPUTS
 
--- The result of an input from its step in the run; `tells` gives the record of each leg.
+-- Returns the result of an input from its step in the run. `tells` gives the record of each leg.
 abbrev pub input_result : {P : Type 0} → (Passage → P) → StepResult → InputResult P
 input_result tells step = record {
   outcome = step.outcome;

@@ -1,8 +1,8 @@
 -- The invariant of dispatching.
 --
 -- The legs that a worker was offered, followed by those that are held for it, are its legs of the run over the inputs
--- read so far. A placeholder stands for a second leg (RFC 4787, REQ-9) until the answer to the first leg is known.
--- That the answers are right is a premise here. It is proved once the workers are joined.
+-- read so far. A placeholder replaces a second leg (RFC 4787, REQ-9) until the answer to the first leg is known. It is
+-- a premise here that the answers are right, which is proved once the workers are joined.
 use Rattle.std.specs.Prelude.{◌≡◌, ◌≢◌, ◌⊎◌, ℕ, ◌+◌, ◌<◌, ◌≤◌, ◌==◌, max, Bool, true, false, if◌then◌else◌, List, [], ◌∷◌, ◌++◌, map, flat_map, length, slice_index, slice_get, Option, Some, None, Result, MatchResult}
 use Rattle.napt_config.specs.Rules.{Rules}
 use Rattle.napt_rules.specs.{Prelude.{Arrival, LegAct, State, last_clock, effect_from, legs_at}, declared.Leg.Leg}
@@ -33,7 +33,7 @@ pub record DispatcherModel (P : Type 0) : Type 0 where
   pub lane : ℕ → Lane P
   pub progress : List (InputProgress P)
 
--- The state of `d`, if these are the legs that each worker was offered and the answers that were taken from it.
+-- Returns the state of `d`, given the legs that each worker was offered and the answers that were taken from it.
 abbrev pub state_with : {P : Type 0} → (ℕ → List Leg) → (ℕ → List (TracedAnswer P)) → Dispatcher P → DispatcherModel P
 state_with offered taken d = record {
   many = length d.queues;
@@ -44,7 +44,7 @@ state_with offered taken d = record {
 abbrev pub dispatcher_state : {P M G : Type 0} → Pool M G Leg (TracedAnswer P) → Dispatcher P → DispatcherModel P
 dispatcher_state pool d = state_with (of_worker (accepted_items pool)) (of_worker (taken_answers pool)) d
 
--- The lists of all workers, where `xs` is appended to the list of worker w.
+-- Returns the lists of all workers, with `xs` appended to the list of worker w.
 abbrev pub with_more_at : {X : Type 0} → ℕ → List X → (ℕ → List X) → ℕ → List X
 with_more_at w xs lists v = if v == w then lists v ++ xs else lists v
 
@@ -63,16 +63,16 @@ pub record IsOwed {P : Type 0} (offered : List Leg) (taken : List (TracedAnswer 
 abbrev pub LaneStands : {P : Type 0} → Lane P → Type 0
 LaneStands lane = IsOwed lane.offered lane.taken lane.queue.offered lane.queue.owed
 
--- The legs that a queue entry becomes: the leg itself, or the second leg, if there is one, for a placeholder.
+-- Returns the legs that a queue entry becomes: the leg itself or, for a placeholder, the second leg, if there is one.
 abbrev pub resolved_legs : List LegAct → PendingLeg → List Leg
 resolved_legs acts (Ready leg) = leg ∷ []
 resolved_legs acts (Place number) = second_legs number acts
 
--- The legs of a next message, followed by the legs that the entries held after them become.
+-- Returns the legs of a next message, followed by the legs that the entries held after them become.
 abbrev pub turned_legs : List LegAct → List Leg → List PendingLeg → List Leg
 turned_legs acts ready held = ready ++ flat_map (resolved_legs acts) held
 
--- The legs that a worker was offered, followed by those that are held for it.
+-- Returns the legs that a worker was offered, followed by those that are held for it.
 abbrev pub lane_legs : {P : Type 0} → List LegAct → Lane P → List Leg
 lane_legs acts lane = lane.offered ++ turned_legs acts lane.queue.ready lane.queue.held
 
@@ -84,7 +84,7 @@ IsRight tells rules start w lane = let address : ℕ = slice_index rules.pool w 
 abbrev pub AreRight : {P : Type 0} → (Passage → P) → Rules → State → DispatcherModel P → Type 0
 AreRight tells rules start state = (w : ℕ) → w < length rules.pool → IsRight tells rules start w (state.lane w)
 
--- What holds if the answers are right: each lane has the run's legs for `done`, and the progress agrees with the run.
+-- The consequence of right answers: each lane has the run's legs for `done`, and the progress agrees with the run.
 pub record DispatcherReaches {P : Type 0} (tells : Passage →
     P) (rules : Rules) (start : State) (done all : List Arrival)
     (state : DispatcherModel P) : Type 0 where
@@ -109,7 +109,7 @@ DispatcherKeeps tells state later = (rules : Rules) (start : State) (done all : 
 
 -- WITH A POOL
 
--- The arrival times of the inputs that were read, in ns, and the results that left the window.
+-- Returns the arrival times of the inputs that were read, in ns, and the results that left the window.
 abbrev pub journal_of : {P : Type 0} → RunProgressModel P → List ℕ × List (ℕ × InputResult P)
 journal_of window = (times_in window, window.left)
 
@@ -127,7 +127,7 @@ abbrev pub KeepsAt : {P M G : Type 0} → (Passage → P) → Pool M G Leg (Trac
 KeepsAt tells pool d later_pool later = (rules : Rules) (start : State) (done all : List Arrival) →
     StandsAt tells rules start done all pool d → StandsAt tells rules start done all later_pool later
 
--- The pool has the same workers. The lists of offered legs and of taken answers stay, and may be longer.
+-- The pool has the same workers. The lists of offered legs and of taken answers are the same or longer.
 pub record PoolGrows {P M G : Type 0} (pool later_pool : Pool M G Leg (TracedAnswer P)) : Type 0 where
   pub starts_stay : initial_machines later_pool ≡ initial_machines pool
   pub offered : (w : ℕ) → IsFrontOf (of_worker (accepted_items pool) w) (of_worker (accepted_items later_pool) w)
@@ -183,7 +183,7 @@ IsSecondOf {P} number input later (Some leg) = (first : P)
     × (later ≡ record input { progress = Returning first; has_place = false })
     × (second_leg_asked number input.progress ≡ Some leg) × (first_in input.progress ≡ Some first)
 
--- The same for an input that is given by its number and has this second leg.
+-- The same holds of an input that is given by its number and has this second leg.
 pub record Returns {P : Type 0} (number : ℕ) (window later : RunProgressModel P) (leg : Leg) : Type 0 where
   pub asks : AsksForSecondLeg number (progress_in window) (Some leg)
   pub first : P
@@ -197,7 +197,7 @@ IsSecond number window later None = InputIsMarked number false window later ×
     AsksForSecondLeg number (progress_in window) None
 IsSecond number window later (Some leg) = Returns number window later leg
 
--- If it was undecided whether an input has a second leg, it still is.
+-- If it was unknown whether an input has a second leg, it still is.
 abbrev pub Forgets : {P : Type 0} → List (InputProgress P) → List (InputProgress P) → Type 0
 Forgets progress later = (number : ℕ) → is_unknown (slice_get progress number) ≡ true →
     is_unknown (slice_get later number) ≡ true
@@ -212,7 +212,7 @@ queue_waits progress fronts.Nothing = true
 queue_waits progress fronts.FirstLeg = false
 queue_waits progress (fronts.FirstPlace number) = is_unknown (slice_get progress number)
 
--- The same for the entries of worker w that are held after the legs of its next message.
+-- Returns the same for the entries of worker w that are held after the legs of its next message.
 abbrev pub waits_behind : {P : Type 0} → Dispatcher P → ℕ → Bool
 waits_behind d w = queue_waits (progress_in d.progress) (front_of (queue_of d.queues w).held)
 
@@ -231,12 +231,12 @@ Admits {P} tells rules number now input d later =
     DispatcherInvariant tells rules start (done ++ input ∷ []) ((done ++ input ∷ []) ++ rest)
     (state_with offered taken later)
 
--- For `true`, answers were taken, so fewer are owed. For `false`, nothing changed.
+-- If the flag is true, answers were taken, and fewer are owed. Otherwise, nothing changed.
 abbrev pub HasTaken : {P : Type 0} → Dispatcher P → Dispatcher P → Bool → Type 0
 HasTaken d later true = owed_count later.queues < owed_count d.queues
 HasTaken d later false = NothingMoved d later
 
--- These answers of worker w were recorded. The invariant is kept, whatever was offered and answered before.
+-- These answers of worker w were recorded, and the invariant is preserved, whatever was offered and answered before.
 pub record NoteAnswersPost {P : Type 0} (tells : Passage →
     P) (w : ℕ) (answers : List (TracedAnswer P)) (d later : Dispatcher P)
     : Type 0 where
@@ -247,14 +247,14 @@ pub record NoteAnswersPost {P : Type 0} (tells : Passage →
 
 -- OFFERS
 
--- Legs that were held first moved to the end of the next message, so that their number and their order stay.
+-- Legs that were held first moved to the end of the next message. The number and the order of the legs did not change.
 pub record MovesLegs (q later : WorkerQueueModel) : Type 0 where
   pub same : later ≡ record q { ready = later.ready; held = later.held }
   pub legs_stay : (acts : List LegAct) → turned_legs acts later.ready later.held ≡ turned_legs acts q.ready q.held
   pub count_stays : held_legs_count later ≡ held_legs_count q
   pub shorter : length later.held ≤ length q.held
 
--- The same for the queues of worker w, where the queues of the others stay.
+-- The same holds of the queues of worker w, and the queues of the others did not change.
 pub record MovesLegsAt (w : ℕ) (queues later : List WorkerQueueModel) : Type 0 where
   pub queue : WorkerQueueModel
   pub moves : MovesLegs (queue_of queues w) queue

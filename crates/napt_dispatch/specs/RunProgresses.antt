@@ -1,4 +1,4 @@
--- The progress of the inputs that were read: of those whose outcomes have left the window, and of the open ones.
+-- The progress of the inputs that were read: those whose outcomes have left the window, and the open ones.
 use Rattle.std.specs.Prelude.{◌≡◌, ℕ, ◌≤◌, ◌++◌, List, [], ◌∷◌, length, Bool, true, false, Option, Some, None, IfSome, is_some, option_to_list, map, slice_get, slice_set}
 use Rattle.napt_wire.specs.declared.{Cause.Cause, Way.{Way, TheVariants.{Outgoing, Incoming}}}
 use Rattle.napt_config.specs.Rules.{Rules}
@@ -23,13 +23,13 @@ end_of_answer (outcomes.ToOutside packet) = ends.ToOutside packet
 end_of_answer (outcomes.ToInside packet) = ends.ToInside packet
 end_of_answer (outcomes.Dropped cause) = ends.Dropped cause
 
--- The progress of an input that ended with this result and awaits no second leg.
+-- Returns the progress of an input that ended with this result and awaits no second leg.
 abbrev pub progress_ended : {P : Type 0} → InputResult P → InputProgress P
 progress_ended departed =
     Answered (record { way = Incoming; now = departed.now }) (end_of_answer departed.outcome) departed.first
     departed.second
 
--- The result of an input that has no leg and is dropped. `none` is the record of a leg that does not exist.
+-- Returns the result of an input that is dropped without a leg. `none` is the record of a leg that does not exist.
 abbrev pub refused_at : {P : Type 0} → P → ℕ → Cause → InputResult P
 refused_at none now cause = record { outcome = outcomes.Dropped cause; now = now; first = none; second = none }
 
@@ -52,25 +52,25 @@ progress_arrived input = input.time
 abbrev pub mark_of : {P : Type 0} → OpenInput P → Bool
 mark_of input = input.has_place
 
--- The progress of all inputs that were read, in their order.
+-- Returns the progress of all inputs that were read, in their order.
 abbrev pub progress_in : {P : Type 0} → RunProgressModel P → List (InputProgress P)
 progress_in window = map ended_in window.left ++ map known_in window.under_way
 
--- The arrival times of all inputs that were read, in ns.
+-- Returns the arrival times of all inputs that were read, in ns.
 abbrev pub times_in : {P : Type 0} → RunProgressModel P → List ℕ
 times_in window = map time_in window.left ++ map progress_arrived window.under_way
 
--- For each input that was read, whether it is marked: a placeholder is held for its second leg.
+-- Returns the mark of each input that was read, which is true while a placeholder is held for its second leg.
 abbrev pub marks_in : {P : Type 0} → RunProgressModel P → List Bool
 marks_in window = map unmarked window.left ++ map mark_of window.under_way
 
--- The result of an input at a time, in ns, if its outcome is known, with the records of its two legs.
+-- Returns the result of an input at a time, in ns, with the records of its two legs, if its outcome is known.
 abbrev pub departed_with : {P : Type 0} → ℕ → P → P → Option Outcome → Option (InputResult P)
 departed_with now first second None = None
 departed_with now first second (Some outcome) =
     Some (record { outcome = outcome; now = now; first = first; second = second })
 
--- The result of an input, if it is known.
+-- Returns the result of an input, if it is known.
 abbrev pub departed_in : {P : Type 0} → InputProgress P → Option (InputResult P)
 departed_in (Answered owed end first second) = departed_with owed.now first second (outcome_of_end end)
 departed_in _ = None
@@ -82,7 +82,7 @@ abbrev pub is_incoming : Way → Bool
 is_incoming Incoming = true
 is_incoming Outgoing = false
 
--- It is undecided if the input has a second leg (RFC 4787, REQ-9). Also true after an incoming leg, or of no input.
+-- Returns whether it is unknown if an input has a second leg (RFC 4787, REQ-9), also after an incoming leg or for none.
 abbrev pub is_unknown : {P : Type 0} → Option (InputProgress P) → Bool
 is_unknown (Some (Answered owed end first second)) = is_incoming owed.way
 is_unknown _ = true
@@ -99,20 +99,20 @@ FirstIsComplete (first ∷ rest) = (has_ended first.progress ≡ true) × (first
 
 -- STEPS
 
--- One more input was read, which arrived at `time`, in ns, and whose first leg has this direction.
+-- Returns the progress after one more input was read, which arrived at `time`, in ns, and goes this way first.
 abbrev pub progress_expecting : {P : Type 0} → ℕ → Way → RunProgressModel P → RunProgressModel P
 progress_expecting time way window = record window {
   under_way = window.under_way ++ record { time = time; progress = Awaited way; has_place = false } ∷ [];
 }
 
--- The records of the first and second leg, where `passage` is that of an awaited leg with this direction; else `None`.
+-- Returns the records of both legs, where `passage` is that of an awaited leg with this direction, or `None`.
 abbrev pub passages_after : {P : Type 0} → P → InputProgress P → Way → P → Option (P × P)
 passages_after none (Awaited Outgoing) Outgoing passage = Some (passage, none)
 passages_after none (Awaited Incoming) Incoming passage = Some (passage, none)
 passages_after none (Returning first) Incoming passage = Some (first, passage)
 passages_after none _ _ passage = None
 
--- The progress of the input with this number was set. The results that left and the arrival times stay.
+-- The progress of the input with this number was set. The results that left and the arrival times did not change.
 pub record ProgressIsWritten {P : Type 0} (number : ℕ) (progress : InputProgress P)
     (window later : RunProgressModel P) : Type 0 where
   pub left_stays : later.left ≡ window.left
@@ -152,7 +152,7 @@ whole_of tells rules start inputs = record {
   firsts = map (λ trace. tells trace.first) (traces_of rules start inputs);
 }
 
--- The second leg that an answer asks for: one if the packet goes onward (RFC 4787, REQ-9), otherwise none.
+-- Returns the second leg that an answer requires: one if the packet goes onward (RFC 4787, REQ-9), otherwise none.
 abbrev pub second_leg_asked_by : ℕ → ℕ → End → Option Leg
 second_leg_asked_by number now (ends.Onward place packet) =
     Some (record { number = number; now = now; way = Incoming; packet = packet })
@@ -168,7 +168,7 @@ pub record AsksForSecondLeg {P : Type 0} (number : ℕ) (progress : List (InputP
   pub there : slice_get progress number ≡ Some p
   pub asked_is : second_leg_asked number p ≡ second
 
--- The record of the first leg, as long as a second leg is to follow.
+-- Returns the record of the first leg, if a second leg is to follow.
 abbrev pub first_by : {P : Type 0} → P → End → Option P
 first_by first (ends.Onward place packet) = Some first
 first_by first _ = None
@@ -183,7 +183,7 @@ abbrev pub NoneBehind : Way → List Leg → Type 0
 NoneBehind Outgoing legs = Unit {0}
 NoneBehind Incoming legs = legs ≡ []
 
--- What the progress of an input says of its second legs in the run is true.
+-- The progress of an input agrees with its second legs in the run.
 abbrev pub KnowsSecond : {P : Type 0} → List Leg → ℕ → InputProgress P → Type 0
 KnowsSecond legs number (Awaited way) = NoneBehind way legs
 KnowsSecond legs number (Returning first) = (leg : Leg) × (legs ≡ leg ∷ [])
@@ -199,7 +199,7 @@ pub record ProgressIsKnown {P : Type 0} (whole : RunLegs P) (number : ℕ) (prog
 abbrev pub AllKnown : {P : Type 0} → RunLegs P → List (InputProgress P) → Type 0
 AllKnown {P} whole progress = (i : ℕ) (p : InputProgress P) → slice_get progress i ≡ Some p → ProgressIsKnown whole i p
 
--- These results left the window. The arrival times and marks stay, and the progress still agrees with any run.
+-- These results left the window. The arrival times and marks did not change, and the progress still agrees with a run.
 pub record OutcomesAreHandedOver {P : Type 0} (went : List (ℕ × InputResult P)) (window later : RunProgressModel P) :
     Type 0 where
   pub left_is : later.left ≡ window.left ++ went

@@ -14,13 +14,13 @@ use Rattle.napt_dispatch.specs.declared.faults.DispatchFault.TheVariants as disp
 use Rattle.napt_dispatch.specs.declared.dispatcher.DispatchEnd.TheVariants as endings
 use Rattle.napt_dispatch.specs.declared.faults.PassFault.TheVariants as pass_faults
 
--- OUTCOMES THAT ARE WRITTEN
+-- WRITTEN OUTCOMES
 
--- The results of inputs, each with the arrival time of its input, in ns.
+-- Returns the results of inputs, each with the arrival time of its input, in ns.
 abbrev pub timed_results : {X : Type 0} → List Arrival → List X → List (ℕ × X)
 timed_results inputs xs = zip_with (λ input x. (input.time, x)) inputs xs
 
--- A relation of a sink before and after it accepts these results. `Failing` also has the fault with which that ended.
+-- A relation of a sink before and after it accepts results. `Failing` also has the fault with which that ended.
 abbrev pub OutcomeTaking : Type 0 → Type 0 → Type 1
 OutcomeTaking P S = S → List (ℕ × InputResult P) → S → Type 0
 
@@ -141,7 +141,7 @@ pub record ReadInputsPost {P M G : Type 0} (tells : Passage → P) (rules : Rule
       DispatcherInvariant tells rules start [] (inputs ++ rest) (dispatcher_state pool d) →
       DispatcherInvariant tells rules start inputs (inputs ++ rest) (dispatcher_state later_pool later)
 
--- These inputs came, perhaps followed by the end of the inputs or a fault of the input source.
+-- The source returned these inputs, perhaps followed by the end of the inputs or a fault.
 abbrev pub HasCome : {A F : Type 0} → (A → List Arrival → A → Type 0) → (A → Option F → A → Type 0) → A → List Arrival →
     A → Type 0
 HasCome {A} {F} hands ends before inputs after =

@@ -5,33 +5,33 @@ use Rattle.napt_rules.specs.declared.Leg.{Leg}
 use Rattle.napt_dispatch.specs.declared.dispatcher.holding.{QueueHead.QueueHead, PendingLeg.{PendingLeg, TheVariants.{Ready, Place}}, AwaitedLeg.AwaitedLeg}
 use Rattle.napt_dispatch.specs.declared.dispatcher.holding.QueueHead.TheVariants as fronts
 
--- One worker: the number of legs offered, those not answered yet, the next message, and what is held after it.
+-- One worker: the number of legs offered, those not answered yet, the next message, and the entries held after it.
 pub record WorkerQueueModel : Type 0 where
   pub offered : ℕ
   pub owed : List AwaitedLeg
   pub ready : List Leg
   pub held : List PendingLeg
 
--- The queues of a worker before any offer.
+-- Returns the queues of a worker before any offer.
 abbrev pub unused_queue : WorkerQueueModel
 unused_queue = record { offered = 0; owed = []; ready = []; held = [] }
 
--- The queues of worker w.
+-- Returns the queues of worker w.
 abbrev pub queue_of : List WorkerQueueModel → ℕ → WorkerQueueModel
 queue_of queues w = slice_index_or queues w unused_queue
 
--- The number of legs that were offered to each worker.
+-- Returns the number of legs that were offered to each worker.
 abbrev pub counts_in : List WorkerQueueModel → List ℕ
 counts_in queues = map (λ q. q.offered) queues
 
--- All entries that are held for a worker, oldest first, and their number.
+-- Returns all entries that are held for a worker, oldest first. `held_legs_count` is their number.
 abbrev pub all_held : WorkerQueueModel → List PendingLeg
 all_held q = map (λ leg. Ready leg) q.ready ++ q.held
 
 abbrev pub held_legs_count : WorkerQueueModel → ℕ
 held_legs_count q = length q.ready + length q.held
 
--- The number of legs that are not answered yet, and the number of entries held, over all workers.
+-- Returns the number of legs of all workers that are not answered yet. `many_held` is the number of all held entries.
 abbrev pub owed_count : List WorkerQueueModel → ℕ
 owed_count queues = sum_by (λ q. length q.owed) queues
 
@@ -45,7 +45,7 @@ pub record AreQueuesCounted (many : ℕ) (queues : List WorkerQueueModel) : Type
   pub some : 0 < length queues
   pub numbered : length queues < 2 ^ 32
 
--- The kind of the first entry of a queue.
+-- Returns the kind of the first entry of a queue.
 abbrev pub front_of : List PendingLeg → QueueHead
 front_of [] = fronts.Nothing
 front_of (Ready leg ∷ rest) = fronts.FirstLeg
@@ -56,7 +56,7 @@ owed_of leg = record { way = leg.way; now = leg.now }
 
 -- STEPS
 
--- The queues of worker w change, and those of the others stay.
+-- Returns the queues after a change of those of worker w alone.
 abbrev pub with_queue : ℕ → (WorkerQueueModel → WorkerQueueModel) → List WorkerQueueModel → List WorkerQueueModel
 with_queue w change queues = slice_set queues w (change (queue_of queues w))
 
@@ -70,7 +70,7 @@ pub record HoldPost (more : List PendingLeg) (q later : WorkerQueueModel) : Type
 abbrev pub AllHold : (ℕ → List PendingLeg) → List WorkerQueueModel → List WorkerQueueModel → Type 0
 AllHold more queues later = (v : ℕ) → HoldPost (more v) (queue_of queues v) (queue_of later v)
 
--- The entries for worker w alone: none for any other worker.
+-- Returns the entries for worker w, and none for any other worker.
 abbrev pub only_at : ℕ → List PendingLeg → ℕ → List PendingLeg
 only_at w more v = if v == w then more else []
 
@@ -78,7 +78,7 @@ abbrev pub lane_at : ℕ → Option ℕ → ℕ → List PendingLeg
 lane_at number None v = []
 lane_at number (Some w) v = only_at w (Place number ∷ []) v
 
--- The leg that the first held entry adds to the next message: its own, or `second` in place of a placeholder.
+-- Returns the leg that the first held entry adds to the next message: its own, or `second` instead of a placeholder.
 abbrev pub first_held_leg : Option Leg → List PendingLeg → List Leg
 first_held_leg second [] = []
 first_held_leg second (Ready leg ∷ rest) = leg ∷ []
@@ -87,7 +87,7 @@ first_held_leg second (Place number ∷ rest) = option_to_list second
 abbrev pub queue_readied : Option Leg → WorkerQueueModel → WorkerQueueModel
 queue_readied second q = record q { ready = q.ready ++ first_held_leg second q.held; held = drop 1 q.held }
 
--- These legs, the first of the next message, were offered, and their answers are owed.
+-- Returns the queues after these legs, the first of the next message, were offered, so that their answers are owed.
 abbrev pub with_offers : List Leg → WorkerQueueModel → WorkerQueueModel
 with_offers legs q = record q {
   offered = q.offered + length legs;
@@ -95,7 +95,7 @@ with_offers legs q = record q {
   ready = drop (length legs) q.ready;
 }
 
--- The oldest leg that was owed has been answered.
+-- Returns the queues after the oldest leg that was owed has been answered.
 abbrev pub queue_answered : WorkerQueueModel → WorkerQueueModel
 queue_answered q = record q { owed = drop 1 q.owed }
 

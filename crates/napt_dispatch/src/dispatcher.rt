@@ -3,7 +3,7 @@
 //! Each worker has a queue of the legs that are not offered yet, in input order. An outgoing packet
 //! to an external address has a second leg at that address's worker if the first leg's answer is
 //! onward (RFC 4787, REQ-9). As soon as the input is read, a placeholder for the second leg enters
-//! that worker's queue. What follows it there waits for that answer, and nothing else does.
+//! that worker's queue. Only the entries that follow it there wait for that answer.
 ghost use Rattle.std.specs.Prelude.{◌≡◌, ◌<◌, ◌^◌, [], length, map, replicate, IfOk, IfErr, OnOk, OnErr};
 ghost use Rattle.napt_pool.specs.{Pools.{initial_machines, accepted_items, taken_answers, zip_with}, Histories.replies};
 ghost use Rattle.napt_rules.specs.Prelude.{State, initial_state};
@@ -77,11 +77,11 @@ impl<P: LegTrace> Dispatcher<P> {
     }
 }
 
-/// Runs the inputs over a pool of workers, and returns each input's outcome and each worker's
-/// number of legs. After an error, the pool can only be closed.
+/// Runs the inputs over a pool of workers. Returns each input's outcome and each worker's number of
+/// legs. Fails if a worker stopped or memory is refused; the pool can then only be closed.
 ///
-/// If `close` confirms that the answers are the workers' own, the outcomes, the numbers and the
-/// legs are those of the sequential run.
+/// If `close` then confirms that the answers are those of the workers, the outcomes, the numbers
+/// and the legs are those of the sequential run.
 pub fn dispatch<R: Wait, G: Gate>(
     rt: &R,
     alloc: Global,
@@ -115,7 +115,7 @@ pub fn dispatch<R: Wait, G: Gate>(
     }
 }
 
-/// How dispatching ended.
+/// The end of dispatching.
 #[derive(Drop)]
 pub(crate) enum DispatchEnd<A, D> {
     /// The inputs ended, and every outcome was written.
@@ -137,7 +137,7 @@ pub(crate) struct DispatchResult<A, D> {
 }
 
 /// Dispatches the inputs until their end or a fault, from a state with this clock, in ns. Writes
-/// the outcomes in input order; all are flushed at the end and before a device is read.
+/// the outcomes in input order, and flushes them at the end and before a device is read.
 pub(crate) fn dispatch_to<R: Wait, G: Gate, A: InputSource, D: OutcomeSink>(
     rt: &R,
     alloc: Global,

@@ -9,7 +9,7 @@ ghost use Rattle.napt_dispatch.specs.declared.faults.DispatchFault.TheVariants a
 use napt_pool::PoolFault;
 use napt_sequential::RunFault;
 
-/// The reason why a run ended before its inputs did, or before every outcome was written.
+/// The reason why a run ended before all inputs were read, or before every outcome was written.
 #[derive(Drop)]
 pub enum PassFault<A, D> {
     /// The run itself failed.
@@ -28,7 +28,7 @@ impl<A, D> From<RunFault> for PassFault<A, D> {
     }
 }
 
-/// An answer that no worker gives, or too many. Reported as `RunFault::Pool(PoolFault::Ring)`.
+/// An answer that no worker gives, or too many answers. Reported as `PoolFault::Ring`.
 #[derive(Clone, Copy)]
 pub(crate) struct ImpossibleAnswer;
 

@@ -1,4 +1,4 @@
-//! Where the outcomes of a run are written.
+//! The sink to which the outcomes of a run are written.
 
 ghost use Rattle.std.specs.Prelude.{◌≡◌, ◌∷◌, ◌++◌, [], ℕ, List, MatchResult};
 ghost use Rattle.napt_dispatch.specs.declared.outcome_sink.InputResult.{InputResult as KnownDeparted};
@@ -18,23 +18,23 @@ pub struct InputResult<P> {
 
 /// A sink that accepts the results of a run one at a time, in the order of the inputs.
 pub trait OutcomeSink {
-    /// The reason why no more outcomes can be written.
+    /// The reason why a sink accepts no more outcomes.
     type Fault: Drop;
 
-    /// What the workers record of each leg in addition to its answer.
+    /// The record of each leg that the workers make in addition to its answer.
     type Trace: LegTrace;
 
-    // Between the two states these results, each with its arrival time, were written in this order.
+    // Between the two states, these results, each with its arrival time, were written in order.
     ghost takes: { Self → List (ℕ × KnownDeparted Self.Trace) → Self → Type 0 };
 
-    // Between the two states writing these results ended with this fault.
+    // Between the two states, writing these results ended with this fault.
     ghost fails: { Self → List (ℕ × KnownDeparted Self.Trace) → Self.Fault → Self → Type 0 };
 
     // Every outcome written has reached its destination.
     ghost is_settled: { Self → Type 0 };
 
     /// Writes the result of the next input, which arrived at `time`, in ns. Returns the buffer of
-    /// its packet, which a later input uses again, unless the sink still needs it.
+    /// its packet for a later input, or `None` if the sink still needs it or there is no packet.
     fn write(
         &mut self,
         time: u64,

@@ -14,7 +14,7 @@ use std::marker::{Model, PhantomData};
 #[derive(Drop)]
 pub struct Worker<P> {
     pub translator: Translator,
-    /// What the worker records of its legs.
+    /// The type of the worker's records of its legs.
     pub told: PhantomData<P>,
 }
 

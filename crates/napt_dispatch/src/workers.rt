@@ -92,7 +92,7 @@ fn start<
     Ok(Pool::start(rt, alloc, machines, config.ring(), gate)?)
 }
 
-/// Combines the results of dispatching and closing. A dispatching fault precedes the pool's.
+/// Combines the results of dispatching and closing. A fault of dispatching takes precedence.
 fn first_fault<P: LegTrace, D: Drop>(
     dispatched: Result<D, RunFault>,
     closed: Result<Vec<Ended<Worker<P>>>, PoolFault>,
@@ -127,12 +127,12 @@ fn close<P: LegTrace, R: Threads, G: Gate, D: Drop>(
     first_fault(dispatched, closed)
 }
 
-/// Runs the inputs with a worker thread for each external address. Returns exactly what `run_plain`
-/// does, whatever the gate, ring size and schedule. A worker asks the gate before each leg.
+/// Runs the inputs with a worker thread for each external address. Returns exactly the result of
+/// `run_plain`, whatever the gate, ring size and schedule. A worker asks the gate before each leg.
 ///
-/// Fails with `RunFault::TooMany` exactly if there are more than 4,294,967,295 inputs.
-/// `RunFault::Pool` says why a worker stopped or did not start. It is never `GateShut` for a gate
-/// that promises to stay open. The workers are closed and joined before an error is returned.
+/// Fails with `RunFault::TooMany` exactly if there are more than 4,294,967,295 inputs, and with
+/// `RunFault::Pool` if a worker stopped or did not start, but never with `GateShut` for a gate
+/// that is always open. The workers are closed and joined before an error is returned.
 pub fn run_workers<
     R: Threads + Wait + Copy + Send + 'static,
     G: Gate + Send + Sync + Drop + 'static,
@@ -144,7 +144,7 @@ pub fn run_workers<
     ensures gate { G.is_open ≡ true → IfErr result (λ fault. is_run_gate_fault fault ≡ false) }
 {
     runs_are_sound();
-    // called for its clause alone: a configuration's rules are valid
+    // Only the contract of this call is used: a configuration's rules are valid.
     let _pool = config.pool();
     if inputs.len() > MOST_INPUTS {
         return Err(RunFault::TooMany);
@@ -171,7 +171,7 @@ pub struct RunSummary {
     pub bindings: Vec<Row>,
     /// The number of legs at each external address, in the order of the pool.
     pub legs: Vec<u64>,
-    /// The translators as they are after the run, in the order of the pool.
+    /// The translators after the run, in the order of the pool.
     pub translators: Vec<Translator>,
     /// The last clock, in ns.
     pub clock: u64,
@@ -182,8 +182,8 @@ impl RunSummary {
     ghost use Rattle.napt_rules.specs.Prelude.{IsStateInOrder, State};
     ghost use Rattle.napt_dispatch.specs.RunsThrough.{LeavesState};
 
-    /// Returns the state after the run, if it is to be saved: the bindings that are live or held at the last clock, by
-    /// external address in pool order, then by protocol (ICMP, TCP, UDP) and external number.
+    /// Returns the state after the run, or `None` unless `is_saved`: the bindings live or held at
+    /// the last clock, by address in pool order, protocol and number. Fails if memory is refused.
     pub fn into_state_if(self, is_saved: bool, alloc: Global) -> Result<Option<State>, AllocError>
         ensures saved { IfOk result (λ state. is_some state ≡ is_saved) }
         ensures state { (rules : Rules) (state : State) → LeavesState rules state self →
@@ -242,12 +242,12 @@ fn result_of<P: LegTrace>(
 
 /// Runs the inputs that `arrivals` supplies until their end or a fault, as `run_workers` does, from
 /// a state that the configuration accepts: its redirects, then the state's other bindings. Outcomes
-/// are written in input order, each once it is known. Holds at most 131,072 inputs and 65,536 legs.
+/// are written in input order, each once it is known. Stores at most 131,072 inputs, 65,536 legs.
 ///
 /// Before a device is read, at the end, and if the source fails, every outcome so far is written
-/// and flushed. The workers are joined before an error is returned. A fault of the run precedes one
-/// of the sink, and that one of the source. After a fault of the run or the sink, the outcomes
-/// written are the first ones of the run over the inputs that came.
+/// and flushed. The workers are joined before an error is returned. A fault of the run takes
+/// precedence over one of the sink, and that over one of the source. After a fault of the run or
+/// the sink, the written outcomes are the first ones of the run over the inputs that came.
 pub fn run_through<
     R: Threads + Wait + Copy + Send + 'static,
     G: Gate + Send + Sync + Drop + 'static,

@@ -1,4 +1,4 @@
--- Lists of bindings that are alike, and the changes that keep them so.
+-- Lists of bindings that are alike, and the changes after which they are still alike.
 use Rattle.std.proofs.Common.{◌≡◌, ℕ, ◌≤◌, Bool, true, false, not, cond, List, [], ◌∷◌, ◌++◌, map, filter, find, Some, refl, sym, ◌∙◌, ap, subst, arith}
 use Rattle.std.{specs.{List.{list_any, Sorted.IsPermutation}, Option.option_map}, proofs.lemmas.{List.{map-append, Elements.filter-append}, Bool.true≢false, Option.same_Some}}
 use Rattle.std.proofs.lemmas.List.Sorted.{IsPermutation-refl, IsPermutation-sym, IsPermutation-trans, IsPermutation-map, IsPermutation-append, IsPermutation-append_comm, IsPermutation-cons}

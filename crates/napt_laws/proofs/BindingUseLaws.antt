@@ -1,4 +1,4 @@
--- What a leg records of the binding that its packet went through.
+-- The record of the binding that a leg's packet used.
 use Rattle.std.proofs.Common.{◌≡◌, ℕ, Bool, true, false, cond, List, Option, Some, None, Result, Ok, Err, refl, ◌∙◌, ap, subst, find}
 use Rattle.std.specs.Option.{option_map}
 use Rattle.napt_wire.specs.declared.Kind.TheVariants.{Udp, Tcp, Echo, ErrorOf}

@@ -1,4 +1,4 @@
--- The candidates of a number in a port block are the numbers of the block, each once, the one at the place first.
+-- The candidates of a number in a port block are the numbers of the block, each once; that at its place is the first.
 use Rattle.std.proofs.Common.{◌≡◌, ◌≢◌, ℕ, zero, suc, ◌+◌, ◌-◌, ◌*◌, ◌/◌, ◌%◌, ◌<◌, ◌≤◌, ◌==◌, Bool, true, false, nat_le, List, ◌∷◌, ◌++◌, map, Option, Some, None, ◌⊎◌, inl, inr, refl, sym, ◌∙◌, ap, subst, arith, leb-true, leb-false}
 use Rattle.std.{specs.List.{All, AllPairs, Contains, range_with_len}, proofs.lemmas.Nat.{mod_below, Gcd.dvd_of_mod-eq-zero}}
 use Rattle.std.proofs.Math.Nat.{mod-eq_of_lt, add-mod_left, mod-mod_of_dvd}

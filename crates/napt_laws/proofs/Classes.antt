@@ -1,4 +1,4 @@
--- The candidates of a number are those that may stand for it, each once; and which of them is the first.
+-- The candidates of a number are the numbers to which it may be mapped, each once; and the first of them.
 use Rattle.std.proofs.Common.{◌≡◌, ◌≢◌, ℕ, zero, suc, ◌+◌, ◌%◌, ◌<◌, ◌≤◌, ◌==◌, Bool, true, false, not, ◌&&◌, ◌||◌, cond, nat_lt, nat_le, List, [], ◌∷◌, ◌++◌, length, slice_index_or, Option, Some, None, refl, sym, ◌∙◌, ap, subst, arith, filter}
 use Rattle.std.specs.{Bool.beq, Cmp.booleans_Decides, List.{All, AllPairs, Contains, range_with_len}}
 use Rattle.std.proofs.lemmas.{Bool.{and_parts, and_from, ltb-true, lt-ltb, leb-true, leb-false, le-leb, Decides.{Decides-eqb, nat_tests}}, Nat.mod_below}

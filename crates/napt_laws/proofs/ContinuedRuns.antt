@@ -1,4 +1,4 @@
--- A run that goes on from the state after another: ended bindings have no effect, and input numbers continue.
+-- A run that starts from the state after another: ended bindings have no effect, and input numbers continue.
 use Rattle.std.proofs.Common.{◌≡◌, ℕ, ◌+◌, ◌≤◌, max, List, [], ◌∷◌, ◌++◌, map, length, flat_map, Bool, Option, None, Result, Ok, Err, refl, sym, ◌∙◌, ap, arith, find}
 use Rattle.std.proofs.lemmas.List.{map-append}
 use Rattle.napt_wire.specs.declared.Protocol.TheVariants as protocols

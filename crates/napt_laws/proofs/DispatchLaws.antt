@@ -1,4 +1,4 @@
--- The laws for a dispatcher.
+-- The laws on which a dispatcher relies.
 use Rattle.std.proofs.Common.{◌≡◌, ℕ, suc, ◌+◌, ◌-◌, ◌≤◌, List, [], ◌∷◌, ◌++◌, length, Option, Some, None, IfSome, refl, sym, ◌∙◌, ap, subst, arith, append_assoc}
 use Rattle.std.specs.List.{slice_get}
 use Rattle.napt_rules.specs.Prelude.{BindingUse, Binding, Each, bindings_at, LegEffect, act, Arrival, LegAct, RunEffect, outcome_of, with_second_leg, run_from, effect_from, LocalState, local_after, local_answer, local_replies, answers_at, Incoming, destination, kind, SourcesLeaveDestinations, ErrorsLeaveDestinations, Rules, pool_place}

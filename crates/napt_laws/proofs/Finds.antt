@@ -19,7 +19,7 @@ module _ {X : Type 0} (q t : X → Bool) (f : X → X) (same : (x : X) → t (f 
   any_kept [] h = refl
   any_kept (x ∷ xs) h = grind (arith, same x, any_kept xs)
 
-  -- What is found in a list that was filtered and mapped, if at most one element passes the test.
+  -- The element that is found in a list that was filtered and mapped, if at most one element passes the test.
   pub find_kept : (xs : List X) → Once t xs → find t (map f (filter q xs)) ≡ kept q f (find t xs)
   find_kept [] o = refl
   find_kept (x ∷ xs) o = elim (t x) as (λ v. t x ≡ v → find t (map f (cond (q x) (x ∷ filter q xs) (filter q xs)))
@@ -46,7 +46,7 @@ module _ {X : Type 0} (t : X → Bool) (f : X → X) where
         | false ↦ λ e. ap (λ v. cond v (Some x) (find t (change_first t f xs))) e ∙ find_changed same xs
       ] refl
 
-  -- What is found by another test is unchanged.
+  -- The element that is found by another test is unchanged.
   pub find_other : (s : X → Bool) → ((x : X) → s (f x) ≡ s x) → ((x : X) → t x ≡ true → s x ≡ false) → (xs : List X) →
       find s (change_first t f xs) ≡ find s xs
   find_other s same apart [] = refl

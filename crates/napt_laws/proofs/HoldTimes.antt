@@ -1,4 +1,4 @@
--- Where numbers are held, a number goes to another inside endpoint only `hold` seconds after its last binding ended.
+-- A number is assigned to another inside endpoint at least `hold` seconds after its last binding ended.
 use Rattle.std.proofs.Common.{◌≡◌, ℕ, ◌<◌, ◌≤◌, Bool, true, false, not, ◌&&◌, cond, nat_le, List, [], ◌∷◌, ◌++◌, map, Option, Some, None, Result, Ok, Err, ◌⊎◌, inl, inr, refl, sym, ◌∙◌, ap, subst, arith, append_assoc, filter, find, true≢false}
 use Rattle.std.{specs.Option.option_map, proofs.lemmas.Bool.{and_parts, and_from, leb-true, leb-false}}
 use Rattle.napt_rules.specs.declared.{AssignmentRules.AssignmentRules, InboundRules.InboundRules, OutboundPacket.OutboundPacket, InboundPacket.InboundPacket, Row.Row}

@@ -1,4 +1,4 @@
--- The legs of one address depend on and change its bindings alone.
+-- The legs at one address depend on, and change, only the bindings of that address.
 use Rattle.std.proofs.Common.{◌≡◌, ℕ, List, map, refl, ap}
 use Rattle.napt_rules.specs.Prelude.{Binding, bindings_at, act, Arrival, LegAct, run, last_clock, acts_at, legs_at, answer_of, legs_replies, list_after_legs, LegsAnswerAlone, LegsLeaveTheirOwn, Rules}
 use Rattle.napt_rules.specs.declared.End.{End}

@@ -1,4 +1,4 @@
--- Which packets end onward, and where.
+-- The packets that end onward, and the places to which they go.
 use Rattle.std.proofs.Common.{◌≡◌, ℕ, true, List, Option, Some, None, Result, Ok, Err, refl, sym, ◌∙◌, ap, subst}
 use Rattle.napt_wire.specs.declared.Kind.TheVariants.{Udp, Tcp, Echo, ErrorOf}
 use Rattle.napt_rules.specs.Prelude.{Binding, onward_end, end_out, end_in, error_out, error_in, act_by, act, Way, Outgoing, Incoming, Cause, Endpoint, Kind, destination, kind, is_error, with_source, reverted, Rules, pool_place}

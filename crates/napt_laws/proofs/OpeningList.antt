@@ -1,4 +1,4 @@
--- The bindings with which a translator begins share no endpoint and are live at each time.
+-- The bindings with which a translator starts share no endpoint, and are live at each time.
 use Rattle.std.proofs.Common.{◌≡◌, ℕ, ◌<◌, Bool, true, false, ◌&&◌, ◌||◌, cond, List, [], ◌∷◌, map, refl, sym, ◌∙◌, ap, eqb-true, arith, All, filter}
 use Rattle.std.{specs.{Bool.beq, List.list_any}, proofs.lemmas.{Bool.{and_from, eq-eqb, or_parts, true≢false}, List.Elements.All-tail}}
 use Rattle.napt_rules.specs.Prelude.{Binding, Each, same_protocol, is_tcp, is_at, bindings_at, is_live_flow, with_live_flows, purge, redirect_protocol, redirect_binding, row, AreRowsApart, AreApart, AreBindingsApart, IsNumber, IsPaired, IsSound, OpeningIsSound, Endpoint, PrefixModel, IsRedirect, AreRedirectsSingle, share_inside, share_external, is_double, pair_of, Redirect, Timers}

@@ -1,4 +1,4 @@
--- The rows of bindings that share no endpoint share none.
+-- If no two bindings share an endpoint, no two of their rows do.
 use Rattle.std.proofs.Common.{◌≡◌, ◌≢◌, ℕ, suc, ◌<◌, inl, inr, true, false, cond, List, [], ◌∷◌, ◌++◌, map, length, sym, ◌∙◌, ap, subst, arith, get_or, All, AllPairs, filter, flat_map, nat_le}
 use Rattle.std.proofs.lemmas.{Bool.{cases_lt, eqb-true}, List.get_or_default}
 use Rattle.std.proofs.lemmas.List.Elements.{All-nil, All-cons, All-head, All-tail, All-append, All-map, All-filter, filter_passes}

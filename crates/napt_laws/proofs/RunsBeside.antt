@@ -1,4 +1,4 @@
--- Runs of two lists side by side: a relation that each leg keeps is kept by a run.
+-- Two runs compared: a relation between two lists that each leg preserves is preserved by a run.
 use Rattle.std.proofs.Common.{◌≡◌, ℕ, ◌+◌, ◌≤◌, max, List, [], ◌∷◌, ◌++◌, Option, Result, Ok, Err, refl, ◌∙◌, ap, subst, arith}
 use Rattle.napt_rules.specs.Prelude.{BindingUse, Binding, LegEffect, act, Arrival, admission, LegAct, RunEffect, outcome_of, leg_effect, with_second_leg, admitted_effect, served_at, reading, first_leg, step_as, step, run_from, last_clock, Incoming, Cause, destination, Rules}
 use Rattle.napt_rules.specs.declared.{Leg.Leg, Outcome.Outcome, End.{End, TheVariants.{ToOutside, ToInside, Onward, Dropped}}}

@@ -1,4 +1,4 @@
--- Each step keeps every binding except redirects in its host's port block.
+-- After each step, every binding except redirects has a number of its host's port block, if it had one before.
 use Rattle.std.proofs.Common.{◌≡◌, ℕ, Bool, false, not, List, [], ◌∷◌, map, Option, Some, None, Ok, refl, sym, subst, filter, find, IfSome}
 use Rattle.std.proofs.lemmas.Bool.{or_parts}
 use Rattle.napt_rules.specs.Prelude.{Binding, Each, is_live, with_live_flows, purge, is_of_source, other_bindings, granted_again, block_of, inbound_rules, candidates, is_free, redirect_binding, opening, new_binding, row, LegEffect, outbound_packet, inbound_packet, act_out, act_in, act_by, Arrival, run_from, IsBlockNumber, IsInItsBlock, RunsKeepToBlocks, Protocol, Way, Flags, Kind, kind, Rules, RulesInvariant, IsPortBlock, pair_of, PortBlock, NumberAssignment, Endpoint, Redirect, assignment_rules}

@@ -1,4 +1,4 @@
--- A state that is saved one address after another is alike, is taken if the original is, and goes on.
+-- A state that is saved one address after another is alike to the original, is accepted if that is, and runs alike.
 use Rattle.std.proofs.Common.{◌≡◌, ℕ, zero, suc, ◌^◌, ◌<◌, ◌≤◌, Bool, true, false, not, ◌||◌, cond, List, [], ◌∷◌, ◌++◌, map, filter, flat_map, length, Some, None, get_or, refl, sym, ◌∙◌, ap, subst, arith, eqb-true, slice_get, ◌==◌}
 use Rattle.std.{specs.List.{list_any, Sorted.IsPermutation}, proofs.lemmas.{Bool.{or_parts, Decides.nat_tests}, List.{length-map, Elements.filter-append}, Option.{same_Some, slice_get_within, slice_get-get_or}}}
 use Rattle.std.proofs.lemmas.List.Sorted.{IsPermutation-refl, IsPermutation-sym, IsPermutation-trans, IsPermutation-cons, IsPermutation-middle, IsPermutation-append_right}

@@ -1,4 +1,4 @@
--- The visible elements of a list: each element that passes a test, as it is seen.
+-- The visible elements of a list: the visible part of each element that passes a test.
 use Rattle.std.proofs.Common.{◌≡◌, ℕ, ◌≤◌, Bool, true, false, not, ◌&&◌, List, [], ◌∷◌, ◌++◌, map, Some, None, refl, arith, filter, find}
 use Rattle.std.specs.Option.{option_map}
 use Rattle.napt_rules.specs.Prelude.{Binding, change_first, purge, hold_ago, live_and_held, Timers}
@@ -8,7 +8,7 @@ module _ {X : Type 0} (q t : X → Bool) (f : X → X) (same : (x : X) → t (f 
   abbrev pub sight : List X → List X
   sight xs = map f (filter q xs)
 
-  -- What is found among the visible elements.
+  -- The element that is found among the visible ones.
   pub find_seen : (xs : List X) → find t (sight xs) ≡ option_map f (find (λ x. t x && q x) xs)
   find_seen [] = refl
   find_seen (x ∷ xs) = grind (arith, same x, find_seen xs)

@@ -1,4 +1,4 @@
--- A packet has the same answer on lists that are alike, and leaves lists that are alike.
+-- A packet has the same answer on lists that are alike, and the lists after it are alike.
 use Rattle.std.proofs.Common.{◌≡◌, ℕ, Bool, true, false, not, ◌&&◌, cond, List, [], ◌∷◌, ◌++◌, map, length, filter, find, Option, Some, None, Result, Ok, Err, refl, sym, ◌∙◌, ap, subst, arith, ok_or}
 use Rattle.std.{specs.{List.{Sorted.IsPermutation}, Option.option_map}, proofs.lemmas.{List.{length-map, Sorted.{IsPermutation-refl, length_permutation, list_any-IsPermutation}}, Option.same_Some, Bool.and_parts}}
 use Rattle.napt_wire.specs.declared.Protocol.TheVariants as protocols

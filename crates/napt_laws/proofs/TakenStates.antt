@@ -1,4 +1,4 @@
--- A state that a configuration takes is sound under it, and so is each run from it.
+-- A state that a configuration accepts is sound under it, and so is each run from it.
 use Rattle.std.proofs.Common.{◌≡◌, ℕ, ◌≤◌, max, true, false, not, ◌&&◌, ◌||◌, List, [], ◌∷◌, ◌++◌, map, Option, Some, None, refl, sym, ◌∙◌, ap, subst, arith, append-nil, eqb-true, nat_lt, IfSome}
 use Rattle.std.proofs.lemmas.{List.map-append, Bool.{and_parts, or_parts, not-false, true≢false, leb-true, Decides.nat_tests}}
 use Rattle.napt_rules.specs.Prelude.{Binding, Each, same_protocol, same_endpoint, row, opening, State, AreRowsApart, AreBindingsApart, IsNumber, IsPaired, IsSound, count_for, IsBlockNumber, IsInItsBlock, dynamic_bindings, with_redirects, is_number, is_its_number, is_numbered, flows_share, clashes, clashes_with_any, misfit_of, misfit_or, misfit_in, TakesState, TakenStatesAreSound, TakenStatesKeepToBlocks, TakenStatesKeepQuota, IsBindingOwn, Protocol, Icmp, Tcp, Udp, PacketsCarryNumbers, Rules, RulesInvariant, pair_of, block_of, is_inside, PortBlock}

@@ -1,19 +1,19 @@
--- What a leg records of the binding that its packet went through.
+-- The record of the binding that a leg's packet used.
 --
--- RFC 3022, section 4: an outgoing packet goes through the binding of its source, which is made if there is none, and
--- an incoming one through that of its destination. An ICMP error goes through none (RFC 5508, REQ-3 to REQ-6).
+-- An outgoing packet uses the binding of its source, which is made if there is none, and an incoming packet that of its
+-- destination (RFC 3022, section 4). An ICMP error uses none (RFC 5508, REQ-3 to REQ-6).
 use Rattle.std.specs.Prelude.{◌≡◌, ◌↔◌, ℕ, true, List, Option, Some, None, Result, Ok, Err}
 use Rattle.napt_rules.specs.declared.{AssignmentRules.AssignmentRules, InboundRules.InboundRules, OutboundPacket.OutboundPacket, InboundPacket.InboundPacket, Leg.Leg, End.TheVariants.Dropped}
 use Rattle.napt_rules.specs.Prelude.{BindingUse, Binding, OutboundEffect, step_out, InboundEffect, step_in, by_inside, by_number, act, Cause, kind, is_error, Rules, AreTimers, Timers}
 
--- The binding recorded is the one that is found after the leg, which made it if and only if none was found before.
+-- The recorded binding is the one that is found after the leg, which made it if and only if none was found before.
 pub record IsThrough (before after : Option Binding) (through : Option BindingUse) : Type 0 where
   pub went : BindingUse
   pub is : through ≡ Some went
   pub binding : after ≡ Some went.binding
   pub made : (went.made ≡ true) ↔ (before ≡ None)
 
--- A packet that was translated went through a binding, and one that was refused through none.
+-- A packet that was translated used the recorded binding, and a packet that was refused used none.
 abbrev pub BindingUseIsSaid : {X : Type 0} → Result X Cause → Option Binding → Option Binding → Option BindingUse →
     Type 0
 BindingUseIsSaid (Ok translated) before after through = IsThrough before after through

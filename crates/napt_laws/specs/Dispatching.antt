@@ -1,5 +1,5 @@
--- Laws of runs for a dispatcher, which offers each leg to the translator of its address and takes the answers one by
--- one.
+-- Laws of runs on which a dispatcher relies, which offers each leg to the translator of its address and takes the
+-- answers one by one.
 use Rattle.std.specs.{Prelude.{◌≡◌, ℕ, max, List, [], ◌∷◌, ◌++◌, length, Option, Some, None, IfSome, Ok}, List.slice_get}
 use Rattle.napt_rules.specs.Prelude.{Binding, Each, bindings_at, act, Arrival, LegAct, RunEffect, effect_then, outcome_of, step, last_clock, State, effect_from, legs_at, local_replies, answers_at, Side, Outgoing, destination, reading, Rules, pool_place}
 use Rattle.napt_rules.specs.declared.{Leg.Leg, Answer.Answer, End.{End, TheVariants.Onward}, Outcome.Outcome}
@@ -9,7 +9,7 @@ abbrev pub IsFrontOf : {X : Type 0} → List X → List X → Type 0
 IsFrontOf {X} xs ys = (rest : List X) × (xs ++ rest ≡ ys)
 
 -- If a translator was offered the first legs of its address and gave the first of their answers, these are the first
--- answers that the run has there.
+-- answers of the run at that address.
 abbrev pub RightAnswersAreTheRuns : Type 0
 RightAnswersAreTheRuns = (rules : Rules) (state : State) (inputs : List Arrival) (address : ℕ) (given : List Leg)
     (taken : List Answer) →
@@ -27,7 +27,7 @@ RunsGrow = (rules : Rules) (state : State) (inputs : List Arrival) (input : Arri
     ≡ effect_then course (step rules (length inputs) (max (last_clock state.clock inputs) input.clock) input
     course.list)
 
--- The outcome of an input by the end of its last leg; an end onward gives none.
+-- Returns the outcome of an input from the end of its last leg, or none if the end is onward.
 abbrev pub outcome_of_end : End → Option Outcome
 outcome_of_end (Onward place packet) = None
 outcome_of_end end = Some (outcome_of end)
@@ -41,7 +41,7 @@ AnswersGiveOutcomes = (rules : Rules) (state : State) (inputs : List Arrival) �
     let course : RunEffect = effect_from rules state inputs in
     Each (OutcomeIsGiven course.outcomes) course.acts
 
--- A leg that ends onward is outgoing, and the place is that of its packet's destination (RFC 4787, REQ-9).
+-- A leg that ends onward is outgoing, and its place is that of its packet's destination (RFC 4787, REQ-9).
 pub record IsEndForeseen (rules : Rules) (leg : Leg) (place : ℕ) (packet : List ℕ) : Type 0 where
   pub way : leg.way ≡ Outgoing
   pub served : pool_place rules (destination leg.packet).address ≡ Some place

@@ -1,5 +1,5 @@
--- Which inside host an external endpoint belongs to, where hosts have port blocks (RFC 7422, section 2): one at most,
--- at all times, which the configuration alone gives.
+-- The inside host that has an external endpoint, if hosts have port blocks (RFC 7422, section 2). There is at most one,
+-- always the same, and the configuration alone determines it.
 use Rattle.std.specs.Prelude.{◌≡◌, ℕ, true, false, List, map, Some, IfSome}
 use Rattle.napt_config.specs.Rules.{Rules, RulesInvariant, pair_of, block_of, block_has_number, host_of}
 use Rattle.napt_rules.specs.{declared.Row.Row, Prelude.{Each, row, Arrival, PortBlock, State, TakesState, effect_from, with_redirects}}
@@ -27,8 +27,8 @@ abbrev pub HostIsNamed : Rules → Row → Type 0
 HostIsNamed rules row = row.fixed ≡ false → IfSome (block_of rules row.inside.address)
     (λ block. host_of rules row.external.address row.external.number ≡ Some row.inside.address)
 
--- This holds of each binding after any inputs from a state that the configuration takes: who had a number is known without
--- a log.
+-- The host is named for each binding after any inputs from a state that the configuration accepts. The host that had a
+-- number is therefore known without a log.
 abbrev pub RunsNameTheirHosts : Type 0
 RunsNameTheirHosts = (rules : Rules) → RulesInvariant rules → (state : State) → TakesState rules state →
     (inputs : List Arrival) → Each (HostIsNamed rules) (map row (effect_from rules (with_redirects rules state) inputs).list)

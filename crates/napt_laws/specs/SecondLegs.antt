@@ -4,17 +4,17 @@ use Rattle.std.specs.Prelude.{◌≡◌, ℕ, ◌==◌, max, cond, List, [], ◌
 use Rattle.napt_rules.specs.Prelude.{Binding, Each, served_at, LegEffect, act, Arrival, admission, LegAct, RunEffect, admitted_effect, last_clock, State, effect_from, legs_at, Outgoing, Incoming, Inside, destination, IsPacket, Rules}
 use Rattle.napt_rules.specs.declared.{Leg.Leg, End.{End, TheVariants.Onward}}
 
--- What a first leg does: its address, its end, and the binding that it used.
+-- Returns the act of a first leg: its address, its end, and the binding that it used.
 abbrev pub first_act : Rules → ℕ → Leg → List Binding → LegAct
 first_act rules address leg list =
     let first : LegEffect = act rules address leg list in
     record { address = address; leg = leg; end = first.end; through = first.through }
 
--- What a first leg does, and then its second leg if it has one.
+-- Returns the act of a first leg, and then that of its second leg, if it has one.
 abbrev pub acts_of : Rules → ℕ → Leg → List Binding → List LegAct
 acts_of rules address leg list = (admitted_effect rules address leg list).acts
 
--- The acts of the input with this number.
+-- Returns the acts of the input with this number.
 abbrev pub acts_of_number : ℕ → List LegAct → List LegAct
 acts_of_number number acts = filter (λ a. a.leg.number == number) acts
 
@@ -22,16 +22,16 @@ abbrev pub all_but_first : List LegAct → List LegAct
 all_but_first [] = []
 all_but_first (a ∷ acts) = acts
 
--- The second leg of the input with this number, if it has one.
+-- Returns the second leg of the input with this number, if it has one.
 abbrev pub second_legs : ℕ → List LegAct → List Leg
 second_legs number acts = map (λ a. a.leg) (all_but_first (acts_of_number number acts))
 
--- The second leg that a first leg with this end requires: one if the end is onward.
+-- Returns the second leg that a first leg with this end requires, which is none unless the end is onward.
 abbrev pub second_of : Leg → End → List Leg
 second_of leg (Onward place packet) = record leg { way = Incoming; packet = packet } ∷ []
 second_of leg _ = []
 
--- The end of an outgoing leg says which second leg its input has.
+-- The end of an outgoing leg determines the second leg of its input.
 abbrev pub IsSeconded : List LegAct → LegAct → Type 0
 IsSeconded acts a = a.leg.way ≡ Outgoing → second_legs a.leg.number acts ≡ second_of a.leg a.end
 
@@ -40,7 +40,7 @@ AnswersFillPlaces = (rules : Rules) (state : State) (inputs : List Arrival) →
     let course : RunEffect = effect_from rules state inputs in
     Each (IsSeconded course.acts) course.acts
 
--- One more input from inside adds its first leg at its host's address, and its second leg at its destination's.
+-- One more input from inside adds a first leg at its host's address, and perhaps a second leg at its destination's.
 abbrev pub PlacesStandForLegs : Type 0
 PlacesStandForLegs = (rules : Rules) (state : State) (done rest : List Arrival) (input : Arrival) (packet : List ℕ) →
     input.side ≡ Inside → admission rules input ≡ Ok packet → IsPacket packet → (address : ℕ) →

@@ -1,11 +1,11 @@
-//! Laws of runs for a dispatcher.
+//! Laws of runs on which a dispatcher relies.
 
 ghost use Rattle.napt_laws.specs.Dispatching.{RightAnswersAreTheRuns, RunsGrow, AnswersGiveOutcomes, OnwardIsForeseen};
 ghost use Rattle.napt_laws.specs.SecondLegs.{AnswersFillPlaces, PlacesStandForLegs};
 
 use napt_wire::packets_keep_their_way;
 
-/// Law: what a dispatcher relies on while it offers legs to translators and takes their answers.
+/// Law: if translators get the legs of a run and answer correctly, the answers are the run's.
 pub fn right_answers()
     ensures right { RightAnswersAreTheRuns }
     ensures grow { RunsGrow }
@@ -15,8 +15,8 @@ pub fn right_answers()
     packets_keep_their_way();
 }
 
-/// Law: an input from inside may have a second leg, and a placeholder stands for it until the end
-/// of the first leg says whether it does (RFC 4787, REQ-9).
+/// Law: an input from inside may have a second leg, which a placeholder replaces until the end of
+/// the first leg determines whether there is one (RFC 4787, REQ-9).
 pub fn places_stand_for_legs()
     ensures fill { AnswersFillPlaces }
     ensures stand { PlacesStandForLegs }

@@ -3,22 +3,22 @@
 ghost use Rattle.napt_rules.specs.Prelude.{ErrorsChangeNothing, LegsEndAtTheirSide, InboundStaysInside, LegsAnswerAlone, LegsLeaveTheirOwn};
 ghost use Rattle.napt_laws.specs.BindingUses.{OutboundNamesItsBinding, InboundNamesItsBinding, ErrorsGoThroughNone, DroppedGoThroughNone};
 
-/// Law: an ICMP error changes no binding and no time; what ends to the outside goes to no address of the
-/// pool, and what ends onward to the one at its place; an incoming packet reaches the inside or is dropped.
+/// Law: an ICMP error changes no binding and no time. Only a packet that ends onward goes to the
+/// pool, to the address at its place. An incoming packet reaches the inside or is dropped.
 pub fn legs_keep_to_their_way()
     ensures errors { ErrorsChangeNothing }
     ensures sides { LegsEndAtTheirSide }
     ensures incoming { InboundStaysInside }
 {}
 
-/// Law: the legs of each external address depend on and change that address's bindings alone.
+/// Law: the legs at each external address depend on, and change, only the bindings of that address.
 pub fn legs_are_local()
     ensures answers { LegsAnswerAlone }
     ensures leaves { LegsLeaveTheirOwn }
 {}
 
-/// Law: a leg records the binding that its packet went through: the one found after it, which it made if and only
-/// if none was found before (RFC 3022, section 4). An ICMP error, or a packet that is dropped, goes through none.
+/// Law: a leg records the binding that its packet used: that found after it, which it made if and
+/// only if none was found before (RFC 3022, section 4). ICMP errors and dropped packets use none.
 pub fn legs_name_their_binding()
     ensures outbound { OutboundNamesItsBinding }
     ensures inbound { InboundNamesItsBinding }

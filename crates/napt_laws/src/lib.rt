@@ -1,7 +1,7 @@
-//! Laws of the definition of a run: what holds of every step, leg and run, whatever the code.
+//! Laws of the definition of a run, which hold of every step, leg and run, whatever the code.
 //!
-//! Each function is a law that its contract states, and does nothing. `napt_rules` has the definition
-//! and most statements, `specs/` those for translators of one address, `proofs/` the lemmas.
+//! Each function states a law in its contract and does nothing. `napt_rules` has the definition and
+//! most statements, `specs/` has those for translators of one address, and `proofs/` the lemmas.
 #![tactic(auto)]
 
 mod dispatching;

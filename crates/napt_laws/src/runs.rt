@@ -7,8 +7,8 @@ ghost use Rattle.napt_rules.specs.Prelude.{TakenStatesAreSound, TakenStatesKeepT
 use crate::steps::{no_host_exceeds_its_quota, opening_is_sound, steps_stay_sound};
 use napt_wire::packets_carry_numbers;
 
-/// Law: a run over two lists of inputs is a run over the first, and then one over the second from
-/// the state after the first, or from a state that is alike.
+/// Law: a run over two lists of inputs is a run over the first, followed by a run over the second
+/// from the state after the first, or from one that no packet can distinguish from it.
 pub fn runs_go_on()
     ensures go_on { RunsGoOn }
     ensures gone { GoneBindingsChangeNothing }
@@ -18,7 +18,7 @@ pub fn runs_go_on()
     packets_carry_numbers();
 }
 
-/// Law: after any inputs no two bindings share an endpoint (RFC 4787, REQ-1 and REQ-3).
+/// Law: after any inputs, no two bindings share an endpoint (RFC 4787, REQ-1 and REQ-3).
 pub fn runs_are_sound()
     ensures sound { RunsAreSound }
     ensures apart { RunsStayApart }
@@ -28,22 +28,22 @@ pub fn runs_are_sound()
     opening_is_sound();
 }
 
-/// Law: after any inputs no host has more bindings than the quota (RFC 6888, REQ-4).
+/// Law: after any inputs, no host has more bindings than the quota (RFC 6888, REQ-4).
 pub fn runs_keep_the_quota()
     ensures { RunsKeepQuota }
 {
     no_host_exceeds_its_quota();
 }
 
-/// Law: after any inputs each binding but a redirect has an external number of its inside host's block,
-/// if the host has one (RFC 7422, section 2), so the configuration gives the host of a number.
+/// Law: after any inputs, each binding except redirects has a number of its inside host's block, if
+/// there is one (RFC 7422, section 2), so that the configuration determines the host of a number.
 pub fn runs_keep_to_blocks()
     ensures { RunsKeepToBlocks }
 {}
 
-/// Law: runs from each state that a configuration takes keep what runs from its redirects keep; a
-/// host with more bindings than the quota gets no further one. Each binding is an inside host's,
-/// was not used after the clock, and has at most one flow for each remote.
+/// Law: the laws of runs from the redirects hold of runs from each state that a configuration
+/// accepts; a host with more bindings than the quota gets no further one. Each binding is that of
+/// an inside host, was not used after the clock, and has at most one flow for each remote.
 pub fn taken_states_are_kept()
     ensures sound { TakenStatesAreSound }
     ensures blocks { TakenStatesKeepToBlocks }
@@ -53,7 +53,7 @@ pub fn taken_states_are_kept()
     packets_carry_numbers();
 }
 
-/// Law: a configuration takes each state after a run of its own, and goes on from it unchanged.
+/// Law: a configuration accepts, without a change, each state after a run of its own.
 pub fn own_states_stay()
     ensures stay { OwnStatesStay }
     ensures taken { OwnStatesAreTaken }
@@ -61,8 +61,8 @@ pub fn own_states_stay()
     packets_carry_numbers();
 }
 
-/// Law: the state after a run, saved one address after another, is alike to it: the run's
-/// configuration takes it, and the run from it is the rest of the run over all inputs.
+/// Law: if the state after a run is saved one address after another, the run's configuration
+/// accepts it, and a run from it is the rest of the run over all inputs.
 pub fn saved_runs_go_on()
     ensures alike { OrderedStatesAreAlike }
     ensures taken { OrderedStatesAreTaken }
@@ -72,7 +72,7 @@ pub fn saved_runs_go_on()
 }
 
 /// Law: a translator of one external address, from each state, gives the answers of the sequential
-/// one, and then has the same live and held bindings there.
+/// translator there, and then has the same live and held bindings of that address.
 pub fn translators_are_local()
     ensures answers { TranslatorsAnswerFrom }
     ensures keeps { TranslatorsKeepFrom }

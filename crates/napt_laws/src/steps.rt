@@ -8,7 +8,7 @@ pub fn opening_is_sound()
     ensures { OpeningIsSound }
 {}
 
-/// Law: a step at one address depends on its bindings alone; a purge changes no later purge.
+/// Law: a step at one address depends only on its bindings; a purge changes no later purge.
 pub fn steps_are_local()
     ensures purge { PurgeIsLocal }
     ensures later { LaterPurgeCounts }
@@ -32,7 +32,7 @@ pub fn steps_stay_sound()
     ensures apart { SoundListsAreApart }
 {}
 
-/// Law: no step takes an inside host past its quota of bindings (RFC 6888, REQ-4).
+/// Law: after no step does an inside host exceed its quota of bindings (RFC 6888, REQ-4).
 pub fn no_host_exceeds_its_quota()
     ensures purge { PurgeKeepsQuota }
     ensures outbound { OutboundKeepsQuota }
@@ -44,8 +44,8 @@ pub fn rows_are_in_order()
     ensures { RowsAreInOrder }
 {}
 
-/// Law: a number goes to another inside endpoint only if its last binding ended at least the hold
-/// before (RFC 6888, REQ-8): each step keeps `AreBindingsAccounted` of all bindings that were made.
+/// Law: a number is assigned to another inside endpoint only if its last binding ended at least the
+/// hold before (RFC 6888, REQ-8); `AreBindingsAccounted` of all bindings made is an invariant.
 pub fn steps_hold_numbers()
     ensures begin { AccountsBegin }
     ensures outbound { OutKeepsAccounts }

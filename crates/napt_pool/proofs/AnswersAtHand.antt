@@ -1,4 +1,4 @@
--- The answers at hand: those that were received from an answer ring, and not handed out.
+-- The stored answers, which were received from an answer ring and have not been returned yet.
 use Rattle.std.proofs.lemmas.Grind.{common_steps}
 use Rattle.std.proofs.Common.{◌≡◌, sym, ap, ◌∙◌, arith, List, map, length, [], ◌∷◌, ◌++◌, append-nil, append_assoc, length-append}
 use Rattle.std.{proofs.lemmas.List.{length-map, take_at}, specs.Prelude.{Option, None, Some, MatchOption, option_to_list}}
@@ -15,7 +15,7 @@ module _ {I A : Type 0} (e e' more out : List (Reply I A)) (ys ys' : List A)
   whole : (all_but_last (length ys) e ++ out) ++ map Done ys' ≡ e'
   whole = grind (arith, common_steps, append_assoc)
 
-  -- What is handed out now: what was before, and `out`.
+  -- The answers returned by now are those returned before, and `out`.
   handed : all_but_last (length ys') e' ≡ all_but_last (length ys) e ++ out
   handed = grind (arith, common_steps, length-map, front_is, whole)
 

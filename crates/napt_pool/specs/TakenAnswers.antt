@@ -11,7 +11,7 @@ module _ {I A : Type 0} where
   answers_if None = []
   answers_if (Some t) = answers_in t
 
-  -- Taking one answer that is at hand removes it. After any other call nothing is at hand, as before.
+  -- A call that returns a stored answer removes it. With any other result, no answer is stored before or after it.
   abbrev pub LeavesAtHand : Option (TakenAnswers I A) → List A → List A → Type 0
   LeavesAtHand (Some (One x)) old new = (old ≡ x ∷ new) ⊎ ((old ≡ []) × (new ≡ []))
   LeavesAtHand _ old new = (old ≡ []) × (new ≡ [])

@@ -1,4 +1,4 @@
-//! How a thread waits for another thread.
+//! The waiting of a thread for another thread.
 
 ghost use Rattle.std.specs.Prelude.{◌≡◌, ◌+◌, ◌≤◌, ◌<◌};
 ghost use Rattle.napt_pool.specs.declared.backoff.BackoffStep.TheVariants.{Spin, Yield, Park};
@@ -8,7 +8,7 @@ use std::thread::Parker;
 use std::time::Duration;
 use std::{hint, thread};
 
-/// The number of polls that are followed by a spin.
+/// The number of first looks, each of which is followed by a spin.
 const SPINS: u32 = 32;
 
 /// The number of polls before the first sleep. All after the first 32 are followed by a yield.
@@ -17,7 +17,7 @@ const POLLS: u32 = 512;
 /// The shortest sleep, in ns. The system decides how long it really is (about 50 µs on Linux).
 const SHORTEST_SLEEP: u64 = 1;
 
-/// What a thread does before it polls again.
+/// The pause of a thread before it polls again.
 #[derive(Debug, Clone, Copy, PartialEq, Eq)]
 enum BackoffStep {
     Spin,

@@ -1,4 +1,4 @@
-//! Why an offer is refused, and why a worker or a pool fails.
+//! The reasons why an offer is refused, and why a worker or a pool fails.
 
 ghost use Rattle.std.specs.Prelude.{◌≡◌, ℕ, Some};
 ghost use Rattle.napt_pool.specs.{Faults.fault_of, Messages.{fault_message, refusal_message}};
@@ -6,14 +6,14 @@ ghost use Rattle.napt_pool.specs.{Faults.fault_of, Messages.{fault_message, refu
 use std::error::Error;
 use std::fmt;
 
-/// Why a worker stopped, or a pool could not be started.
+/// The reason why a worker stopped, or why a pool could not be started.
 #[derive(Debug, Clone, Copy, PartialEq, Eq)]
 pub enum PoolFault {
     /// Memory was refused, to `Pool::start` or to a step of a machine.
     Memory,
     /// The runtime refused a thread. Only `Pool::start` returns it.
     NoThread,
-    /// The gate refused this worker as often as it may be asked for one item.
+    /// The gate refused this worker 1,000,000 times for one item.
     GateShut(u32),
     /// The two ends of a ring do not agree. No cause of this is known.
     Ring,
@@ -34,12 +34,12 @@ impl fmt::Display for PoolFault {
 
 impl Error for PoolFault {}
 
-/// Why an item was not accepted, with the item.
+/// The reason why an item was not accepted, with the item.
 #[derive(Drop)]
 pub enum OfferRefused<I> {
     /// The number of items without a taken answer has reached the pool's capacity.
     Full(I),
-    /// Memory was refused. Offers do not allocate, so none returns it.
+    /// Memory was refused. No offer returns this, since offers do not allocate.
     Memory(I),
     /// The ring has no slot, though the capacity allows the item. No cause of this is known.
     Ring(I),
@@ -69,7 +69,7 @@ impl<I> fmt::Display for OfferRefused<I> {
 
 impl<I: Drop> Error for OfferRefused<I> {}
 
-/// Why a worker ended before it received Close.
+/// The reason why a worker stopped before it received Close.
 #[derive(Debug, Clone, Copy, PartialEq, Eq)]
 pub(crate) enum WorkerFault {
     Memory,

@@ -1,17 +1,17 @@
-//! What a worker asks before each step.
+//! A gate that each worker asks before each step.
 
 ghost use Rattle.std.specs.Prelude.{◌≡◌, Bool, true, false, IsTrue};
 
 /// The largest number of times that a worker asks for one item.
 const MAX_REQUESTS: u32 = 1_000_000;
 
-/// What a worker asks before each step. It decides when a worker continues, and not the result.
+/// A gate that each worker asks before each step. It delays workers, but affects no result.
 pub trait Gate {
-    /// Whether `enter` always returns true.
+    /// True if `enter` always returns `true`.
     ghost is_open: { Bool };
 
-    /// Returns whether the worker may take its next step, after `turn` steps (at most `u64::MAX`).
-    /// If not, it asks again, up to 1,000,000 times for one item, and then stops.
+    /// Returns whether a worker may do its next step, after `turn` steps (at most `u64::MAX`). If
+    /// not, the worker asks again, up to 1,000,000 times for one item, and then stops.
     fn enter(&self, worker: u32, turn: u64) -> bool
         ensures { is_open ≡ true → IsTrue result };
 
@@ -31,7 +31,7 @@ impl Gate for OpenGate {
     }
 }
 
-/// Asks until the gate is open, or has refused as often as it may.
+/// Asks the gate until it is open, at most `MOST_ASKS` times, and returns whether it is.
 pub(crate) fn enter_gate<G: Gate>(gate: &G, worker: u32, turn: u64) -> bool
     ensures { G.is_open ≡ true → IsTrue result }
 {

@@ -12,7 +12,7 @@ use crate::machine::Machine;
 use crate::worker::WorkerHandle;
 use std::thread::Threads;
 
-/// Why a worker could not be started, and how the workers started before it ended.
+/// The reason why a worker could not be started, and the ends of the workers started before it.
 #[derive(Drop)]
 pub(crate) struct StartFailure<M: Machine> {
     pub(crate) fault: PoolFault,
@@ -71,7 +71,7 @@ pub(crate) fn close_all<M: Machine, G: Gate>(
     into
 }
 
-/// Joins each worker, in order, and returns how it ended.
+/// Joins each worker, in order, and returns its end.
 pub(crate) fn join_all<M: Machine, G: Gate, R: Threads>(
     rt: &R,
     workers: Vec<ClosingWorker<M, G>>,

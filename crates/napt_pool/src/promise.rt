@@ -15,7 +15,7 @@ use std::sync::{Arc, Wait};
 use std::thread;
 use std::thread::{Promise, PromisedHandle, Threads};
 
-/// What the thread of a worker promises: its end follows from the state in which it began.
+/// The promise of a worker's thread: its end follows from the state in which it began.
 #[derive(Drop)]
 pub(crate) struct ThreadPromise<M: Machine, G: Gate> {
     pub(crate) initial: Snapshot<ThreadState<M, G>>,

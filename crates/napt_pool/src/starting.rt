@@ -13,7 +13,7 @@ use std::alloc::Global;
 use std::sync::{Arc, Wait};
 use std::thread::Threads;
 
-/// Starts a worker for each machine. If one fails to start, those before are closed and joined.
+/// Starts a worker for each machine. If one fails to start, closes and joins those before it.
 pub(crate) fn start_all<
     M: Machine,
     G: Gate + Send + Sync + Drop + 'static,

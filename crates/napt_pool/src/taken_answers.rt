@@ -5,7 +5,7 @@ use crate::message::AnsweredBatch;
 /// Answers of a worker, in order.
 #[derive(Drop)]
 pub enum TakenAnswers<I, A> {
-    /// One answer: to an item that was offered alone, or one that is at hand after `take`.
+    /// One answer: to an item offered alone, or to one of a batch after `take` returned another.
     One(A),
     /// The answers to the items of a batch, or to the first of them if the worker then stopped.
     All(AnsweredBatch<I, A>),

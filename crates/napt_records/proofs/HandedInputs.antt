@@ -1,4 +1,4 @@
--- Merging the records that were read returns the first of the inputs that merging returns of all that is left.
+-- Merging the records that were read returns the first of the inputs that merging all unread records returns.
 use native.Mathlib.Omega.{arith}
 use Rattle.std.{proofs.lemmas.{Grind.common_steps, Bool.Decides.nat_tests}, specs.Option.option_map}
 use Rattle.std.proofs.Common.{◌≡◌, ℕ, Bool, true, false, All, List, [], ◌∷◌, ◌++◌, Option, None, Some, IfSome, IsSome, option_to_list, unwrap_or, Result, Ok, Err, refl, sym, subst, subst₂, append-nil}

@@ -1,4 +1,4 @@
--- The record that a reader returns is the first of what it has left.
+-- The record that a reader returns is the first of its unread records.
 use native.Mathlib.Omega.{arith}
 use Rattle.std.{proofs.lemmas.{Grind.common_steps, Bool.Decides.nat_tests}, specs.{Prelude.{is_some, IfSome}, Option.option_map}}
 use Rattle.std.proofs.Common.{◌≡◌, ℕ, false, Bool, List, [], ◌∷◌, Option, None, Some, Ok, Err}

@@ -1,4 +1,4 @@
--- Texts that grow piece by piece.
+-- Texts that are written piece by piece.
 use Rattle.std.proofs.lemmas.{Grind.common_steps, Bool.Decides.nat_tests}
 use Rattle.std.proofs.Common.{◌≡◌, ℕ, ◌+◌, List, [], ◌∷◌, ◌++◌, length, ◌∙◌, refl, ap, append_assoc, flat_map, arith}
 use Rattle.napt_capture.specs.Text.{entry_of_packet, record_header, record_text}

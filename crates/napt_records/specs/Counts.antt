@@ -5,11 +5,11 @@ use Rattle.napt_wire.specs.{contracts.Cause.the_type, declared.Cause.Cause}
 use Rattle.napt_rules.specs.declared.Outcome.{Outcome}
 use Rattle.napt_records.specs.{declared.report.OutcomeCounts.OutcomeCounts, Report.{is_to_outside, is_to_inside, is_dropped}}
 
--- The index of a cause in the declaration of `Cause`, from 0.
+-- Returns the index of a cause in the declaration of `Cause`, from 0.
 abbrev pub cause_place : Cause → ℕ
 cause_place = tag_of the_type
 
--- The counts are the number of outcomes and the numbers of those of each kind.
+-- The counts are the number of outcomes and the number of outcomes of each kind.
 pub record AreCountsOf (outcomes : List Outcome) (counts : OutcomeCounts) : Type 0 where
   pub packets : counts.packets ≡ length outcomes
   pub to_outside : counts.to_outside ≡ count_by is_to_outside outcomes

@@ -4,7 +4,7 @@ use Rattle.std.specs.Prelude.{◌≡◌, ℕ, ◌+◌, ◌≤◌, ◌<◌, ◌�
 use Rattle.napt_capture.specs.Contents.{RecordModel}
 use Rattle.napt_rules.specs.Prelude.{Arrival, Side, Inside, Outside}
 
--- What a record has in common with its input: the arrival time, in ns, and the bytes.
+-- Returns the arrival time, in ns, and the bytes of a record, which its input also has.
 abbrev pub of_record : RecordModel → ℕ × List ℕ
 of_record entry = (entry.time, entry.bytes)
 
@@ -19,20 +19,20 @@ same_side _ _ = false
 abbrev pub is_from : Side → Arrival → Bool
 is_from side input = same_side side input.side
 
--- The latest arrival time of the inputs, in ns, or 0 if there are none.
+-- Returns the latest arrival time of the inputs, in ns, or 0 if there are none.
 abbrev pub latest : List Arrival → ℕ
 latest [] = 0
 latest (input ∷ inputs) = max input.time (latest inputs)
 
--- The latest arrival time of the inputs up to an index, inclusive, in ns.
+-- Returns the latest arrival time of the inputs up to an index, inclusive, in ns.
 abbrev pub clock_at : ℕ → List Arrival → ℕ
 clock_at place inputs = latest (take (place + 1) inputs)
 
--- The latest arrival time of one side's inputs up to an index, inclusive, in ns.
+-- Returns the latest arrival time of one side's inputs up to an index, inclusive, in ns.
 abbrev pub reach : Side → ℕ → List Arrival → ℕ
 reach side place inputs = latest (filter (is_from side) (take (place + 1) inputs))
 
--- An inside input precedes an outside one exactly if the latest inside time up to the inside input is at most the
+-- An inside input precedes an outside one if and only if the latest inside time up to the inside input is at most the
 -- latest outside time up to the outside one.
 abbrev pub AreInOrder : List Arrival → Type 0
 AreInOrder inputs =

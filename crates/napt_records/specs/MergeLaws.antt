@@ -15,12 +15,12 @@ MergesFront = (inside outside : CaptureReading) →
     (left : List Arrival) × (merged_inputs inside.records outside.records ≡ (inputs_until inside outside).arrivals
     ++ left)
 
--- If merging meets no fault, they are all of the merged list.
+-- If merging has no fault, these inputs are the whole merged list.
 abbrev pub MergesWhole : Type 0
 MergesWhole = (inside outside : CaptureReading) (cuts : CutFlags) → (inputs_until inside outside).end ≡ Ok cuts →
     (inputs_until inside outside).arrivals ≡ merged_inputs inside.records outside.records
 
--- If merging meets no fault, neither capture has one, and the flags say which of them end inside a record.
+-- If merging has no fault, neither capture has one, and the flags are true for the captures that end inside a record.
 abbrev pub MergeEnds : Type 0
 MergeEnds = (inside outside : CaptureReading) (cuts : CutFlags) → (inputs_until inside outside).end ≡ Ok cuts →
     (inside.end ≡ Ok cuts.inside) × (outside.end ≡ Ok cuts.outside)
@@ -29,7 +29,7 @@ abbrev pub held_of : Side → CaptureReading → CaptureReading → CaptureReadi
 held_of Inside inside outside = inside
 held_of Outside inside outside = outside
 
--- A fault that merging meets is that of the capture of its side.
+-- A fault of merging is that of the capture of its side.
 abbrev pub MergeMeets : Type 0
 MergeMeets = (inside outside : CaptureReading) (fault : SideFault) → (inputs_until inside outside).end ≡ Err fault →
     (held_of fault.side inside outside).end ≡ Err fault.fault
@@ -39,8 +39,8 @@ abbrev pub HaveAll : Side → CaptureReading → CaptureReading → List Arrival
 HaveAll side inside outside inputs =
     map of_input (filter (is_from side) inputs) ≡ map of_record (held_of side inside outside).records
 
--- Before a fault, merging returns the shortest prefix that has all records of a side whose capture has a fault, and
--- the fault is of that side: merging needs what follows them.
+-- Before a fault, merging returns the shortest prefix that has all records of a side whose capture has a fault. The
+-- fault is of that side, since merging needs the record that follows.
 abbrev pub MergesBefore : Type 0
 MergesBefore = (inside outside : CaptureReading) (fault : SideFault) → (inputs_until inside outside).end ≡ Err fault →
     HaveAll fault.side inside outside (inputs_until inside outside).arrivals

@@ -5,7 +5,7 @@ use Rattle.napt_wire.specs.declared.Side.{Side, TheVariants.{Inside, Outside}}
 use Rattle.napt_capture.specs.{Contents.RecordModel, Text.entry_of_packet}
 use Rattle.napt_rules.specs.{declared.Outcome.{Outcome, TheVariants.{ToOutside, ToInside}}, Prelude.Arrival}
 
--- The packet that an outcome sends to a side, if it sends one.
+-- Returns the packet that an outcome sends to a side, if it sends one.
 abbrev pub packet_to : Side → Outcome → Option (List ℕ)
 packet_to Outside (ToOutside packet) = Some packet
 packet_to Inside (ToInside packet) = Some packet

@@ -1,4 +1,4 @@
--- A step of merging: it removes the earlier of the two first records; on a tie, the inside one.
+-- A step of merging, which removes the earlier of the two first records or, on a tie, the inside one.
 use Rattle.std.specs.Prelude.{◌≡◌, ℕ, max, Bool, true, false, cond, nat_lt, List, [], ◌∷◌, Option, Some, None, Result, Ok, Err}
 use Rattle.napt_capture.specs.{declared.fault.CaptureFault.CaptureFault, Contents.RecordModel, Capture.CaptureReading}
 use Rattle.napt_records.specs.declared.stream_merger.{CutFlags.CutFlags, SideFault.SideFault}
@@ -10,7 +10,7 @@ is_outside_next [] outs = true
 is_outside_next (first ∷ ins) [] = false
 is_outside_next (first ∷ ins) (other ∷ outs) = nat_lt other.time first.time
 
--- The record that is removed, and the records that are left on each side.
+-- The step removes this record from these records of the two sides.
 abbrev pub TakesRecord : List RecordModel → List RecordModel → Option (Side × RecordModel) → List RecordModel →
     List RecordModel → Type 0
 TakesRecord ins outs None ins_left outs_left = ((ins ≡ []) × (outs ≡ [])) × ((ins_left ≡ []) × (outs_left ≡ []))
@@ -19,7 +19,7 @@ TakesRecord ins outs (Some (Inside, entry)) ins_left outs_left = (ins ≡ entry 
 TakesRecord ins outs (Some (Outside, entry)) ins_left outs_left = (outs ≡ entry ∷ outs_left) × (ins ≡ ins_left)
     × (is_outside_next ins outs ≡ true)
 
--- The input that a record becomes.
+-- Returns the input that a record becomes, with this clock in ns.
 abbrev pub input_of : Side → ℕ → RecordModel → Arrival
 input_of side clock entry = record { side = side; time = entry.time; clock = clock; bytes = entry.bytes }
 
@@ -40,7 +40,7 @@ abbrev pub at_end : Bool → Result Bool CaptureFault → MergedInputs
 at_end cut (Ok other) = record { arrivals = []; end = Ok (record { inside = cut; outside = other }) }
 at_end cut (Err fault) = at_fault Outside fault
 
--- The inputs from the outside records once the inside capture has ended, where the clock, in ns, is that before them.
+-- Returns the inputs from the outside records after the end of the inside capture. The clock, in ns, is before them.
 abbrev pub outside_alone : Bool → Result Bool CaptureFault → ℕ → List RecordModel → MergedInputs
 outside_alone cut other clock [] = at_end cut other
 outside_alone cut other clock (entry ∷ entries) =
@@ -51,8 +51,8 @@ abbrev pub unless_fault : Result Bool CaptureFault → MergedInputs → MergedIn
 unless_fault (Ok cut) more = more
 unless_fault (Err fault) more = at_fault Outside fault
 
--- The outside records that are earlier than the next inside record, up to the first that is not, then that inside
--- record, and then the others.
+-- Returns the inputs from the outside records up to the first that is not earlier than the next inside record, then
+-- that inside record, and then the others.
 abbrev pub outside_until : Result Bool CaptureFault → RecordModel → (ℕ → List RecordModel → MergedInputs) → ℕ →
     List RecordModel → MergedInputs
 outside_until other first others clock [] =
@@ -68,13 +68,13 @@ abbrev pub alone_by : Result Bool CaptureFault → Result Bool CaptureFault → 
 alone_by (Ok cut) other clock outs = outside_alone cut other clock outs
 alone_by (Err fault) other clock outs = at_fault Inside fault
 
--- The inputs from the ends of both captures and the records that are left of each, where the clock is in ns.
+-- Returns the inputs from the ends of both captures and the remaining records of each. The clock is in ns.
 abbrev pub inputs_from : Result Bool CaptureFault → Result Bool CaptureFault → List RecordModel → ℕ →
     List RecordModel → MergedInputs
 inputs_from end other [] clock outs = alone_by end other clock outs
 inputs_from end other (first ∷ ins) clock outs = outside_until other first (inputs_from end other ins) clock outs
 
--- The result of merging two captures, from the start.
+-- Returns the result of merging two captures, from the start.
 abbrev pub inputs_until : CaptureReading → CaptureReading → MergedInputs
 inputs_until inside outside = inputs_from inside.end outside.end inside.records 0 outside.records
 

@@ -45,7 +45,7 @@ cause_name Filtered = codes "filtered"
 cause_name OverQuota = codes "over-quota"
 cause_name NoPort = codes "no-port"
 
--- The outcome is a packet that was dropped for this cause.
+-- Returns whether the outcome is that of a packet dropped for this cause.
 abbrev pub is_dropped : Cause → Outcome → Bool
 is_dropped cause (Dropped given) = sameb the_type given cause
 is_dropped cause other = false
@@ -66,7 +66,7 @@ protocol_name Icmp = codes "icmp"
 protocol_name Tcp = codes "tcp"
 protocol_name Udp = codes "udp"
 
--- The address and the number of an endpoint. The number is printed even if it is the 0 of an echo's remote endpoint.
+-- Returns the address and the number of an endpoint as text, with the number even if it is 0, as in an echo's remote.
 abbrev pub endpoint_text : Endpoint → ReportText
 endpoint_text endpoint = address_text endpoint.address ++ codes ":" ++ decimal endpoint.number
 

@@ -24,13 +24,13 @@ CountsFailures {R} {G} old more new = G.failed new.live.source.now ≡ G.failed 
 abbrev pub NoneFailed : {R : Type 0} {G : Ghosts R} → RecordStream R G → RecordStream R G → Type 0
 NoneFailed {R} {G} old new = G.failed new.live.source.now ≡ G.failed old.live.source.now
 
--- Whether the capture is known to end inside a record.
+-- Returns whether the capture is known to end inside a record.
 abbrev pub cut_of : {R : Type 0} {G : Ghosts R} → RecordStream R G → Bool
 cut_of stream = unwrap_or stream.cut false
 
 -- READS OF THE SOURCE
 
--- The next record of the stream is not known, so that its source is read.
+-- The next record of the stream is not known, so that its source must be read.
 abbrev pub AsksSource : {R : Type 0} {G : Ghosts R} → RecordStream R G → Option RecordModel → Type 0
 AsksSource stream first = ((first ≡ None) × (stream.cut ≡ None)) × RecordsAskSource stream.records
 
@@ -48,8 +48,7 @@ abbrev pub AreSame : {R Q : Type 0} {G : Ghosts R} {H : Ghosts Q} → StreamMerg
     Type 0
 AreSame old new = HasSameSource old.inside new.inside × HasSameSource old.outside new.outside
 
--- After both streams have read ahead, the unread inputs are unchanged, and the next record of each is known or its end
--- is.
+-- After both streams have read ahead, the unread inputs are unchanged, and the next record or the end of each is known.
 pub record ReadAheadPost {R Q : Type 0} {G : Ghosts R} {H : Ghosts Q} (old new : StreamMerger R Q G H) : Type 0 where
   pub live : IsMergerLive new
   pub inside_count : NoneFailed old.inside new.inside
@@ -61,7 +60,7 @@ pub record ReadAheadPost {R Q : Type 0} {G : Ghosts R} {H : Ghosts Q} (old new :
   pub outside_stays : KnownStays (stream_holds old.outside old.outside_first)
       (stream_holds new.outside new.outside_first)
 
--- The number of reads of a side that failed, from a fault and the side of the fault.
+-- Returns the number of failed reads of a side, from a fault and the side of the fault.
 abbrev pub failed_by : Side → Side → CaptureFault → ℕ
 failed_by Inside Inside fault = let answer : Result (Unit {0}) CaptureFault = Err fault in failed_reads answer
 failed_by Outside Outside fault = let answer : Result (Unit {0}) CaptureFault = Err fault in failed_reads answer
@@ -111,7 +110,7 @@ abbrev pub HandsOutInputs : {R Q : Type 0} {G : Ghosts R} {H : Ghosts Q} → Str
     StreamMerger R Q G H → Type 0
 HandsOutInputs old inputs new = AreSame old new × (IsMergerLive old → Goes old inputs new)
 
--- The end of both captures was reached, and no input is left.
+-- The end of both captures was reached, and no input remains.
 pub record NextEnd {R Q : Type 0} {G : Ghosts R} {H : Ghosts Q} (old new : StreamMerger R Q G H) : Type 0 where
   pub inside_count : NoneFailed old.inside new.inside
   pub outside_count : NoneFailed old.outside new.outside

@@ -23,14 +23,14 @@ pub enum Which {
 }
 
 /// The reason why a run over captures ended early. After a fault of a capture or of the run,
-/// `run_captures` has written nothing; `run_streams` documents what it has written.
+/// `run_captures` has written nothing. For `run_streams`, its documentation has the outputs.
 #[derive(Clone, Copy, Debug, PartialEq, Eq)]
 pub enum Fault {
     /// The capture of this side is malformed or could not be read.
     Capture(Side, CaptureFault),
     /// The run failed, or memory for its inputs or outputs was refused.
     Run(RunFault),
-    /// Writing this output failed. After `run_captures` earlier ones are whole, later ones empty.
+    /// Writing this output failed. After `run_captures`, earlier ones are whole, later ones empty.
     Write(Which, WriteFault),
 }
 

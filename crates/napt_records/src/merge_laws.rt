@@ -6,9 +6,9 @@ pub fn merge_is_in_order()
     ensures { MergeIsInOrder }
 {}
 
-/// Law: what merging returns is a prefix of the merged list, and all of it if there is no fault. A
-/// fault is that of its side, and comes after the shortest prefix that has all records of that
-/// side. If both captures have a fault next, the one of the inside capture is reported.
+/// Law: merging returns a prefix of the merged list, and all of it if there is no fault. A fault is
+/// that of the capture of its side, and comes after the shortest prefix that has all records of
+/// that side. If both captures have a fault next, that of the inside capture is reported.
 pub fn merge_until_fault()
     ensures front { MergesFront }
     ensures whole { MergesWhole }
@@ -18,8 +18,8 @@ pub fn merge_until_fault()
     ensures inside_first { ReportsInsideFirst }
 {}
 
-/// Law: both captures can be cut after each prefix of the merged list. Merging the first parts is
-/// that prefix, and merging the rest gives the other inputs, with clocks no earlier than its last.
+/// Law: both captures can be cut after each prefix of the merged list. Merging the first parts
+/// gives that prefix, and merging the rest gives the others, with clocks at least its last one.
 pub fn captures_can_be_cut()
     ensures { CapturesCanBeCut }
 {}

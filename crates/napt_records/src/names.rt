@@ -1,4 +1,4 @@
-//! The names of causes, protocols and endpoints, as the report and other texts have them.
+//! The names of causes, protocols and endpoints in the report and other texts.
 ghost use Rattle.std.specs.Prelude.{◌≡◌, Some};
 ghost use Rattle.napt_records.specs.Report as model;
 

@@ -11,7 +11,7 @@ use std::alloc::{AllocError, Global};
 use std::collections::VecDeque;
 use std::marker::Model;
 
-/// Returns whether the next record is the outside one: the earlier; the inside one on a tie.
+/// Returns whether the outside record is next: it is earlier, or there is no inside one.
 fn is_outside_next(inside: &VecDeque<Record>, outside: &VecDeque<Record>) -> bool
     ensures { result ≡ is_outside_next inside.now.items outside.now.items }
 {
@@ -41,7 +41,7 @@ fn take_next(
 }
 
 /// The records of both captures, which are merged as a run reads them. Captures need not be sorted:
-/// each keeps its own order. If two records have the same time, the inside one comes first.
+/// the order of each is preserved. If two records have the same time, the inside one comes first.
 #[derive(Drop)]
 pub struct RecordMerger {
     inside: VecDeque<Record>,
@@ -76,7 +76,7 @@ impl RecordMerger {
 }
 
 impl RecordMerger {
-    /// Returns the number of inputs that are left.
+    /// Returns the number of remaining inputs.
     fn count(&self) -> usize
         ensures { result ≡ length self.now }
     {

@@ -9,9 +9,9 @@ use std::mem;
 #[derive(Drop)]
 struct OpenCapture<'a, R: Source> {
     source: &'a mut R,
-    /// The fault with which reading ended early, if it did.
+    /// The fault with which reading ended early, if any.
     fault: Option<CaptureFault>,
-    // So that what contracts see of the type has the ghosts of its source.
+    // Gives the contract view of the type the ghosts of its source.
     ghost of_source: { R.failed source.now ≡ R.failed source.now },
 }
 
@@ -20,7 +20,7 @@ struct OpenCapture<'a, R: Source> {
 pub struct RecordStream<'a, R: Source> {
     live: OpenCapture<'a, R>,
     records: RecordReader,
-    /// Whether the capture ends inside a record; `None` until its end is reached.
+    /// `true` if the capture ends inside a record; `None` until its end is reached.
     cut: Option<bool>,
 }
 
@@ -30,7 +30,7 @@ impl<'a, R: Source> OpenCapture<'a, R> {
     ghost use Rattle.napt_capture.specs.Reading.{LeavesBytes, IsWritableNext, IsReadResult};
     ghost use Rattle.napt_capture.specs.RecordReaders.{RecordsAskSource, HandsOutNothing, HandsOutNext, next_number, remaining_text};
 
-    /// Reads the next record. After a fault, reads nothing and returns the same fault.
+    /// Reads the next record. After a fault, returns the same fault again and reads nothing.
     #[inline(always)]
     fn next(
         &mut self,
@@ -97,8 +97,8 @@ impl<'a, R: Source> RecordStream<'a, R> {
         }
     }
 
-    /// Reads the next record into `first`, unless it holds one or the end was reached. The record
-    /// takes `spare`, which a new vector replaces. After a fault, nothing of the rest is lost.
+    /// Reads the next record into `first`, unless it has one or the end was reached. The record
+    /// uses `spare`, which a new vector replaces. After a fault, nothing of the rest is lost.
     #[inline(always)]
     pub fn read_ahead(
         &mut self,

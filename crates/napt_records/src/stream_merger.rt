@@ -15,7 +15,7 @@ pub struct SideFault {
     pub fault: CaptureFault,
 }
 
-/// For each capture, whether it ends inside a record.
+/// Flags that are `true` for a capture that ends inside a record.
 #[derive(Clone, Copy, Debug, PartialEq, Eq)]
 pub struct CutFlags {
     pub inside: bool,
@@ -79,7 +79,7 @@ impl<'a, 'b, R: Source, Q: Source> StreamMerger<'a, 'b, R, Q> {
         }
     }
 
-    /// Returns for each capture whether it ends inside a record; `false` until its end is reached.
+    /// Returns whether each capture ends inside a record: `false` until its end is reached.
     pub fn cuts(&self) -> CutFlags
         ensures inside { result.inside ≡ cut_of self.now.inside }
         ensures outside { result.outside ≡ cut_of self.now.outside }

@@ -1,4 +1,4 @@
--- Lemmas about what holds of results.
+-- Lemmas about properties of results.
 use native.Mathlib.Omega.{arith}
 use Rattle.std.{proofs.{lemmas.{Grind.common_steps, Bool.Decides.nat_tests}, Common.{Result, IfOk}}, specs.Prelude.OnOk}
 

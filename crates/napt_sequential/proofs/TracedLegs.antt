@@ -1,4 +1,4 @@
--- What each leg of a run did is in the trace of its input.
+-- The effect of each leg of a run is in the trace of its input.
 use Rattle.std.{proofs.lemmas.{Grind.common_steps, Bool.{Decides.nat_tests, eq-eqb, ne_eqb}}, specs.List.slice_get}
 use Rattle.std.proofs.Common.{◌≡◌, ◌≢◌, ◌⊎◌, inl, true, ℕ, zero, suc, ◌+◌, ◌-◌, ◌≤◌, max, List, [], ◌∷◌, ◌++◌, map, Option, Some, refl, ◌∙◌, ap, arith}
 use Rattle.napt_wire.specs.declared.{Side.TheVariants.Outside, Way.TheVariants.Incoming}

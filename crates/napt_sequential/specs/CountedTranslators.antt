@@ -1,5 +1,5 @@
--- The translators of a sequential run, one for each external address in the order of the pool. Together they hold the
--- run's one list of bindings, each those of its address.
+-- The translators of a sequential run, one for each external address in the order of the pool. Each has the bindings of
+-- its address in the run's one list of bindings.
 use Rattle.std.specs.{Prelude.{◌≡◌, ℕ, Bool, ◌+◌, ◌<◌, ◌≤◌, ◌^◌, max, length, List, [], ◌∷◌, ◌++◌, flat_map, Option, Some, None}, Option.option_map, List.slice_get}
 use Rattle.napt_wire.specs.{declared.{Protocol.Protocol, Way.{Way, TheVariants.{Outgoing, Incoming}}}, Fields.{source, destination, kind}}
 use Rattle.napt_config.specs.{declared.settings.Timers.Timers, Rules.Rules}
@@ -33,17 +33,17 @@ pub record AreCountedTranslators (rules : Rules) (state : SequentialRunModel)
   pub each : (place address : ℕ) (counted : CountedTranslator) → slice_get rules.pool place ≡ Some address →
       slice_get translators place ≡ Some counted → IsCountedTranslator rules place address state counted
 
--- The act of a leg at an external address.
+-- Returns the act of a leg at an external address.
 abbrev pub act_of : ℕ → Leg → LegEffect → LegAct
 act_of address leg acted = record { address = address; leg = leg; end = acted.end; through = acted.through }
 
--- The state of the run after this leg.
+-- Returns the state of the run after this leg.
 abbrev pub state_after : Rules → ℕ → Leg → SequentialRunModel → SequentialRunModel
 state_after rules address leg state =
     let acted : LegEffect = act rules address leg state.list in
     record { clock = leg.now; acts = state.acts ++ act_of address leg acted ∷ []; list = acted.list }
 
--- The traced answer of a leg that acted; `tells` gives its record from what the leg did.
+-- Returns the traced answer of a leg from its act. `tells` maps the effect of a leg to its record.
 abbrev pub traced_act : {P : Type 0} → (Passage → P) → Timers → LegAct → TracedAnswer P
 traced_act tells timers a = record { answer = answer_of a; passage = tells (passage_of timers a) }
 
@@ -58,7 +58,7 @@ TracesLeg rules place leg before after told = (state : SequentialRunModel) (addr
 abbrev pub no_trace : NoTrace
 no_trace = record {}
 
--- The act of a leg at a translator with these bindings and this time, and the traced answer to it.
+-- Returns the act of a leg at a translator in this state, and then the traced answer to it.
 abbrev pub act_there : Rules → ℕ → Leg → LocalState → LegAct
 act_there rules address leg kept = act_of address leg (local_act rules address leg kept)
 
@@ -68,16 +68,16 @@ traced_by tells rules address leg kept = traced_act tells rules.timers (act_ther
 abbrev pub traced_answer : {P : Type 0} → (Passage → P) → Leg → TranslatorModel → TracedAnswer P
 traced_answer tells leg state = traced_by tells state.rules state.table.address leg (local_state state.table)
 
--- A counted translator after a leg.
+-- Returns a counted translator after a leg.
 abbrev pub counted_after : Leg → CountedTranslator → CountedTranslator
 counted_after leg counted = record { translator = translator_after leg counted.translator; legs = counted.legs + 1 }
 
--- The rows of a counted translator's bindings that are live at `now` or at its own time, whichever is later, in ns.
+-- Returns the rows of its bindings that are live at the later of `now` and its own time, in ns.
 abbrev pub rows_at : ℕ → CountedTranslator → List Row
 rows_at now counted = rows counted.translator.rules.timers (max now counted.translator.table.at)
     counted.translator.table.list
 
--- Its bindings that are live or held at `now` or at its own time, whichever is later, in ns.
+-- Returns its bindings that are live or held at the later of `now` and its own time, in ns.
 abbrev pub bindings_left_at : ℕ → CountedTranslator → List Binding
 bindings_left_at now counted = live_and_held counted.translator.rules.timers (max now counted.translator.table.at)
     counted.translator.table.list
@@ -119,7 +119,7 @@ passage_seen now seen made end state = found_by state.rules.timers (max now stat
 
 -- TIMES AND STEPS
 
--- The same state at another time, in ns.
+-- Returns the state with another time, in ns.
 abbrev pub state_at_time : ℕ → SequentialRunModel → SequentialRunModel
 state_at_time now state = record { clock = now; acts = state.acts; list = state.list }
 
@@ -149,12 +149,12 @@ abbrev pub StepTraces : Rules → ℕ → RunEffect → SequentialRunModel → L
 StepTraces rules now course state translators stepped = StepFollows rules now course state translators stepped.outcome
     × (stepped.trace ≡ trace_of rules.timers now course)
 
--- The state of the run after these inputs from a starting state; for no inputs, before the first.
+-- Returns the state of the run after these inputs from a starting state; without inputs, that before the first.
 abbrev pub state_from : Rules → State → List Arrival → SequentialRunModel
 state_from rules state inputs =
     let course : RunEffect = effect_from rules state inputs in
     record { clock = last_clock state.clock inputs; acts = course.acts; list = course.list }
 
--- The state of the run after these inputs from the redirects of the configuration.
+-- Returns the state of the run after these inputs from the redirects of the configuration.
 abbrev pub state_of : Rules → List Arrival → SequentialRunModel
 state_of rules inputs = state_from rules (initial_state rules) inputs

@@ -1,4 +1,4 @@
--- An input of a run as contracts see it: all but its location in memory. Its number is its index, from 0.
+-- An input of a run as contracts see it, without its location in memory. Its number is its index, from 0.
 use Rattle.std.specs.Prelude.{◌≡◌, List, [], ◌∷◌, Option, Some, None, Result, Ok, Err}
 use Rattle.napt_rules.specs.Prelude.{Arrival}
 

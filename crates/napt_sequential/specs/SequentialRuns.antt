@@ -5,7 +5,7 @@ use Rattle.napt_rules.specs.Prelude.{Arrival, last_clock, State, initial_state, 
 use Rattle.napt_sequential.specs.declared.{outcome.StepResult.StepResult, sequential_run.SequentialRun.SequentialRun}
 use Rattle.napt_sequential.specs.{CountedTranslators.{AreCountedTranslators, state_from}, Traces.traces_of}
 
--- The run had these inputs from a state, and its translators are those after them.
+-- The run had these inputs from a state, and its translators are those after these inputs.
 pub record SequentialRunInvariant (rules : Rules) (state : State) (inputs : List Arrival) (it : SequentialRun) : Type
     0 where
   pub many : it.many ≡ length inputs
@@ -20,7 +20,7 @@ pub record StepPost (rules : Rules) (state : State) (before : List Arrival) (inp
   pub time : told.trace.now ≡ last_clock state.clock (before ++ input ∷ [])
   pub trace : traces_of rules state (before ++ input ∷ []) ≡ traces_of rules state before ++ told.trace ∷ []
 
--- The same for a run from the redirects of the configuration.
+-- The same holds of a run from the redirects of the configuration.
 abbrev pub IsRunFromOpening : Rules → List Arrival → SequentialRun → Type 0
 IsRunFromOpening rules inputs it = SequentialRunInvariant rules (initial_state rules) inputs it
 

@@ -1,7 +1,7 @@
--- What each input of a run did to the bindings: which of them its packet used, and when they expire unless another
--- packet follows.
+-- The effects of each input of a run on the bindings: the bindings that its packet used, and the times when they expire
+-- unless another packet follows.
 --
--- An outgoing packet uses the binding of its source, which is made if there is none; an incoming one that of its
+-- An outgoing packet uses the binding of its source, which is made if there is none, and an incoming packet that of its
 -- destination (RFC 3022, section 4). An ICMP error uses none (RFC 5508, REQ-3 to REQ-6).
 use Rattle.std.specs.Prelude.{ℕ, ◌+◌, max, Bool, true, false, List, [], ◌∷◌, Option, Some, None}
 use Rattle.napt_wire.specs.{declared.{Protocol.Protocol, Way.{Way, TheVariants.{Outgoing, Incoming}}}, Fields.{source, kind}}
@@ -14,14 +14,14 @@ use Rattle.napt_sequential.specs.declared.passage.{Passage.{Passage, TheVariants
 
 -- ONE LEG
 
--- The passage in this direction through a binding, which was so after the leg, and which the leg may have made on its
--- way out.
+-- Returns the passage in this direction through a binding, given as it was after the leg. An outgoing leg may have made
+-- the binding.
 abbrev pub passage_of_row : Way → Bool → TimedRow → Passage
 passage_of_row Outgoing true row = Made row
 passage_of_row Outgoing false row = Out row
 passage_of_row Incoming made row = In row
 
--- The passage of a leg that used no binding: a dropped packet other than an ICMP error, or nothing.
+-- Returns the passage of a leg that used no binding: a dropped packet that is not an ICMP error, or nothing.
 abbrev pub loss_of : Option Protocol → ℕ → End → Passage
 loss_of (Some protocol) host (ends.Dropped cause) = Dropped (record { protocol = protocol; host = host; cause = cause })
 loss_of _ host _ = Nothing
@@ -51,7 +51,7 @@ trace_of timers now course = record {
   second = second_passage timers course.acts;
 }
 
--- The traces of inputs, one for each. The first has this number; the clock, in ns, and the bindings are before it.
+-- Returns the traces of inputs. The first input has this number; the clock, in ns, and the bindings precede it.
 abbrev pub traces_from : Rules → ℕ → ℕ → List Arrival → List Binding → List Trace
 traces_from rules number clock [] list = []
 traces_from rules number clock (input ∷ inputs) list =
@@ -59,10 +59,10 @@ traces_from rules number clock (input ∷ inputs) list =
     let course : RunEffect = step rules number now input list in
     trace_of rules.timers now course ∷ traces_from rules (number + 1) now inputs course.list
 
--- The traces of a run from a state.
+-- Returns the traces of a run from a state.
 abbrev pub traces_of : Rules → State → List Arrival → List Trace
 traces_of rules state inputs = traces_from rules 0 state.clock inputs state.list
 
--- The traces of a run from the redirects of the configuration.
+-- Returns the traces of a run from the redirects of the configuration.
 abbrev pub traces : Rules → List Arrival → List Trace
 traces rules inputs = traces_of rules (initial_state rules) inputs

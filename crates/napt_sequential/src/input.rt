@@ -3,7 +3,7 @@
 use napt_wire::Side;
 use std::marker::Model;
 
-/// The largest number of inputs of a run. With more it fails with `RunFault::TooMany`.
+/// The largest number of inputs of a run. A run with more fails with `RunFault::TooMany`.
 pub const MOST_INPUTS: usize = 4_294_967_295;
 
 /// A packet that arrived from either side. Its number is its index in the list of inputs, from 0.

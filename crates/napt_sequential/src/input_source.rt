@@ -9,13 +9,13 @@ use std::collections::VecDeque;
 
 /// A source of inputs. A run reads them one at a time, until the end or the first fault.
 pub trait InputSource {
-    /// The reason why no more inputs can be read.
+    /// The reason why a source cannot return more inputs.
     type Fault: Drop;
 
-    // Between the two states the source returned these inputs, in this order.
+    // Between the two states, the source returned these inputs, in this order.
     ghost hands: { Self → List Arrival → Self → Type 0 };
 
-    // Between the two states the source reported the end, or this fault.
+    // Between the two states, the source reported the end, or this fault.
     ghost ends: { Self → Option Self.Fault → Self → Type 0 };
 
     // The next call of `next` may have to wait for a device.

@@ -1,4 +1,4 @@
-//! The translation of a leg, with a record of what the leg did to the bindings.
+//! The translation of a leg, with a record of its effect on the bindings.
 
 ghost use Rattle.std.specs.Prelude.{◌≡◌, IfOk, OnOk, OnErr};
 ghost use Rattle.napt_sequential.specs.{CountedTranslators.{traced_answer, passage_seen}, declared.passage.Passage.Passage as KnownPassage};
@@ -18,9 +18,9 @@ pub struct TracedAnswer<P> {
     pub passage: P,
 }
 
-/// What is recorded of a leg in addition to its answer: what it did to the bindings, or nothing.
+/// The record of a leg in addition to its answer: its effect on the bindings, or nothing.
 pub trait LegTrace: Copy + Drop + Send + 'static {
-    // The record of a leg that did this to the bindings.
+    // The record of a leg with this effect on the bindings.
     ghost tells: { KnownPassage → Self };
 
     /// Returns the record for a leg that does not exist.
@@ -78,7 +78,7 @@ impl LegTrace for Passage {
         translator: &mut Translator,
         leg: Leg,
     ) -> Result<TracedAnswer<Passage>, AllocError> {
-        // called for its clause alone: the rules of a translator are valid
+        // Only the contract of this call is used: the rules of a translator are valid.
         translator.keep_rules();
         let now = leg.now;
         let seen = PacketTuple::from_packet(&leg.packet);
@@ -89,7 +89,7 @@ impl LegTrace for Passage {
     }
 }
 
-/// Returns what a leg did, from its packet before the leg, whether it made a binding, and its end. `now` is in ns.
+/// Returns the effect of a leg at `now` (ns), given its packet, whether it made a binding, its end.
 fn passage(translator: &Translator, now: u64, seen: PacketTuple, made: bool, end: &End) -> Passage
     ensures { result ≡ passage_seen now seen made end.now translator.now }
 {

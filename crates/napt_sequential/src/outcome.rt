@@ -8,7 +8,7 @@ use std::marker::Model;
 #[derive(Drop)]
 pub struct StepResult {
     pub outcome: Outcome,
-    /// What its legs did to the bindings.
+    /// The effects of its legs on the bindings.
     pub trace: Trace,
 }
 
@@ -17,8 +17,8 @@ pub struct StepResult {
 pub struct Run {
     /// The outcome of each input, in the order of the inputs.
     pub outcomes: Vec<Outcome>,
-    /// The bindings that are live at the last clock, or at 0 if there is no input: by external
-    /// address in the order of the pool, then by protocol (ICMP, TCP, UDP) and external number.
+    /// The bindings that are live at the last clock, or at 0 without inputs, sorted by external
+    /// address in pool order, then by protocol (ICMP, TCP, UDP) and external number.
     pub bindings: Vec<Row>,
     /// The number of legs at each external address, in the order of the pool.
     pub legs: Vec<u64>,

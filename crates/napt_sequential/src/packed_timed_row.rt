@@ -18,7 +18,7 @@ pub struct PackedTimedRow {
     external_number: u16,
     protocol: Protocol,
     fixed: bool,
-    /// Whether it never expires. Both parts of the time are then 0.
+    /// `true` if it never expires. Both parts of the time are then 0.
     is_endless: bool,
 }
 

@@ -1,4 +1,4 @@
-//! What a leg did to the bindings.
+//! The effect of a leg on the bindings.
 
 ghost use Rattle.std.specs.Prelude.{◌≡◌};
 ghost use Rattle.napt_sequential.specs.CountedTranslators as lookups;
@@ -7,14 +7,14 @@ use crate::packed_timed_row::PackedTimedRow;
 use napt_table::TimedRow;
 use napt_wire::{Cause, Endpoint, Kind, Packet, Protocol, Way};
 
-/// What a leg did to the bindings of its external address.
+/// The effect of a leg on the bindings of its external address.
 #[derive(Clone, Copy, Debug, PartialEq, Eq)]
 pub enum Passage {
     /// There is no such leg, or its packet is an ICMP error, which uses no binding.
     Nothing,
     /// The leg made a binding for the source of the packet, and the packet went out through it.
     Made(PackedTimedRow),
-    /// The packet went out through the binding that its source had.
+    /// The packet went out through the existing binding of its source.
     Out(PackedTimedRow),
     /// The packet came in through the binding of its destination.
     In(PackedTimedRow),
@@ -22,7 +22,7 @@ pub enum Passage {
     Dropped(DroppedPacket),
 }
 
-/// A packet other than an ICMP error that was dropped by a leg.
+/// A packet, not an ICMP error, that a leg dropped.
 #[derive(Clone, Copy, Debug, PartialEq, Eq)]
 pub struct DroppedPacket {
     pub protocol: Protocol,
@@ -31,13 +31,13 @@ pub struct DroppedPacket {
     pub cause: Cause,
 }
 
-/// What the legs of one input did. The expiry of a binding is as the leg left it.
+/// The effects of one input's legs. The expiry of a binding is that after the leg.
 #[derive(Clone, Copy, Debug, PartialEq, Eq)]
 pub struct Trace {
     /// The time of the legs, in ns.
     pub now: u64,
     pub first: Passage,
-    /// That of the second leg, which only a hairpin has (RFC 4787, REQ-9).
+    /// The effect of the second leg, which only a hairpin has (RFC 4787, REQ-9).
     pub second: Passage,
 }
 
@@ -70,8 +70,8 @@ impl PacketTuple {
     }
 }
 
-/// Returns the passage in direction `way` through the binding found, or `Nothing` without one. `made` says whether the
-/// leg made the binding of an outgoing packet.
+/// Returns the passage in direction `way` through the binding found, or `Nothing` without one.
+/// `made` is true if the leg of an outgoing packet made the binding.
 pub(crate) fn passage_through(way: Way, made: bool, found: Option<TimedRow>) -> Passage
     ensures { result ≡ lookups.passage_through way made found }
 {

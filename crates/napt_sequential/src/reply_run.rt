@@ -29,8 +29,8 @@ fn protocol_by(kind: Kind) -> Protocol
 }
 
 impl CountedTranslator {
-    /// Returns the external number of an inside endpoint at `now`, in ns. If it has none, returns
-    /// the smallest number from 1 that no live binding has, or `None` if there is none.
+    /// Returns the external number of an inside endpoint at `now`, in ns, or else the least number
+    /// from 1 on that no live or held binding has, or `None` if each is in use.
     fn number(&mut self, now: u64, protocol: Protocol, inside: Endpoint) -> Option<u16>
         ensures value { result ≡ reply_number_in now protocol inside self.old }
         ensures named { IfSome result (IsNumber protocol) }
@@ -63,7 +63,7 @@ fn number(
     translators[place as usize].number(now, protocol, inside)
 }
 
-/// Returns the external endpoint to which a reply is sent that names this inside endpoint.
+/// Returns the external endpoint to which a reply to this inside endpoint is sent, if any.
 fn target(
     config: &Config,
     translators: &mut [CountedTranslator],
@@ -122,7 +122,7 @@ fn send(config: &Config, translators: &mut [CountedTranslator], now: u64, packet
     readdress(packet, end);
 }
 
-/// Readdresses the bytes of a reply in place, as `send` does. Bytes that are no packet stay.
+/// Readdresses the bytes of a reply, as `send` does. Does not change bytes that are not a packet.
 fn sent(config: &Config, translators: &mut [CountedTranslator], now: u64, bytes: Vec<u8>) -> Vec<u8>
     requires keeps { RulesInvariant config.now }
     requires many { length translators.old ≡ length config.now.pool }
@@ -172,7 +172,7 @@ fn follow(config: &Config, translators: &mut [CountedTranslator], now: u64, inpu
     }
 }
 
-/// Returns the inputs that the run gets. The run is made along with them, and then dropped.
+/// Returns the inputs that the run gets. Creates the run at the same time, and drops it.
 fn follow_all(
     alloc: Global,
     config: &Config,
@@ -198,9 +198,9 @@ fn follow_all(
 }
 
 /// Returns the inputs that a run gets if those from outside are replies: packets as inside hosts
-/// got them. Each reply is sent to the external endpoint that its inside endpoint has at that time,
+/// received them. Each is sent to the external endpoint that its inside endpoint has at that time,
 /// and comes in as any packet from outside does. A run over these inputs is the run that the
-/// replies follow. The side and the times of each input stay, and its bytes are not copied.
+/// replies follow. The side and the times of each input do not change, nor are its bytes copied.
 ///
 /// Fails with `RunFault::TooMany` exactly if there are more than `MOST_INPUTS` inputs, with
 /// `RunFault::Memory` only if memory is refused, and never with `RunFault::Pool`.

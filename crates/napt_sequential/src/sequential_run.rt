@@ -30,7 +30,7 @@ pub struct SequentialRun {
 impl SequentialRun {
     ghost use Rattle.napt_sequential.specs.SequentialRuns.{IsRunFromOpening, SequentialRunInvariant, StepPost};
 
-    /// Returns a run before its first input. Its bindings are the redirects of the configuration.
+    /// Returns a run before its first input, with the redirects. Fails only if memory is refused.
     pub fn from_config(alloc: Global, config: &Config) -> Result<SequentialRun, AllocError>
         ensures kept { RulesInvariant config.now }
         ensures begun { IfOk result (IsRunFromOpening config.now []) }
@@ -43,8 +43,8 @@ impl SequentialRun {
         })
     }
 
-    /// Returns a run that starts from a state, before its first input. It has the configuration's
-    /// redirects, then the state's bindings, live or held at its clock. Inputs are numbered from 0.
+    /// Returns a run from a state, before its first input, which has number 0. It has the redirects
+    /// and then the state's bindings live or held at its clock. Fails only if memory is refused.
     pub fn resume(
         alloc: Global,
         config: &Config,
@@ -64,8 +64,8 @@ impl SequentialRun {
     }
 
     /// Translates the next input at the latest clock so far, including its own. Returns its outcome
-    /// and what its legs did, which are the last ones of the run over all inputs so far. The bytes
-    /// of the input are copied once. After a fault the run must not be continued.
+    /// and the effects of its legs, which are the last ones of the run over all inputs so far. The
+    /// bytes of the input are copied once. After a fault, the run must not continue.
     ///
     /// Fails with `RunFault::TooMany` exactly if there were `MOST_INPUTS` inputs before, with
     /// `RunFault::Memory` only if memory is refused, and never with `RunFault::Pool`.
@@ -89,7 +89,7 @@ impl SequentialRun {
             (result ≡ Err RunFault.TooMany) ↔ (2 ^ 32 ≤ length before + 1) }
         ensures never_pool { IfErr result IsOneThreadFault }
     {
-        // called for its clause alone: the rules of a configuration are valid
+        // Only the contract of this call is used: the rules of a configuration are valid.
         let _pool = config.pool();
         if self.many >= MOST_INPUTS as u64 {
             return Err(RunFault::TooMany);
@@ -123,8 +123,8 @@ impl SequentialRun {
         Ok(stepped)
     }
 
-    /// Returns the bindings that are live at the latest clock: by external address in the order of
-    /// the pool, then by protocol (ICMP, TCP, UDP) and external number.
+    /// Returns the bindings that are live at the latest clock, by external address in pool order,
+    /// then by protocol (ICMP, TCP, UDP) and external number. Fails only if memory is refused.
     pub fn bindings(&self, alloc: Global) -> Result<Vec<Row>, AllocError>
         ensures { (rules : Rules) (state : State) (inputs : List Arrival) →
             SequentialRunInvariant rules state inputs self.now →
@@ -133,7 +133,7 @@ impl SequentialRun {
         bindings(alloc, &self.translators, self.clock)
     }
 
-    /// Returns the number of legs at each external address, in the order of the pool.
+    /// Returns the number of legs at each address, in pool order. Fails only if memory is refused.
     pub fn legs(&self, alloc: Global) -> Result<Vec<u64>, AllocError>
         ensures { (rules : Rules) (state : State) (inputs : List Arrival) →
             SequentialRunInvariant rules state inputs self.now →
@@ -142,8 +142,8 @@ impl SequentialRun {
         legs(alloc, &self.translators)
     }
 
-    /// Returns the state after the run, from which another run can start: the bindings that are
-    /// live or held at the latest clock, in the order of `bindings`.
+    /// Returns the state after the run, from which another run can start: the bindings live or held
+    /// at the latest clock, in the order of `bindings`. Fails only if memory is refused.
     pub fn final_bindings(&self, alloc: Global) -> Result<State, AllocError>
         ensures { (rules : Rules) (state : State) (inputs : List Arrival) →
             SequentialRunInvariant rules state inputs self.now →

@@ -1,4 +1,4 @@
--- The bindings of a state that end at a start, and those that go on.
+-- The bindings of a state that end at the start of a run, and those that continue.
 use Rattle.std.proofs.lemmas.{Bool.{true≢false, Decides.nat_tests}, List.{get_or-take, drop-set, length-set, map-append, take-set, take-take}}
 use Rattle.std.proofs.Common.{◌≡◌, ℕ, zero, suc, ◌+◌, ◌-◌, ◌*◌, ◌<◌, ◌≤◌, ◌==◌, ◌^◌, nat_le, is_some, SomeIff, Bool, true, false, not, ◌&&◌, ◌||◌, cond, List, [], ◌∷◌, ◌++◌, map, drop, take, set, get_or, length, Option, Some, None, refl, sym, ◌∙◌, ap, subst, arith}
 use Rattle.std.specs.List.{list_any}

@@ -1,4 +1,4 @@
--- A text whose lines are read one after another: what is left of it, and what was read.
+-- A text whose lines are read one after another: its unread rest, and the lines that were read.
 use Rattle.napt_state.specs.StateFiles.{StateFileModel}
 use Rattle.std.proofs.lemmas.{Grind.flat_map-append}
 use Rattle.std.proofs.Common.{ℕ, ◌≡◌, ◌≤◌, ◌^◌, List, [], ◌∷◌, ◌++◌, map, flat_map, Option, Some, None, IfSome, Result, Ok, Err, OnOk, IfOk, refl, sym, ◌∙◌, ap, subst, append_assoc, append-nil}
@@ -22,7 +22,7 @@ unless_weaker OtherCounts f h = f h
 unless_weaker Accounts f h = f h
 unless_weaker AfterEnd f h = f h
 
--- What a call returns that reads the next line.
+-- The result of a call that reads the next line.
 abbrev pub Reads : Result StateLine StateReason → Option StateTextBytes → Option StateTextBytes → Type 0
 Reads read old new = (line : StateLine) (rest : StateTextBytes) → IsStateLine line →
     old ≡ Some (line_text line ++ rest) →

@@ -1,4 +1,4 @@
--- What the lines of a text say, taken one after another: each text says one thing, and each line has its place.
+-- The contents by the lines of a text, one after another: each text has one meaning, and each line has its place.
 use Rattle.napt_state.specs.StateFiles.{StateFileModel}
 use Rattle.std.proofs.lemmas.{List.{Sums.fold-append}}
 use Rattle.std.proofs.Common.{ℕ, ◌≡◌, List, [], ◌∷◌, ◌++◌, map, flat_map, Option, Some, None, refl, sym, ◌∙◌, ap, append_assoc, append-nil}

@@ -1,4 +1,4 @@
--- What is taken up of the bindings of a saved state, one after another.
+-- The conversion of the bindings of a saved state, one after another.
 use Rattle.std.proofs.lemmas.{Grind.flat_map-append, List.map-append}
 use Rattle.std.proofs.Common.{◌≡◌, ℕ, zero, suc, length, ◌-◌, ◌*◌, ◌^◌, ◌≤◌, Bool, true, false, ◌&&◌, cond, List, [], ◌∷◌, ◌++◌, map, flat_map, Option, Some, None, refl, sym, ◌∙◌, ap, arith, append_assoc, append-nil}
 use Rattle.std.specs.Prelude.{nat_le}

@@ -50,7 +50,7 @@ until_live timers clock row Icmp last = refl
 until_live timers clock row Udp last = refl
 until_live timers clock row Tcp last = or_false (is_recent clock last timers.transitory)
 
--- What is taken of a binding that has ended.
+-- The binding of the state that comes from a saved binding that has ended.
 pub ended_is : (timers : Timers) (clock : ℕ) (row : Row) (end seconds last : ℕ) (flows : List Flow) →
     seconds ≡ timer_of row.protocol timers → last ≡ end - seconds * ns_per_second →
     flows ≡ one_flow row.protocol last → row.fixed ≡ false → is_recent clock last seconds ≡ false →

@@ -1,4 +1,4 @@
--- The part of a state that a run takes up, and the endpoints of its bindings.
+-- The part of a state with which a run continues, and the endpoints of its bindings.
 use Rattle.std.proofs.lemmas.{Grind.common_steps, Bool.Decides.nat_tests}
 use Rattle.std.proofs.Common.{◌≡◌, ℕ, zero, suc, ◌==◌, ◌<◌, ◌≤◌, Bool, true, false, not, ◌&&◌, ◌||◌, cond, List, [], ◌∷◌, ◌++◌, ◌-◌, map, drop, get_or, length, refl, sym, ◌∙◌, ap, subst, arith, filter}
 use Rattle.std.proofs.Math.Seq.{drop-cons}

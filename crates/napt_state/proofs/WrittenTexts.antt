@@ -1,4 +1,4 @@
--- The text that is written of a state, line by line.
+-- The text that is written for a state, line by line.
 use Rattle.napt_state.specs.StateFiles.{StateFileModel}
 use Rattle.std.proofs.lemmas.{Grind.flat_map-append, List.Folds.flat_map-map}
 use Rattle.std.proofs.Common.{ℕ, zero, suc, ◌≡◌, ◌≤◌, ◌<◌, List, [], ◌∷◌, ◌++◌, codes, map, flat_map, length, take, Option, Result, Ok, Err, OnOk, sym, ◌∙◌, ap, subst, refl, arith, append_assoc, append-nil}

@@ -1,8 +1,8 @@
--- What a run saves of its state and its log, and what another one takes up.
+-- The contents of a state and its log that a run saves, and the state with which another run continues.
 --
--- RFC 6888, REQ-8: an external number is held for a time after its binding has ended. So a binding that has ended is
--- saved with its end, and whatever timers the next run has, it ended then: it is not live again, and its number is held
--- as long.
+-- An external number is held for a time after its binding has ended (RFC 6888, REQ-8). A binding that has ended is
+-- therefore saved with its end. Whatever timers the next run has, it is not live again, and its number is held from
+-- that end on.
 use Rattle.napt_state.specs.StateFiles.{StateFileModel}
 use Rattle.std.specs.Prelude.{◌≡◌, ℕ, ◌-◌, ◌*◌, ◌^◌, ◌≤◌, nat_le, Bool, true, false, ◌&&◌, cond, List, [], ◌∷◌, map, flat_map, Option, Some, None, Result, Ok, Err}
 use Rattle.napt_config.specs.Rules.{Rules}
@@ -15,13 +15,13 @@ use Rattle.napt_state.specs.declared.{line.{LogEnd.LogEnd, LogPosition.LogPositi
 use Rattle.napt_state.specs.declared.saved_bindings.SavedBinding.TheVariants as bindings
 use Rattle.napt_state.specs.{EndedMisfits.{misfit_count, without_misfits}, StateText.{IsStateLine, saved_lines}}
 
--- WHAT IS SAVED, by a run under these timers
+-- THE SAVED CONTENTS, by a run under these timers
 
 abbrev pub saved_binding : Timers → ℕ → Binding → Option Account → SavedBinding
 saved_binding timers clock b account = cond (is_live timers clock b) (bindings.Live b account)
     (bindings.Ended b.row (end_by_protocol b.row.protocol timers b))
 
--- Bindings past the last account have none.
+-- Returns the bindings as they are saved, each with its account. Those past the last account have none.
 abbrev pub saved_bindings : Timers → ℕ → List Binding → List (Option Account) → List SavedBinding
 saved_bindings timers clock [] accounts = []
 saved_bindings timers clock (b ∷ list) [] = saved_binding timers clock b None ∷ saved_bindings timers clock list []
@@ -43,14 +43,14 @@ contents_of rules state log = record {
   bindings = saved_bindings rules.timers state.clock state.list (accounts_of log);
 }
 
--- A file has the state that a run left, in the order in which it is saved, and what it keeps of the run's log, if any.
+-- A file has the state after a run, in the order in which it is saved, and the saved part of the run's log, if any.
 pub record IsSavedState (rules : Rules) (state : State) (file : StateFileModel) : Type 0 where
   pub ordered : State
   pub order : IsStateInOrder rules state ordered
   pub log : Option (SavedLogStateModel × LogEnd)
   pub contents : file ≡ contents_of rules ordered log
 
--- WHAT CAN BE SAVED: accounts of one log, and ends by the clock
+-- CONTENTS THAT CAN BE SAVED: accounts of one log, and ends by the clock
 
 abbrev pub accounted_in : List SavedBinding → List (Binding × Account)
 accounted_in [] = []
@@ -61,7 +61,7 @@ abbrev pub made_so_far : Option LogPosition → ℕ
 made_so_far (Some position) = position.made
 made_so_far None = 0
 
--- Where the text of the log ends; every number is 0 if there is no text.
+-- Returns the end of the text of the log; every number in it is 0 if there is no log.
 abbrev pub log_end : Option LogPosition → LogEnd
 log_end (Some position) = position.end
 log_end None = record { piece = 0; length = 0; row = 0 }
@@ -81,9 +81,9 @@ HasAccounts saved = has_accounts saved ≡ true
 abbrev pub IsSaved : StateFileModel → Type 0
 IsSaved saved = Each IsStateLine (saved_lines saved) × HasAccounts saved
 
--- WHAT IS TAKEN UP under these timers
+-- THE STATE FROM THE CONTENTS under these timers
 
--- The timer of a binding; under TCP that of a flow that is not established.
+-- Returns the timer of a binding, in seconds; for TCP, that of a flow that is not established.
 abbrev pub timer_of : Protocol → Timers → ℕ
 timer_of Icmp timers = timers.icmp
 timer_of Tcp timers = timers.transitory
@@ -93,13 +93,13 @@ abbrev pub one_flow : Protocol → ℕ → List Flow
 one_flow Tcp last = record { remote = record { address = 0; number = 0 }; last = last; marks = no_marks } ∷ []
 one_flow _ last = []
 
--- A binding that was last used so that it ends at the given time.
+-- Returns a binding that was last used at such a time that it ends at the given time, in ns.
 abbrev pub binding_until : Timers → Row → ℕ → Binding
 binding_until timers row end =
     let last : ℕ = end - timer_of row.protocol timers * ns_per_second in
     record { row = row; last = last; flows = one_flow row.protocol last }
 
--- None if the end is earlier than the timer after the time 0, so that the binding would live at the clock.
+-- Returns no binding if the end is so early, less than the timer, that the binding would be live at the clock.
 abbrev pub taken_binding : Timers → ℕ → SavedBinding → List (Binding × Option Account)
 taken_binding timers clock (bindings.Live b account) = (b, account) ∷ []
 taken_binding timers clock (bindings.Ended row end) =
@@ -120,7 +120,7 @@ abbrev pub log_taken : Timers → StateFileModel → SavedLogStateModel
 log_taken timers saved =
     record { made = made_so_far saved.log; accounts = map (λ it. it.1) (taken_bindings timers saved) }
 
--- If misfits end at the start, the state is without those; the log keeps the account of each binding.
+-- If misfits are to end at the start, they end in the state; the log still has the account of each binding.
 abbrev pub starting : Bool → Rules → TakenState → TakenState
 starting false rules taken = taken
 starting true rules taken = record taken {
@@ -135,7 +135,7 @@ taken_whole timers saved =
 abbrev pub taken_of : Bool → Rules → StateFileModel → TakenState
 taken_of ends rules saved = starting ends rules (taken_whole rules.timers saved)
 
--- A state is taken if its bindings fit, and a log can begin with its accounts if they are valid.
+-- A state is accepted if its bindings fit, and a log can begin with its accounts if they are valid.
 pub record IsTakenFrom (ends : Bool) (rules : Rules) (saved : StateFileModel) (taken : TakenState) : Type 0 where
   pub whole : taken ≡ taken_of ends rules saved
   pub fits : misfit rules taken.state ≡ None
@@ -145,7 +145,7 @@ abbrev pub IsTaken : Bool → Rules → StateFileModel → Result TakenState (Ro
 IsTaken ends rules saved (Ok taken) = IsTakenFrom ends rules saved taken
 IsTaken ends rules saved (Err found) = misfit rules (taken_of ends rules saved).state ≡ Some found
 
--- LAW: a binding that had ended when it was saved is not live in the run that goes on, whatever its timers, and its
+-- LAW: a binding that had ended when it was saved is not live in the run that continues, whatever its timers, and its
 -- number is held as long as under the earlier timers
 
 pub record StaysEnded (timers : Timers) (clock : ℕ) (row : Row) (end : ℕ) : Type 0 where

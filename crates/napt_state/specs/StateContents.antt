@@ -1,4 +1,4 @@
--- What contracts say of a text that is read.
+-- Relations between a text and what was read from it, for contracts.
 use Rattle.napt_state.specs.StateFiles.{StateFileModel}
 use Rattle.std.specs.Prelude.{◌≡◌, ◌⊎◌, ℕ, List, [], ◌∷◌, ◌++◌, Option, Some, None, Result, Ok, Err}
 use Rattle.napt_rules.specs.{Prelude.Binding, declared.Flow.Flow}
@@ -24,11 +24,11 @@ abbrev pub UnlessFailed : {A : Type 0} → Result A StateFault → Type 0 → Ty
 UnlessFailed (Ok _) fact = fact
 UnlessFailed (Err fault) fact = unless_for fault.reason fact
 
--- The bytes begin with this line, and those after it are left.
+-- The bytes begin with this line, and the unread rest is what follows it.
 abbrev pub IsFirstLine : StateLine → List ℕ → Option (List ℕ) → Type 0
 IsFirstLine entry all left = (rest : List ℕ) × (all ≡ line_text entry ++ rest) × (left ≡ Some rest)
 
--- The contents after the line of the clock alone.
+-- Returns the contents after the line of the clock alone.
 abbrev pub empty_contents : ℕ → StateFileModel
 empty_contents clock = record { clock = clock; log = None; bindings = [] }
 
@@ -45,17 +45,17 @@ pub record IsAddedFlow (flow : Flow) (old new : List SavedBinding) : Type 0 wher
   pub is : old ≡ before ++ bindings.Live last account ∷ []
   pub now : new ≡ before ++ bindings.Live (record last { flows = last.flows ++ flow ∷ [] }) account ∷ []
 
--- No live binding is the last.
+-- The last binding, if there is one, is not live.
 abbrev pub HasNoLast : List SavedBinding → Type 0
 HasNoLast list = (before : List SavedBinding) (last : Binding) (account : Option Account) →
     ¬ (list ≡ before ++ bindings.Live last account ∷ [])
 
--- A text that has the log of a state in the form of earlier versions.
+-- The text has the log of a state in the form of earlier versions.
 abbrev pub IsEarlier : List ℕ → Type 0
 IsEarlier text = (front rest : List ℕ) × (made length : ℕ) ×
     (text ≡ front ++ (line_text (earlier_log made length) ++ rest))
 
--- The text is that of what was read, unless an earlier version wrote it.
+-- The text is exactly that of the contents that were read, unless an earlier version wrote it.
 abbrev pub IsReadAs : List ℕ → StateFileModel → Type 0
 IsReadAs text saved = (text ≡ saved_text saved) ⊎ IsEarlier text
 
@@ -63,7 +63,7 @@ abbrev pub IsNoEnd : StateLine → Type 0
 IsNoEnd (lines.End counts) = ⊥
 IsNoEnd _ = Unit {0}
 
--- There is a text in which this line, which is not the last, follows the lines so far.
+-- Some text has this line, which is not its last, directly after the lines so far.
 pub record CanFollow (line : StateLine) (so_far : StateFileModel) : Type 0 where
   pub other : IsNoEnd line
   pub whole : StateFileModel

@@ -1,4 +1,4 @@
--- What the file of a state says.
+-- The contents of the file of a state, as contracts see them.
 use Rattle.std.specs.Prelude.{ℕ, List, Option}
 use Rattle.napt_state.specs.declared.{line.LogPosition.LogPosition, saved_bindings.SavedBinding.SavedBinding}
 

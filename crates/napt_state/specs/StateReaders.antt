@@ -1,4 +1,4 @@
--- Relations between the bindings of a state and the sets that are used while it is taken up.
+-- Relations between the bindings of a state and the sets that are used to check it.
 use Rattle.std.specs.{Prelude.{◌≡◌, ◌==◌, ℕ, Bool, ◌&&◌, ◌||◌, List}, List.list_any, HashSet.HashSet}
 use Rattle.std.specs.HashSet as hash
 use denote.Enum.Bare.{sameb}
@@ -17,11 +17,11 @@ state_external_key row = record {
 abbrev pub state_inside_key : Row → EndpointKey
 state_inside_key row = record { address = row.inside.address; number = row.inside.number; protocol = row.protocol }
 
--- The comparison of the keys of a set.
+-- Returns whether two keys of a set are equal.
 abbrev pub state_key_eq : EndpointKey → EndpointKey → Bool
 state_key_eq a b = (a.address == b.address) && ((a.number == b.number) && sameb the_type a.protocol b.protocol)
 
--- Whether an endpoint of a row is in the set.
+-- Returns whether an endpoint of a row is in the set.
 abbrev pub clash : Endpoints → Row → Bool
 clash all row = hash.contains state_key_eq all.external (state_external_key row)
     || hash.contains state_key_eq all.inside (state_inside_key row)

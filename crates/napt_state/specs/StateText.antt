@@ -1,6 +1,6 @@
--- The text of a state: a line for its clock; one for the log of the run if it had one; one for each binding, with the
--- account of its entry in the log, followed by one for each of its flows; and one that says how many there are. A line
--- has words with a space between them.
+-- The text of a state: a line for its clock; one for the log of the run, if it had one; one for each binding, with the
+-- account of its entry in the log, followed by one for each of its flows; and one with the numbers of these. A line has
+-- words with a space between them.
 use Rattle.napt_state.specs.StateFiles.{StateFileModel}
 use Rattle.std.specs.{Prelude.{◌≡◌, ℕ, ◌^◌, ◌<◌, ◌≤◌, ◌==◌, Bool, true, false, List, [], ◌∷◌, ◌++◌, map, length, flat_map, codes, decimal, Option, Some, None, IfSome}, List.{slice_split, sum_by}}
 use Rattle.napt_wire.specs.declared.{Endpoint.Endpoint, Protocol.{Protocol, TheVariants.{Icmp, Tcp, Udp}}}
@@ -29,7 +29,7 @@ words_text [] = codes "\n"
 words_text (last ∷ []) = last ++ codes "\n"
 words_text (word ∷ (next ∷ more)) = word ++ codes " " ++ words_text (next ∷ more)
 
--- The words with a space after each.
+-- Returns the words with a space after each.
 abbrev pub spaced : List StateTextBytes → StateTextBytes
 spaced all = flat_map (λ word. word ++ codes " ") all
 
@@ -43,7 +43,7 @@ abbrev pub kind_text : Bool → StateTextBytes
 kind_text true = codes "redirect"
 kind_text false = codes "binding"
 
--- An entry of a redirect has no end.
+-- Returns the word for the end of an entry, in ns. The entry of a redirect has no end.
 abbrev pub end_text : Option ℕ → StateTextBytes
 end_text (Some end) = decimal end
 end_text None = codes "never"
@@ -92,7 +92,7 @@ abbrev pub log_words : LogPosition → List StateTextBytes
 log_words log = codes "log" ∷ decimal log.made ∷ decimal log.end.piece ∷ decimal log.end.length ∷ decimal log.end.row ∷
     []
 
--- In the form of earlier versions.
+-- Returns the words for a log in the form of earlier versions.
 abbrev pub earlier_log_words : ℕ → ℕ → List StateTextBytes
 earlier_log_words made length = codes "log" ∷ decimal made ∷ decimal length ∷ []
 
@@ -151,7 +151,7 @@ split_words (lines.EarlierEntry listed) = entry_words listed
 unfoldable pub line_text : StateLine → StateTextBytes
 line_text line = words_text (split_words line)
 
--- The numbers fit the types of the fields, and those of entries and packets are small enough for a run to go on.
+-- The numbers fit the types of the fields, and those of entries and packets are small enough for a run to start.
 abbrev pub IsEndpointWord : Endpoint → Type 0
 IsEndpointWord endpoint = (endpoint.address < 2 ^ 32) × (endpoint.number < 2 ^ 16)
 
@@ -211,7 +211,7 @@ abbrev pub counts_of : StateFileModel → LineCounts
 counts_of saved =
     record { bindings = length saved.bindings; flows = flow_count saved.bindings; entries = None }
 
--- All lines but the first and the last.
+-- Returns all lines except the first and the last.
 abbrev pub lines_between : StateFileModel → List StateLine
 lines_between saved = log_lines saved.log ++ flat_map binding_lines saved.bindings
 

@@ -9,7 +9,7 @@ use napt_wire::Protocol;
 use std::alloc::{AllocError, Global};
 use std::collections::HashSet;
 
-/// An endpoint under its protocol.
+/// An endpoint and its protocol.
 #[derive(Clone, Copy, PartialEq, Eq, Hash, Drop)]
 pub(crate) struct EndpointKey {
     address: u32,
@@ -45,7 +45,7 @@ fn inside_key(row: &Row) -> EndpointKey
 }
 
 impl Endpoints {
-    /// Returns the endpoints of no binding.
+    /// Returns an empty set of endpoints.
     pub(crate) fn new(alloc: Global) -> Endpoints
         ensures { (row : Bound) → clash result row ≡ false }
     {
@@ -55,7 +55,7 @@ impl Endpoints {
         }
     }
 
-    /// Whether one of the bindings has an endpoint of the row.
+    /// Returns whether one of the bindings has an endpoint of the row.
     pub(crate) fn clash(&self, row: &Row) -> bool
         ensures { result ≡ clash self.now row.now }
     {

@@ -4,7 +4,7 @@ use std::alloc::{AllocError, AllocFailed};
 use std::error::Error;
 use std::{fmt, io};
 
-/// The reason why the text of a state is refused, and the line at which it is.
+/// The reason why the text of a state is refused, and the number of the line that is at fault.
 #[derive(Debug, Drop)]
 pub struct StateFault {
     /// The number of the line, from 1.
@@ -12,7 +12,7 @@ pub struct StateFault {
     pub reason: StateReason,
 }
 
-/// What is wrong with a line of the text of a state.
+/// The reason why a line of the text of a state is refused.
 #[derive(Debug, Drop)]
 pub enum StateReason {
     /// A read failed.
@@ -23,7 +23,7 @@ pub enum StateReason {
     NotUtf8,
     /// The text ends before its last line does.
     Torn,
-    /// A word may not be there; the text has those of its first 40 characters that can be printed.
+    /// A word is not valid as this field. The string is printable and has at most 40 characters.
     Word(StateField, String),
     /// A line has more or fewer words than its first word requires.
     WordCount,
@@ -31,17 +31,17 @@ pub enum StateReason {
     NoBinding,
     /// The counts in the last line are not those of the bindings, flows or entries.
     Counts,
-    /// Two accounts have one number, one has a number above that of the entries or was made after the clock, or a binding is
-    /// held that ends after it.
+    /// Two accounts share a number, an account's number exceeds that of the entries, an account was
+    /// made after the clock, or a held binding ends after the clock.
     Accounts,
     /// Something follows the last line.
     AfterEnd,
 }
 
-/// What a word of a line has to be.
+/// The kind of a word in a line.
 #[derive(Clone, Copy, Debug, PartialEq, Eq)]
 pub enum StateField {
-    /// The first word of a line, which says what the line is.
+    /// The first word of a line, which is the name of its kind.
     Kind,
     Protocol,
     /// An IPv4 address, such as `10.0.0.2`.

@@ -1,4 +1,4 @@
-//! The words of a line, as they are written and read.
+//! Writes and reads the words of a line.
 ghost use Rattle.std.specs.Prelude.{◌≡◌, ◌+◌, ◌++◌, ◌<◌, ◌≤◌, ◌^◌, ℕ, [], ◌∷◌, Bool, false, Option, Some, None, IfSome, OnOk, codes, decimal, slice_index_or, string_bytes};
 ghost use Rattle.napt_account.specs.declared.account.Account.{Account as Held};
 ghost use Rattle.napt_config.specs.Text.{address_text};
@@ -13,7 +13,7 @@ use napt_rules::{Row, SessionMarks};
 use napt_wire::{Endpoint, Protocol};
 use std::alloc::AllocError;
 
-/// The greatest number of entries of a log, and of packets of one entry, with which a run can go on.
+/// The largest number of entries of a log, and of packets of an entry, with which a run can start.
 pub(crate) const MOST: u64 = 1 << 61;
 
 /// Appends a number in decimal. Fails only if memory is refused.
@@ -67,8 +67,8 @@ pub(crate) fn add_row(text: &mut String, row: &Row) -> Result<(), AllocError>
     add_endpoints(text, row)
 }
 
-/// Appends the words of the protocol and of both endpoints of a row, with a space after each. Fails only if memory is
-/// refused.
+/// Appends the words of the protocol and of both endpoints of a row, with a space after each.
+/// Fails only if memory is refused.
 pub(crate) fn add_endpoints(text: &mut String, row: &Row) -> Result<(), AllocError>
     ensures { OnOk result (string_bytes text.new ≡ string_bytes text.old
         ++ texts.spaced (texts.ends_words row.now [])) }
@@ -79,7 +79,7 @@ pub(crate) fn add_endpoints(text: &mut String, row: &Row) -> Result<(), AllocErr
     add_endpoint(text, row.external)
 }
 
-/// Appends the end of an entry and a space. Fails only if memory is refused.
+/// Appends the end of an entry, in ns or `never`, and a space. Fails only if memory is refused.
 pub(crate) fn add_end(text: &mut String, end: Option<u128>) -> Result<(), AllocError>
     ensures { OnOk result (string_bytes text.new
         ≡ string_bytes text.old ++ texts.spaced (texts.end_text end ∷ [])) }
@@ -224,7 +224,7 @@ pub(crate) fn row(line: &str, place: usize) -> Option<Row>
     })
 }
 
-/// Returns the row, not of a redirect, whose protocol and endpoints are in the five words from an index on.
+/// Returns the row, not a redirect, whose protocol and endpoints are the five words from an index.
 pub(crate) fn endpoints(line: &str, place: usize) -> Option<Row>
     requires { place < 91 }
     ensures { (row : Bound) → row.fixed ≡ false → texts.IsRowLine row →

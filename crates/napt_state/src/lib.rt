@@ -1,6 +1,6 @@
-//! The text of a state, from which a run goes on. It is written and read line by line.
+//! Writes and reads, line by line, the text of a state from which a run can continue.
 //!
-//! `specs/StateText` defines the text to its last character and the meaning of its lines; `napt_rules` defines a state.
+//! `specs/StateText` defines the text and the meaning of its lines, and `napt_rules` a state.
 #![tactic(auto)]
 
 mod endpoints;

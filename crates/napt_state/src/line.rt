@@ -18,31 +18,31 @@ pub(crate) enum StateLine {
     Clock(u64),
     /// The log of the run, if it had one: the second line.
     Log(LogPosition),
-    /// A binding, when it was last used, in ns, and the account of its entry in the log, if it has one. Its flows follow it.
+    /// A binding, its last use (ns), and its account in the log, if any. Its flows follow.
     Binding(Row, u64, Option<Account>),
-    /// A flow of the binding before it.
+    /// A flow of the last binding before it.
     Flow(Flow),
-    /// A binding that has ended, and when, in ns. Its external number is held.
+    /// The row of a binding that has ended, and its end, in ns. Its external number is held.
     Held(Row, u64),
     /// The last line.
     End(LineCounts),
-    /// The numbers of entries of a log and of bytes of its file, in the form of earlier versions. Its entries follow.
+    /// The numbers of entries of a log and of bytes of its file, as earlier versions wrote them.
     EarlierLog(u64, u64),
     /// An entry of a log in the form of earlier versions.
     EarlierEntry(LogEntry),
 }
 
-/// The number of entries that the log of a state has so far, and where its text ends.
+/// The number of entries that the log of a state has so far, and the end of its text.
 #[derive(Clone, Copy, Debug, PartialEq, Eq)]
 pub struct LogPosition {
     pub made: u64,
     pub end: LogEnd,
 }
 
-/// Where the text of a log ends. Every number is 0 if it went to no file.
+/// The end of the text of a log. Every number is 0 if the log was not written to a file.
 #[derive(Clone, Copy, Debug, Default, PartialEq, Eq)]
 pub struct LogEnd {
-    /// The number of its last piece; 0 if it is one file.
+    /// The number of its last piece; 0 if the log is one file.
     pub piece: u64,
     /// The length in bytes of the file, or of that piece.
     pub length: u64,
@@ -55,7 +55,7 @@ pub struct LogEnd {
 pub(crate) struct LineCounts {
     pub bindings: u64,
     pub flows: u64,
-    /// The number of lines of entries in the form of earlier versions, if the state has a log in it.
+    /// The number of lines of entries in the form of earlier versions, if the text has a log in it.
     pub entries: Option<u64>,
 }
 
@@ -78,7 +78,7 @@ impl StateLine {
         }
     }
 
-    /// Reads a line without the line feed at its end, or returns `None` if it is not one of a state.
+    /// Reads a line without its line feed. Returns `None` if the line is not one of a state.
     pub(crate) fn read(line: &str) -> Option<StateLine>
         ensures read { (told : Told) → texts.IsStateLine told →
             texts.line_text told ≡ line.now ++ codes "\n" → result ≡ Some told }
@@ -293,7 +293,7 @@ fn read_flow(line: &str) -> Option<StateLine>
     }))
 }
 
-/// Reads the numbers of a log in a line that begins with its word: four, or the two of earlier versions.
+/// Reads the four numbers of a log, or the two of earlier versions, in a line with its word.
 fn read_log(line: &str) -> Option<StateLine>
     ensures read { (position : Placed) → texts.IsStateLine (texts.log position) →
         texts.words_in line.now ≡ texts.log_words position →

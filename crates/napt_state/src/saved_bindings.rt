@@ -33,9 +33,9 @@ const NO_MARKS: SessionMarks = SessionMarks {
 /// A binding of a state that is saved.
 #[derive(Drop)]
 pub enum SavedBinding {
-    /// A live binding, and the account of its entry in the log, if it has one.
+    /// A live binding, and the account of its entry in the log, if any.
     Live(StateBinding, Option<Account>),
-    /// A binding that has ended, and when, in ns. Its external number is held.
+    /// The row of a binding that has ended, and its end, in ns. Its external number is held.
     Ended(Row, u64),
 }
 
@@ -51,8 +51,8 @@ impl SavedBinding {
 }
 
 impl StateFileContents {
-    /// Returns what a run under a configuration saves: its state and, if it has a log, what the state keeps of the log
-    /// and where the log's text ends. Takes linear time. Fails only if memory is refused.
+    /// Returns the contents that a run saves: its state and, if it has a log, the accounts of the
+    /// bindings and the end of the log's text. Takes linear time. Fails only if memory is refused.
     pub fn from_state(
         alloc: Global,
         config: &Config,
@@ -75,8 +75,8 @@ impl StateFileContents {
         })
     }
 
-    /// Gives each binding the account of its entry in a log of which no file is known, and returns whether each entry
-    /// is that of a binding. Fails only if memory is refused.
+    /// Sets the account of each binding from its entry in a log of which no file is known, and
+    /// returns whether each entry is that of a binding. Fails only if memory is refused.
     pub(crate) fn assign_accounts(
         &mut self,
         alloc: Global,
@@ -102,7 +102,7 @@ impl StateFileContents {
     }
 }
 
-/// Returns how many entries a log has and where its text ends, if there is one, and its accounts.
+/// Returns the number of entries of a log, if there is one, the end of its text, and its accounts.
 fn position_of(
     alloc: Global,
     log: Option<(SavedLogState, LogEnd)>,
@@ -145,7 +145,7 @@ fn saved_binding(
     }
 }
 
-/// Returns the first time, in ns, at which a binding, no redirect, is no longer live; at most `u64::MAX`.
+/// Returns the end, in ns, of a binding that is not a redirect, at most `u64::MAX`.
 fn end_of(binding: &StateBinding, config: &Config) -> u64
     ensures { result ≡ min (end_by_protocol binding.now.row.protocol config.now.timers binding.now)
         (2 ^ 64 - 1) }
@@ -158,7 +158,7 @@ fn end_of(binding: &StateBinding, config: &Config) -> u64
     }
 }
 
-/// Returns the end of the last of these TCP flows, in ns, or 0 if there is none; at most `u64::MAX`.
+/// Returns the end of the last TCP flow, in ns, or 0 if there is none; at most `u64::MAX`.
 fn last_end(flows: &[Flow], config: &Config) -> u64
     ensures { result ≡ min (last_end config.now.timers flows.now) (2 ^ 64 - 1) }
 {
@@ -200,9 +200,9 @@ fn end_after(last: u64, seconds: u64) -> u64
     last.saturating_add(seconds * NANOSECONDS_A_SECOND)
 }
 
-/// Returns a binding that ends at a time, in ns, under the timers of a configuration, so that its number is held from
-/// then on. Returns `None` if the end is earlier than the timer after the time 0, so that the binding would be live at
-/// the clock. Under TCP the binding has one flow. Fails only if memory is refused.
+/// Returns a binding that ends at a time, in ns, under the timers of a configuration, so that its
+/// number is held from then on; a TCP binding has one flow. Returns `None` for a redirect, or if it
+/// would be live at the clock since its end is less than its timer. Fails if memory is refused.
 pub(crate) fn ended_binding(
     alloc: Global,
     row: Row,
@@ -222,7 +222,7 @@ pub(crate) fn ended_binding(
     Ok(Some(StateBinding { row, last, flows }))
 }
 
-/// Returns the timer of a binding, in seconds; under TCP that of a flow that is not established.
+/// Returns the timer of a binding, in seconds; for TCP, that of a flow that is not established.
 fn timer_of(protocol: Protocol, config: &Config) -> u64
     ensures is { result ≡ saved.timer_of protocol config.now.timers }
     ensures few { result ≤ 1_000_000_000 }
@@ -235,7 +235,7 @@ fn timer_of(protocol: Protocol, config: &Config) -> u64
     }
 }
 
-/// Returns one flow that was used at a time, in ns, for TCP, and otherwise none. Fails only if memory is refused.
+/// Returns one flow for TCP, last used at a time (ns), else none. Fails only if memory is refused.
 fn one_flow(alloc: Global, protocol: Protocol, last: u64) -> Result<Vec<Flow>, AllocError>
     ensures { IfOk result (λ flows. flows.items ≡ saved.one_flow protocol last) }
 {
@@ -254,7 +254,7 @@ fn one_flow(alloc: Global, protocol: Protocol, last: u64) -> Result<Vec<Flow>, A
     Ok(flows)
 }
 
-/// The greatest number of entries, and of packets of one entry, that a state keeps.
+/// The largest number of entries, and of packets of one entry, that a state can have.
 const MOST: u64 = 1 << 61;
 
 /// Returns the number of entries of a log, or 0 if there is no log.
@@ -267,9 +267,9 @@ pub(crate) fn made_so_far(log: Option<LogPosition>) -> u64
     }
 }
 
-/// Whether a log can have the accounts of a state: each has a number of its own, from 1 to the number of entries, was
-/// made by the clock, and has counts that may be saved; no two bindings have the same external endpoint; and bindings
-/// that have ended did so by the clock. Fails only if memory is refused.
+/// Returns whether the accounts are those of a log: their numbers are distinct, from 1 to that of
+/// the entries, they were made by the clock, with counts that may be saved; no two bindings share
+/// an external endpoint, and no held one ends after the clock. Fails only if memory is refused.
 pub(crate) fn has_accounts(alloc: Global, contents: &StateFileContents) -> Result<bool, AllocError>
     ensures { IfOk result (λ has. has ≡ saved.has_accounts contents.now) }
 {
@@ -305,7 +305,7 @@ pub(crate) fn has_accounts(alloc: Global, contents: &StateFileContents) -> Resul
     Ok(true)
 }
 
-/// Whether an account has a number from 1 to `made`, was made by a time, in ns, and has counts that may be saved.
+/// Returns whether an account's number is in 1..=`made`, it was made by `clock`, and may be saved.
 fn is_within(account: Account, made: u64, clock: u64) -> bool
     ensures { result ≡ is_account made clock account }
 {

@@ -1,4 +1,4 @@
-//! Whether the bindings of a state fit a configuration.
+//! Checks whether the bindings of a state fit a configuration.
 ghost use Rattle.std.specs.{Prelude.{◌≡◌, not, List, nat_lt, IfOk, OnOk}, List.list_any};
 ghost use Rattle.napt_rules.specs.{Bindings.Binding as Bound, Opening.opening};
 ghost use Rattle.napt_rules.specs.Life as life;
@@ -30,7 +30,7 @@ fn redirect_endpoints(alloc: Global, config: &Config) -> Result<Endpoints, Alloc
     Ok(endpoints)
 }
 
-/// Whether a number is possible for the protocol: UDP and TCP have no port 0.
+/// Returns whether a number is valid for the protocol: a UDP or TCP port is not 0.
 fn is_number(protocol: Protocol, number: u16) -> bool
     ensures { result ≡ taking.is_number protocol number }
 {
@@ -40,7 +40,7 @@ fn is_number(protocol: Protocol, number: u16) -> bool
     }
 }
 
-/// Whether the numbers of a row are possible, and the external one is in the host's block, if the host has one.
+/// Returns whether a row's numbers are valid and its external one is in its host's block, if any.
 fn is_numbered(config: &Config, row: &Row) -> bool
     ensures { result ≡ taking.is_numbered config.now row.now }
 {
@@ -52,14 +52,14 @@ fn is_numbered(config: &Config, row: &Row) -> bool
     is_number(row.protocol, row.inside.number) && is_number(row.protocol, number) && is_its_number
 }
 
-/// Whether one of the flows was used after the clock.
+/// Returns whether one of the flows was used after the clock, in ns.
 fn has_later(clock: u64, flows: &[Flow]) -> bool
     ensures { result ≡ list_any (λ flow. nat_lt clock flow.last) flows.now }
 {
     flows.iter().any(|flow| clock < flow.last)
 }
 
-/// Whether the binding, or one of its flows, was used after the clock. Such a flow is live.
+/// Returns whether the binding, or one of its flows, was used after the clock, in ns.
 fn is_used_after(config: &Config, clock: u64, binding: &StateBinding) -> bool
     ensures { result ≡ taking.is_used_after clock (life.with_live_flows config.now.timers
         (life.hold_ago config.now.timers clock) binding.now) }
@@ -68,7 +68,7 @@ fn is_used_after(config: &Config, clock: u64, binding: &StateBinding) -> bool
     clock < binding.last || has_later(clock, &binding.flows)
 }
 
-/// Whether two flows of a binding that stand at a time, in ns, share a remote. Fails only if memory is refused.
+/// Returns whether two flows that stand at a time (ns) share a remote. Fails if memory is refused.
 fn flows_share(
     alloc: Global,
     config: &Config,
@@ -97,14 +97,14 @@ fn flows_share(
     Ok(false)
 }
 
-/// Returns a time, in ns, at which a binding was live that is live or held at the clock of its state.
+/// Returns the time, in ns, at which each binding was live that is live or held at the clock.
 fn held_at(config: &Config, clock: u64) -> u64
     ensures { result ≡ life.hold_ago config.now.timers clock }
 {
     IdleTimers::from_config(config).hold_ago(clock)
 }
 
-/// Returns the first reason against a binding of a state, given the endpoints of the redirects and of later bindings.
+/// Returns the first reason why a binding does not fit, if any, given the endpoints of the others.
 fn misfit_of(
     alloc: Global,
     config: &Config,
@@ -146,7 +146,7 @@ fn misfit_of(
     })
 }
 
-/// Returns the reason against a binding, or else what was found for the later ones.
+/// Returns the binding with the reason why it does not fit, or else the misfit found after it.
 fn misfit_or(
     binding: &StateBinding,
     misfit: Option<Misfit>,
@@ -160,7 +160,7 @@ fn misfit_or(
     }
 }
 
-/// Returns the first of the bindings of a state that go on and do not fit, and why. Fails only if memory is refused.
+/// Returns the first misfit of a state and its reason, if any. Fails only if memory is refused.
 pub fn first_misfit(
     alloc: Global,
     config: &Config,
@@ -171,7 +171,7 @@ pub fn first_misfit(
     first_misfit_in(alloc, config, state.clock, &state.list)
 }
 
-/// Returns the first of these bindings that go on at a clock and do not fit, and why.
+/// Returns the first of these bindings that continues at a clock, in ns, but does not fit, and why.
 fn first_misfit_in(
     alloc: Global,
     config: &Config,
@@ -198,15 +198,15 @@ fn first_misfit_in(
     Ok(found)
 }
 
-/// Whether a binding is no redirect and is live at a time, in ns.
+/// Returns whether a binding is not a redirect and is live at a time, in ns.
 fn goes_on(binding: &StateBinding, config: &Config, now: u64) -> bool
     ensures { result ≡ ending.goes_on config.now.timers now binding.now }
 {
     !binding.row.fixed && is_live(binding, config, now)
 }
 
-/// Ends the bindings of a state that go on and do not fit, each judged by those behind it that fit, and returns how many. All
-/// others stay as they are. In linear time. Fails only if memory runs out.
+/// Ends the misfits of a state, each judged by the fitting bindings after it, and returns their
+/// number. No other binding changes. Takes linear time. Fails only if memory is refused.
 pub(crate) fn end_misfits(
     alloc: Global,
     config: &Config,
@@ -218,7 +218,7 @@ pub(crate) fn end_misfits(
     end_misfits_in(alloc, config, state.clock, &mut state.list)
 }
 
-/// Ends those of these bindings that go on at a clock and do not fit, and returns how many.
+/// Ends each binding that continues at a clock, in ns, but does not fit; returns their number.
 fn end_misfits_in(
     alloc: Global,
     config: &Config,
@@ -250,8 +250,8 @@ fn end_misfits_in(
     Ok(many)
 }
 
-/// Returns why a binding ends, by the endpoints of the redirects and of the later bindings that fit, or `None` if it fits or does
-/// not go on.
+/// Returns why a binding ends, given the endpoints of the redirects and of the fitting bindings
+/// after it, or `None` if it fits or does not continue.
 fn why_ended(
     alloc: Global,
     config: &Config,
@@ -271,7 +271,7 @@ fn why_ended(
     }
 }
 
-/// Makes a binding one that ended long ago.
+/// Changes a binding so that it ended long ago.
 fn end_long_ago(binding: &mut StateBinding)
     ensures { binding.new ≡ ending.ended_long_ago binding.old }
 {

@@ -15,10 +15,10 @@ use napt_rules::{Flow, Misfit, Row, State, StateBinding};
 use std::alloc::{AllocError, Global};
 use std::marker::Model;
 
-/// What a run leaves in the file of its state, from which another run goes on.
+/// The contents of the file in which a run saves its state, so that another run can continue.
 #[derive(Drop)]
 pub struct StateFileContents {
-    /// In ns.
+    /// The clock of the state, in ns.
     pub clock: u64,
     /// The log of the run, if it had one.
     pub log: Option<LogPosition>,
@@ -33,17 +33,17 @@ impl Model for StateFileContents {
     ghost view = { λ it. record { clock = it.clock; log = it.log; bindings = it.bindings.items } };
 }
 
-/// A state as a configuration takes it, with what it keeps of a log.
+/// A state as a configuration accepts it, with the state of its log.
 #[derive(Drop)]
 pub struct TakenState {
     pub state: State,
     pub log: SavedLogState,
-    /// How many of its bindings did not fit, and end at the start.
+    /// The number of its bindings that do not fit, and end at the start.
     pub ended: u64,
 }
 
 impl StateFileContents {
-    /// Returns the contents of a state without bindings and without a log.
+    /// Returns the contents of a state without bindings and without a log, at a clock in ns.
     pub fn new(alloc: Global, clock: u64) -> StateFileContents
         ensures { result ≡ said.empty_contents clock }
     {
@@ -54,7 +54,7 @@ impl StateFileContents {
         }
     }
 
-    /// Adds what a line says, and returns whether the line may follow those so far. Fails only if memory is refused.
+    /// Adds a line. Returns whether it may follow those before it. Fails only if memory is refused.
     pub(crate) fn add(&mut self, alloc: Global, line: StateLine) -> Result<bool, AllocError>
         ensures added { result ≡ Ok true → said.IsAdded line self.old self.new }
         ensures refused { result ≡ Ok false → ¬ said.CanFollow line self.old }
@@ -78,10 +78,10 @@ impl StateFileContents {
         Ok(true)
     }
 
-    /// Takes the state up under a configuration. If `ends_misfits`, bindings that do not fit it end at the clock; in a log their
-    /// entries end there. Otherwise returns the first one, and why, as it does of a clock that is no later than a timer and the
-    /// hold. What does not go on need not fit: redirects, and what has gone at the clock. In linear time. Fails only if memory runs
-    /// out.
+    /// Converts the contents to a state for a configuration. If `ends_misfits`, each binding that
+    /// does not fit ends at the clock, with its entry; otherwise, or if the clock is not past a
+    /// timer and the hold, returns the first one and why. Redirects, and bindings neither live nor
+    /// held at the clock, need not fit. Takes linear time. Fails only if memory is refused.
     pub fn restore(
         self,
         alloc: Global,
@@ -98,7 +98,7 @@ impl StateFileContents {
         })
     }
 
-    /// Returns the state, in which a binding that has ended ends as before under other timers, and what it keeps of a log.
+    /// Returns the state and its log. A binding that has ended has the same end under other timers.
     fn into_state(self, alloc: Global, config: &Config) -> Result<TakenState, AllocError>
         ensures { IfOk result (λ taken. taken ≡ saved.taken_whole config.now.timers self) }
     {
@@ -134,7 +134,7 @@ impl StateFileContents {
     }
 }
 
-/// Ends the misfits of a state that is taken up, if they are to end. Fails only if memory runs out.
+/// Ends the misfits of a state if `ends_misfits`. Fails only if memory is refused.
 fn starting(
     alloc: Global,
     config: &Config,
@@ -149,19 +149,19 @@ fn starting(
     Ok(taken)
 }
 
-/// Of a state whose misfits end there goes on what fits, and a configuration takes it; in a log they end at its clock. The clock
-/// has to be past a timer and the hold, as that of a date is.
+/// Law: without its misfits, whose entries end at its clock, a state has the bindings that fit, and
+/// the configuration accepts it, if the clock is past a timer and the hold, as any present date is.
 pub fn misfits_end()
     ensures { ending.MisfitsEnd }
 {}
 
-/// A binding that had ended when it was saved is not live in the run that goes on, whatever its timers, and its number
-/// is held as long as under the earlier timers.
+/// Law: a binding that had ended when it was saved is not live in the run that continues, whatever
+/// its timers, and its number is held as long as under the earlier timers (RFC 6888, REQ-8).
 pub fn ended_bindings_stay_ended()
     ensures { saved.EndedBindingsStayEnded }
 {}
 
-/// Adds a flow to the last binding, if that has not ended, and returns whether it did. Fails only if memory is refused.
+/// Adds a flow to the last binding if that is live; returns whether it is. Fails without memory.
 fn add_flow(list: &mut Vec<SavedBinding>, flow: Flow) -> Result<bool, AllocError>
     ensures added { result ≡ Ok true → said.IsAddedFlow flow list.old.items list.new.items }
     ensures none { result ≡ Ok false → said.HasNoLast list.old.items }
@@ -177,7 +177,7 @@ fn add_flow(list: &mut Vec<SavedBinding>, flow: Flow) -> Result<bool, AllocError
 }
 
 impl LineCounts {
-    /// Returns the number of bindings and that of flows. Fails only if there are 2^64 flows or more.
+    /// Returns the numbers of bindings and of flows. Fails only if there are 2^64 flows or more.
     pub(crate) fn from_contents(saved: &StateFileContents) -> Result<LineCounts, AllocError>
         ensures { IfOk result (λ counts. counts ≡ texts.counts_of saved.now) }
     {

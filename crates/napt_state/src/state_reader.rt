@@ -16,20 +16,20 @@ use std::alloc::Global;
 use std::io::BufRead;
 use std::str;
 
-/// A text of a state that is read line by line, in the memory of its longest line.
+/// A reader of the text of a state, line by line, in the memory of its longest line.
 #[derive(Drop)]
 pub(crate) struct StateReader<R> {
     alloc: Global,
     reader: R,
     line: Vec<u8>,
-    /// The line as it is written.
+    /// The text of the line, written again to compare it.
     rewritten: String,
     /// The number of lines that have been read.
     lines: u64,
 }
 
 impl<R: BufRead + Drop> StateReader<R> {
-    /// Returns a reader of a text of which nothing has been read yet.
+    /// Returns a reader that begins at the first line of the text.
     pub(crate) fn new(alloc: Global, reader: R) -> StateReader<R>
         ensures reader { R.remaining result.reader ≡ R.remaining reader }
         ensures lines { result.lines ≡ 0 }
@@ -95,7 +95,7 @@ impl<R: BufRead + Drop> StateReader<R> {
         }
     }
 
-    /// Reads the next line, which must exist.
+    /// Reads the next line. Fails if there is none.
     fn entry(&mut self) -> Result<StateLine, StateReason>
         ensures entry { (entry : Told) (rest : List ℕ) → texts.IsStateLine entry →
             R.remaining self.old.reader ≡ Some (texts.line_text entry ++ rest) →
@@ -110,7 +110,7 @@ impl<R: BufRead + Drop> StateReader<R> {
         }
     }
 
-    /// Reads the first line, that of a clock.
+    /// Reads the first line, and returns its clock, in ns. Fails if it is of another kind.
     fn clock(&mut self) -> Result<u64, StateReason>
         ensures read { (clock : ℕ) (rest : List ℕ) → clock < 2 ^ 64 →
             R.remaining self.old.reader ≡ Some (texts.line_text (texts.clock clock) ++ rest) →
@@ -126,7 +126,7 @@ impl<R: BufRead + Drop> StateReader<R> {
         }
     }
 
-    /// Returns the reason of a line that may not be where it is.
+    /// Returns the reason that refuses a line which may not follow those before it.
     fn misplaced(&self) -> StateReason {
         let kind = fields::word(str::from_utf8(&self.line).unwrap_or(""), 0);
         wrong_word(self.alloc, StateField::Kind, kind)
@@ -190,8 +190,8 @@ impl<R: BufRead + Drop> StateReader<R> {
         Err(StateReason::Memory)
     }
 
-    /// Reads the rest of a text that has its log in the form of earlier versions, after the line with the number of its
-    /// entries: each entry becomes the account of its binding. Nothing is known of the file of the log.
+    /// Reads the rest of a text with its log in the form of earlier versions, after the line of the
+    /// log: each entry becomes the account of its binding. The file of the log is not known.
     fn earlier(
         &mut self,
         mut saved: StateFileContents,

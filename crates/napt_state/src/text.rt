@@ -15,7 +15,7 @@ use std::alloc::Global;
 use std::io;
 use std::io::{BufRead, Write};
 
-/// Writes a line, in the memory of the line before it.
+/// Writes a line. The string `line` is used again for its text.
 fn write_line<W: Write>(writer: &mut W, line: &mut String, entry: &StateLine) -> io::Result<()>
     ensures { OnOk result (Appends (W.contents writer.old) (W.contents writer.new)
         (texts.line_text entry.now)) }
@@ -65,8 +65,8 @@ fn push_log<W: Write>(writer: &mut W, line: &mut String, log: Option<LogPosition
     }
 }
 
-/// Writes the text of a state line by line, and flushes it, in the memory of one line. Fails if a write or the flush
-/// fails, or memory is refused; the writer may then have got a beginning of the text.
+/// Writes the text of a state line by line, in the memory of one line, and flushes it. Fails if a
+/// write or the flush fails, or memory is refused; a prefix may then have been written.
 pub fn write_state<W: Write>(
     alloc: Global,
     writer: &mut W,
@@ -86,10 +86,10 @@ pub fn write_state<W: Write>(
     writer.flush()
 }
 
-/// Reads the text of a state to its end, in the memory of the state and of one line. Nothing else is taken: no part of a text,
-/// and nothing with anything after it. A text in which an earlier version wrote its log is read too. The fault is the first
-/// one; of the reader, which is dropped, some first bytes were taken then. `read` says nothing where a read fails or memory
-/// runs out.
+/// Reads the text of a state to its end, in the memory of the state and of one line, and drops the
+/// reader. Also reads a text into which an earlier version wrote its log. Fails with the first
+/// fault: of a read, of memory, or of a line, also if the text is not whole or continues after its
+/// last line. It is not specified how many bytes were read before a fault.
 pub fn read_state<R: BufRead + Drop>(
     alloc: Global,
     reader: R,

@@ -1,4 +1,4 @@
-//! What is wrong with a line that is not one of a state.
+//! Finds the reason why a line is not one of a state's text.
 
 use crate::fault::{StateField, StateReason};
 use crate::fields;
@@ -8,7 +8,7 @@ use std::alloc::Global;
 /// The number of characters of a wrong word that are printed.
 const SHOWN: usize = 40;
 
-/// Returns the words after the first one of a line.
+/// Returns the fields that follow the first word of a line of this kind.
 fn words_after(kind: &str) -> &'static [StateField] {
     use StateField::{Address, Count, End, BoundedCount, Mark, Number, Protocol, Row};
     match kind {
@@ -50,8 +50,8 @@ fn words_after(kind: &str) -> &'static [StateField] {
     }
 }
 
-/// Whether a line of this kind may be shorter, with this number of words after the first: a binding without an account,
-/// the counts without that of entries, or a log in the form of earlier versions.
+/// Returns whether a line of this kind may have only `words` words after the first: a binding
+/// without an account, counts without that of entries, or a log as earlier versions wrote it.
 fn is_shorter(kind: &str, words: usize) -> bool {
     match kind {
         "binding" | "redirect" => words == 6,
@@ -60,12 +60,12 @@ fn is_shorter(kind: &str, words: usize) -> bool {
     }
 }
 
-/// Whether a number has neither a sign nor a leading zero.
+/// Returns whether a number is written without a sign or a leading zero.
 fn is_plain(number: &str) -> bool {
     number == "0" || !number.starts_with('0') && !number.starts_with('+')
 }
 
-/// Whether the word at an index is what a line has there.
+/// Returns whether the word at an index is valid for this field.
 fn is_right(kind: StateField, line: &str, place: usize) -> bool {
     let word = fields::word(line, place);
     match kind {
@@ -81,7 +81,7 @@ fn is_right(kind: StateField, line: &str, place: usize) -> bool {
     }
 }
 
-/// Returns the reason why a word may not be there.
+/// Returns the reason that refuses a word as this field.
 pub(crate) fn wrong_word(alloc: Global, kind: StateField, word: &str) -> StateReason {
     let mut shown = String::new(alloc);
     for character in word.chars().take(SHOWN) {
@@ -92,7 +92,7 @@ pub(crate) fn wrong_word(alloc: Global, kind: StateField, word: &str) -> StateRe
     StateReason::Word(kind, shown)
 }
 
-/// Returns what is wrong with a line, without the line feed at its end, that is not one of a state.
+/// Returns the reason why a line, without its line feed, is not one of a state's text.
 pub(crate) fn reason_of(alloc: Global, line: &str) -> StateReason {
     let first = fields::word(line, 0);
     let behind = words_after(first);

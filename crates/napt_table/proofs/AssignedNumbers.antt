@@ -180,7 +180,7 @@ made_unseen timers address packet old new number binding holds is k none at from
     in cc)
     (λ d h. ap (seen_binding timers at) (holds k ∙ past_key key (Some binding) (held_binding old k) k d)) none
 
--- What is visible of the list after the packet.
+-- The visible part of the list after the packet.
 shown_is : (timers : Timers) → AreTimers timers → (address : ℕ) (packet : OutboundPacket) (list : List Binding) →
     find (is_of_source address packet) (purge timers packet.now list) ≡ None → (answer : Result ℕ Cause) →
     purge timers packet.now (out_made list address packet answer).list

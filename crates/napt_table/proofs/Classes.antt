@@ -1,4 +1,4 @@
--- The candidates of a number are the numbers of its class: those from its own place on, then those before it.
+-- The candidates of a number are the numbers of its class: those from its own place on, and then those before it.
 use Rattle.std.proofs.Common.{inl, inr, ◌≡◌, ◌≢◌, ℕ, zero, suc, ◌+◌, ◌-◌, ◌*◌, ◌/◌, ◌%◌, ◌<◌, ◌≤◌, Bool, true, false, ◌&&◌, cond, nat_lt, nat_le, List, [], ◌∷◌, ◌++◌, length, map, slice_index_or, Option, Some, None, refl, sym, ◌∙◌, ap, arith}
 use Rattle.std.specs.{Prelude.filter, List.range_with_len}
 use Rattle.std.proofs.lemmas.{Bool.{and_parts, and_from, cases_lt, true≢false, ltb-true, ltb-false, lt-ltb, le-ltb, leb-true, le-leb}, Nat.mod_below}

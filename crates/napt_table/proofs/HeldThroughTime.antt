@@ -127,7 +127,7 @@ some_agree timers t address q n list apart held_ same =
 -- WHAT A STEP LEAVES UNCHANGED of bindings that are not visible
 
 module _ {X : Type 0} (s p : X → Bool) (f : X → X) (same : (x : X) → s (f x) ≡ s x) where
-  -- What is found after a change is what was found before, or the changed element.
+  -- The element that is found after a change is the one that was found before, or the changed one.
   find_either : (xs : List X) → (find s (change_first p f xs) ≡ find s xs)
       ⊎ ((x : X) × (find s (change_first p f xs) ≡ Some (f x)) × (p x ≡ true))
   find_either [] = inl refl

@@ -91,7 +91,7 @@ count_few held host = below_few (λ n. held_counts_for host (held n)) (2 ^ 16)
 -- THE LIST
 
 module _ (many address host : ℕ) where
-  -- Whether the binding that is found at a number of the protocol counts for the host.
+  -- Returns whether the binding that is found at a number of the protocol counts for the host.
   abbrev found_for : List Binding → Protocol → ℕ → Bool
   found_for list q n = held_counts_for host (find (λ b. has_number address q n b.row) list)
 

@@ -241,7 +241,7 @@ module _ (timers : Timers) (t : AreTimers timers) (inbound : InboundRules) (addr
           )
         ] refl
 
-    -- What is not visible is unchanged.
+    -- A binding that is not visible is unchanged.
     pub received_unseen : KeepsUnseen timers packet.now old new
     received_unseen k none at from = by_key (external_key packet.protocol packet.number) k (λ n.
         seen_binding timers packet.now (held_binding new n) ≡ None →

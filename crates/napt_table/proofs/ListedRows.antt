@@ -1,4 +1,4 @@
--- The rows of the stored bindings, sorted, are the rows of the list.
+-- The sorted rows of the stored bindings are the rows of the list.
 use Rattle.std.proofs.Common.{◌≡◌, ℕ, ◌+◌, ◌-◌, ◌*◌, ◌<◌, ◌≤◌, Bool, true, false, not, ◌&&◌, cond, All, List, [], ◌∷◌, map, filter, Option, Some, None, refl, sym, ◌∙◌, ap, arith, eqb, eqb-true}
 use Rattle.std.specs.{Prelude.{find, nat_lt}, List.IsDistinct, Map.{lookup, keys_of, values_of}, Option.option_map}
 use Rattle.std.proofs.lemmas.{Bool.{and_from, and_parts, eq-eqb, Decides.nat_tests}, Map.{lookup-none, Entries.{lookup_head, lookup_tail, none_past_head}}}

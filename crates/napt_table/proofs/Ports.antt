@@ -1,4 +1,4 @@
--- What holds of each class of ports holds of the class of a port.
+-- A property of each class of ports holds of the class of a port.
 use Rattle.std.proofs.{Common.{◌≡◌, ◌≢◌, ℕ, ◌%◌, ◌<◌, ◌==◌, Bool, true, false, cond, nat_lt, refl, arith}, lemmas.Bool.Decides.nat_tests}
 use Rattle.napt_table.specs.{declared.candidate_class.CandidateClass.CandidateClass, Classes.port_class}
 

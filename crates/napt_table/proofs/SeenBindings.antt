@@ -57,7 +57,7 @@ pub find_purged : (timers : Timers) (now address : ℕ) (protocol : Protocol) (n
 find_purged timers now address protocol number list apart =
     find_seen timers now address protocol number list (once_number address protocol number list apart)
 
--- What is visible later of what is visible now is what is visible later.
+-- The later visible part of the part that is visible now is the later visible part of the binding.
 pub seen_seen : (timers : Timers) (n m : ℕ) → n ≤ m → (o : Option Binding) →
     seen_binding timers m (seen_binding timers n o)
     ≡ seen_binding timers m o

@@ -1,4 +1,4 @@
--- A step leaves the other protocols unchanged; and a list of events with one more.
+-- A step changes no binding of another protocol; and a list of events with one more event.
 use Rattle.std.proofs.Common.{◌≡◌, ◌≢◌, ℕ, Bool, true, false, cond, List, [], ◌∷◌, ◌++◌, Option, Some, None, Result, Ok, Err, refl, sym, ◌∙◌, ap, subst, eqb, eqb-true}
 use Rattle.std.{specs.Prelude.{find, OnErr}, proofs.lemmas.Bool.{eq-eqb, true≢false}}
 use Rattle.napt_wire.specs.declared.{Protocol.Protocol, Cause.TheVariants.{NoBinding, Filtered}}
@@ -9,7 +9,7 @@ use Rattle.napt_laws.proofs.{Finds.find_other, StepCases.in_passed, StepsLive.re
 use Rattle.napt_laws.proofs.Endpoints.{protocol_is, same_itself, changed_other, inside_protocol, not_has}
 use Rattle.napt_table.specs.{declared.table_event.TableEvent.TableEvent, Events.{list_after_event, list_after_events}}
 
--- What an incoming packet does to the visible list.
+-- The effect of an incoming packet on the visible list.
 abbrev pub shown_passed : InboundRules → List Binding → ℕ → InboundPacket → Binding → Bool → InboundEffect
 shown_passed inbound list address packet b passes =
     cond passes
@@ -29,7 +29,7 @@ abbrev pub shown_in : InboundRules → ℕ → InboundPacket → List Binding �
 shown_in inbound address packet list =
     shown_found inbound list address packet (find (is_of_destination address packet) list)
 
--- What is visible after the packet is what the packet does to the visible list.
+-- The visible list after the packet is the result of the packet on the visible list before it.
 pub in_is_shown : (timers : Timers) → AreTimers timers → (inbound : InboundRules) (address : ℕ) (packet : InboundPacket)
     (all : List Binding) → (let came : InboundEffect = in_taken timers inbound address packet all in
     let shown : InboundEffect = shown_in inbound address packet (purge timers packet.now all) in

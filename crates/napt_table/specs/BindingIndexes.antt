@@ -11,17 +11,17 @@ pub record BindingIndexModel : Type 0 where
   pub granting : AssignmentRules
   -- The bindings by the keys of their numbers, in no order.
   pub entries : List (ExternalNumberKey × Binding)
-  -- How many more bindings fit without an allocation.
+  -- The number of further bindings that fit without an allocation.
   pub room : ℕ
 
--- The stored binding with this key, if there is one.
+-- Returns the stored binding with this key, if there is one.
 abbrev pub held_binding : BindingIndexModel → ExternalNumberKey → Option Binding
 held_binding all key = lookup (key_eq key) all.entries
 
 abbrev pub held_at : BindingIndexModel → Protocol → ℕ → Option Binding
 held_at all protocol number = held_binding all (external_key protocol number)
 
--- How many stored bindings the host has, over all protocols.
+-- Returns the number of stored bindings of the host, over all protocols.
 abbrev pub count_all : BindingIndexModel → ℕ → ℕ
 count_all all host =
     (count_held (held_at all Icmp) host + count_held (held_at all Tcp) host) + count_held (held_at all Udp) host
@@ -36,7 +36,7 @@ pub record IsNamed (all : BindingIndexModel) : Type 0 where
   }
   pub small : (key : ExternalNumberKey) (b : Binding) → held_binding all key ≡ Some b → key.number < 2 ^ 16
 
--- Neither the binding nor one of its flows was last used after the time.
+-- Neither the binding nor any of its flows was last used after the time, in ns.
 abbrev pub IsUsedBy : ℕ → Binding → Type 0
 IsUsedBy at b = NoneUsedAfter b.flows at × (b.last ≤ at)
 
@@ -72,7 +72,7 @@ pub record ChangesOne (key : ExternalNumberKey) (old new : BindingIndexModel) : 
   pub place : IsSamePlace old new
   pub others : (other : ExternalNumberKey) → other ≢ key → held_binding new other ≡ held_binding old other
 
--- What is visible of the stored bindings at the time is the same.
+-- The visible parts of the stored bindings at the time are the same.
 pub record KeepsSeen (timers : Timers) (at : ℕ) (old new : BindingIndexModel) : Type 0 where
   pub place : IsSamePlace old new
   pub seen_same : (key : ExternalNumberKey) → seen_binding timers at (held_binding new key)
@@ -94,7 +94,7 @@ pub record HasNone (timers : Timers) (packet : OutboundPacket) (old new : Bindin
   pub none : (number : ℕ) (b : Binding) → seen_binding timers packet.now (held_at old packet.protocol number) ≡ Some b →
       b.row.inside ≢ packet.inside
 
--- A packet went out through its inside endpoint's live binding if it has one, whose number is the answer.
+-- A packet went out through the live binding of its inside endpoint, if there is one, and the answer is its number.
 abbrev pub SendKnownPost : Timers → OutboundPacket → BindingIndexModel → BindingIndexModel → Option ℕ → Type 0
 SendKnownPost timers packet old new (Some number) = WentThrough timers packet old new number
 SendKnownPost timers packet old new None = HasNone timers packet old new

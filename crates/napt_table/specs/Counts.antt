@@ -3,7 +3,7 @@ use Rattle.std.specs.{Prelude.{ℕ, Bool, Option, Some, None}, Option.is_some}
 use Rattle.napt_binding.specs.{declared.address_counts.AddressCounts.AddressCounts, Counts.{count_at, room_of}}
 use Rattle.napt_table.specs.declared.host_counts.HostCounts.{HostCounts}
 
--- Whether bindings are counted by host.
+-- Returns whether bindings are counted by host.
 abbrev pub are_counted : HostCounts → Bool
 are_counted hosts = is_some hosts.counts
 
@@ -11,11 +11,11 @@ abbrev pub count_by : Option AddressCounts → ℕ → ℕ
 count_by None host = 0
 count_by (Some counts) host = count_at counts host
 
--- The number of bindings of the host, or 0 if nothing is counted.
+-- Returns the number of bindings of the host, or 0 if nothing is counted.
 abbrev pub count_in : HostCounts → ℕ → ℕ
 count_in hosts host = count_by hosts.counts host
 
--- How many more hosts fit without an allocation; where nothing is counted, always 1.
+-- Returns the number of further hosts that fit without an allocation, or 1 if nothing is counted.
 abbrev pub place_by : Option AddressCounts → ℕ
 place_by None = 1
 place_by (Some counts) = room_of counts

@@ -11,7 +11,7 @@ list_after_event timers granting inbound address (Received packet) list =
     (step_in timers inbound address packet list).list
 list_after_event timers granting inbound address (Purged now) list = live_and_held timers now list
 
--- The list after all events in order. The time in ns that comes with each event is not read.
+-- Returns the list after all events, in order. The time in ns that comes with each event is not read.
 abbrev pub list_after_events : Timers → AssignmentRules → InboundRules → ℕ → List (ℕ × TableEvent) → List Binding →
     List Binding
 list_after_events timers granting inbound address [] list = list

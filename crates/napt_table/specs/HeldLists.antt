@@ -1,17 +1,17 @@
 -- The stored bindings of a table, compared with the list of its contracts.
 --
--- A stored binding may have ended; then it is not visible. The list has exactly what is visible of the stored bindings.
+-- A stored binding that has ended is not visible. The list has exactly the visible parts of the stored bindings.
 use Rattle.std.specs.{Prelude.{◌≡◌, ℕ, ◌≤◌, cond, List, map, find, Option, Some, None}, Option.option_map}
 use Rattle.napt_wire.specs.declared.{Protocol.Protocol}
 use Rattle.napt_config.specs.declared.settings.Timers.{Timers}
 use Rattle.napt_rules.specs.Prelude.{Binding, has_number, is_live, with_live_flows, purge, row, AreBindingsApart}
 
--- What is visible of a stored binding at a time: a live one without its dead flows, else none.
+-- Returns the visible part of a stored binding at a time, in ns: a live one without its dead flows, else none.
 abbrev pub seen_binding : Timers → ℕ → Option Binding → Option Binding
 seen_binding timers now None = None
 seen_binding timers now (Some b) = cond (is_live timers now b) (Some (with_live_flows timers now b)) None
 
--- At each number of the protocol the list has what is visible of the stored binding.
+-- At each number of the protocol, the list has the visible part of the stored binding.
 abbrev pub ShowsHeld : Timers → ℕ → ℕ → Protocol → (ℕ → Option Binding) → List Binding → Type 0
 ShowsHeld timers at address protocol held list = (n : ℕ) → find (λ b. has_number address protocol n b.row) list
     ≡ seen_binding timers at (held n)

@@ -1,4 +1,4 @@
--- What an index keeps: bindings by number and by inside endpoint, the numbers in use, and the counts by host.
+-- The contents of an index: bindings by number and by inside endpoint, the numbers in use, and the counts by host.
 use Rattle.std.specs.{Prelude.{◌≡◌, ℕ, ◌<◌, ◌^◌, min, true, Option, Some}, Option.is_some, HashMap.spare, Map.lookup}
 use Rattle.napt_wire.specs.declared.{Protocol.Protocol, Endpoint.Endpoint}
 use Rattle.napt_rules.specs.Prelude.{Binding}
@@ -13,11 +13,11 @@ holdings_of it = record {
   room = min (spare it.by_number) (min (spare it.by_inside) (host_place it.hosts));
 }
 
--- The number that the index has for the inside endpoint.
+-- Returns the number that the index has for the inside endpoint, if there is one.
 abbrev pub number_of_inside : Inside → Protocol → Endpoint → Option ℕ
 number_of_inside it protocol inside = lookup (inside_eq (inside_key protocol inside)) it.by_inside.entries
 
--- Each binding is found by number and by inside endpoint, its number is in use, and hosts' counts are right.
+-- Each binding is found by number and by inside endpoint, its number is in use, and the counts of hosts are right.
 pub record IsHeld (it : Inside) : Type 0 where
   pub named : IsNamed (holdings_of it)
   pub inside_is : (key : ExternalNumberKey) (b : Binding) → held_binding (holdings_of it) key ≡ Some b →

@@ -4,7 +4,7 @@ use Rattle.napt_config.specs.declared.settings.Timers.{Timers}
 use Rattle.napt_rules.specs.{declared.Row.Row, Prelude.{is_live, row}}
 use Rattle.napt_table.specs.{BindingIndexes.BindingIndexModel, Keys.key_eq}
 
--- The rows of the bindings that are live at the time.
+-- Returns the rows of the bindings that are live at the time, in ns.
 abbrev pub held_rows : Timers → ℕ → BindingIndexModel → List Row
 held_rows timers now all = map row (filter (is_live timers now) (values_of all.entries))
 
@@ -12,7 +12,7 @@ held_rows timers now all = map row (filter (is_live timers now) (values_of all.e
 abbrev pub IsSmall : Row → Type 0
 IsSmall row = row.external.number < 2 ^ 16
 
--- What holds once all stored bindings were read: their keys are distinct, and the external numbers have 16 bits.
+-- The stored bindings can be read as a list: their keys are distinct, and the external numbers have 16 bits.
 pub record AreRead (timers : Timers) (now : ℕ) (all : BindingIndexModel) : Type 0 where
   pub unique : IsDistinct key_eq (keys_of all.entries)
   pub small : All IsSmall (held_rows timers now all)

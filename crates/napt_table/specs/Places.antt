@@ -1,14 +1,14 @@
--- Where a number is in the bitmap of its protocol: the numbers of one parity, of a class of ports or of a port block,
--- are at adjacent places.
+-- The place of a number in the bitmap of its protocol, where the numbers of one parity of a class or of a port block
+-- are adjacent.
 use Rattle.std.specs.Prelude.{ℕ, ◌+◌, ◌*◌, ◌/◌, ◌%◌, Bool, List}
 use Rattle.napt_collections.specs.BitSets.{has}
 use Rattle.napt_wire.specs.declared.Protocol.{Protocol}
 
--- The place of a number: the even numbers come first, then the odd ones.
+-- Returns the place of a number: the even numbers come first, then the odd ones.
 abbrev pub number_place_in_map : ℕ → ℕ
 number_place_in_map number = (number % 2) * 32768 + number / 2
 
--- What contracts see of a set of numbers: its protocol, and the places that are set.
+-- A set of numbers as contracts see it: its protocol, and the places that are set.
 pub record UsedPlaces : Type 0 where
   pub protocol : Protocol
   pub places : List ℕ

@@ -1,9 +1,9 @@
--- What contracts see of a table that is stored in maps, and its invariant.
+-- A table that is stored in maps, as contracts see it, and its invariant.
 use Rattle.std.specs.Prelude.{List, map}
 use Rattle.napt_rules.specs.Prelude.{Binding}
 use Rattle.napt_table.specs.{declared.table.Table.TheInside.Inside, Bindings.AllKeep, Events.list_after_events, Tables.{TableModel, IsTable}}
 
--- The list of the contracts: the bindings at the start, after all events since then.
+-- Returns the list of the contracts: the bindings at the start, after all events since then.
 abbrev pub list_of : Inside → List Binding
 list_of table =
     list_after_events table.bindings.timers table.bindings.held.granting table.inbound table.bindings.held.address

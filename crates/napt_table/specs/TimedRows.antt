@@ -1,4 +1,4 @@
--- What a table says of a live binding: its row, and the time at which it ends if no packet refreshes it.
+-- A live binding as a table returns it: its row, and the time at which it ends if no packet refreshes it.
 use Rattle.napt_config.specs.declared.settings.Timers.{Timers}
 use Rattle.napt_rules.specs.Prelude.{Binding, row}
 use Rattle.napt_binding.specs.Ends.{end_of}

@@ -1,8 +1,8 @@
 //! The stored bindings of one external address, of all protocols.
 //!
-//! A binding that has ended stays stored while it is held: no look-up finds it, and it is removed before the next new
-//! binding is assigned a number once its hold time is over. Its queue entry has a time until which it is known to be
-//! live. The entry is not moved when a packet refreshes the binding; when it becomes due, the binding is checked again.
+//! A binding that has ended is stored while held: no look-up finds it, and once its hold time is
+//! over, it is removed before a new one gets a number. Its queue entry has a time until which it
+//! surely lives. A packet that refreshes it does not move the entry; it is checked again when due.
 
 ghost use Rattle.std.specs.{Prelude.{◌≡◌, ℕ, ◌+◌, ◌*◌, ◌^◌, ◌≤◌, ◌<◌, All, true, false, Some, None, OnOk, IfOk}, Option.{option_map, is_some}};
 ghost use Rattle.napt_rules.specs.Prelude.{Binding, ns_per_second, is_live, hold_ago};
@@ -30,7 +30,7 @@ mod sending;
 #[derive(Drop)]
 pub(crate) struct Bindings {
     timers: IdleTimers,
-    /// The time of the last packet, in ns; before the first packet, that at which it began.
+    /// The time of the last packet, in ns; before the first packet, that at which the table began.
     at: u64,
     held: BindingIndex,
     /// One entry for each binding that is not fixed, with a time until which it is surely live.
@@ -52,7 +52,7 @@ impl Model for Bindings {
     ghost invariant = { λ bindings. AreDue bindings.timers bindings.at bindings.held bindings.due.entries };
 }
 
-/// Removes a binding that is not queued if its hold time is over at `at`, else queues it.
+/// Removes a binding that is not queued if its hold time is over at `at` (ns), else queues it.
 fn requeue_or_remove(
     held: &mut BindingIndex,
     due: &mut Due<ExternalNumberKey>,
@@ -149,7 +149,7 @@ impl Bindings {
         self.held.size()
     }
 
-    /// Returns the inside endpoint of the live binding with the number.
+    /// Returns the inside endpoint of the live binding with the number at `now` (ns).
     pub(crate) fn inside_of(&self, now: u64, protocol: Protocol, number: u16) -> Option<Endpoint>
         ensures { result ≡ option_map (λ b. b.row.inside)
             (seen_binding self.now.timers now (held_at self.now.held protocol number)) }
@@ -160,7 +160,7 @@ impl Bindings {
         }
     }
 
-    /// Returns the external number of the inside endpoint's live binding.
+    /// Returns the external number of the inside endpoint's live binding at `now` (ns).
     pub(crate) fn number_of(&self, now: u64, protocol: Protocol, inside: Endpoint) -> Option<u16>
         ensures { IsLiveNumberOf now self.now protocol inside result }
     {
@@ -171,7 +171,7 @@ impl Bindings {
         }
     }
 
-    /// Returns the live binding with the number, and its expiry time.
+    /// Returns the live binding with the number at `now` (ns), and its expiry.
     pub(crate) fn timed(&self, now: u64, protocol: Protocol, number: u16) -> Option<TimedRow>
         ensures { result ≡ option_map (timed_row self.now.timers)
             (seen_binding self.now.timers now (held_at self.now.held protocol number)) }
@@ -186,7 +186,7 @@ impl Bindings {
         }
     }
 
-    /// Receives a packet: returns the inside endpoint of the live binding with its number if the
+    /// Receives a packet. Returns the inside endpoint of the live binding with its number if the
     /// filter admits the remote, else `NoBinding` or `Filtered`. Allocates no memory.
     pub(crate) fn receive(
         &mut self,
@@ -207,7 +207,7 @@ impl Bindings {
         held.receive(timers, inbound, packet)
     }
 
-    /// Queues the binding of the first due entry again or removes it; returns whether one was due.
+    /// Queues the binding of the first due entry again, or removes it. Returns whether one was due.
     fn purge_first(&mut self) -> bool
         ensures timers { self.new.timers ≡ self.old.timers }
         ensures at { self.new.at ≡ self.old.at }
@@ -242,7 +242,7 @@ impl Bindings {
         while self.purge_first() {}
     }
 
-    /// Sets the time to `now` and removes the bindings whose hold time is then over.
+    /// Sets the time to `now` (ns) and removes the bindings whose hold time is then over.
     fn purge_at(&mut self, now: u64)
         requires later { self.old.at ≤ now }
         ensures { IsPurged now self.old self.new }
@@ -258,8 +258,8 @@ impl Bindings {
     ghost use Rattle.napt_table.specs.BindingIndexes.{held_at};
     ghost use Rattle.napt_table.specs.Bindings.{IsPurged};
 
-    /// Returns the least number from 1 on that no binding has, live or held, at `now`, which becomes the time. Bindings
-    /// whose hold time is over are removed first, each once, so a search of the numbers in use reads a few words.
+    /// Returns the least number from 1 on that no live or held binding has at `now` (ns). Before
+    /// that, sets the time to `now`, and removes the bindings whose hold is over.
     pub(crate) fn free_number(&mut self, now: u64, protocol: Protocol) -> Option<u16>
         requires later { self.old.at ≤ now }
         ensures purged { IsPurged now self.old self.new }
@@ -288,7 +288,7 @@ impl Bindings {
         self.held.rows(alloc, self.timers, now)
     }
 
-    /// Returns the bindings live or held at `now` (ns), as a saved state has them, in no order.
+    /// Returns the bindings that are live or held at `now` (ns), for a saved state, in no order.
     pub(crate) fn final_bindings(
         &self,
         alloc: Global,

@@ -8,7 +8,7 @@ ghost use Rattle.napt_table.specs.Classes.{class_of, class_in_block, class_of_bl
 use napt_config::PortBlock;
 use napt_wire::Protocol;
 
-/// A class of external numbers: the least one, how many there are, and the step between two.
+/// A class of external numbers: the least one, their count, and the step from one to the next.
 #[derive(Clone, Copy)]
 pub struct CandidateClass {
     pub least: u32,
@@ -16,7 +16,7 @@ pub struct CandidateClass {
     pub step: u32,
 }
 
-/// Returns a number's class: a port keeps its side of 1024 and, with `keeps_parity`, its parity.
+/// Returns a number's class: for a port, its side of 1024 and, if `keeps_parity`, its parity.
 pub(crate) fn class_of(keeps_parity: bool, protocol: Protocol, number: u16) -> CandidateClass
     ensures value { result ≡ class_of keeps_parity protocol number }
     ensures small { number < 2 ^ 16 }

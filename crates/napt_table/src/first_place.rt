@@ -1,4 +1,4 @@
-//! Where the search for a free number begins: at the number, or at a hash (RFC 6056, section 3.3.3).
+//! The start of the search for a free number: the number, or a hash (RFC 6056, section 3.3.3).
 
 ghost use Rattle.std.specs.Prelude.{◌≡◌, ◌-◌, ◌/◌, ◌%◌, ◌<◌, ◌≤◌};
 ghost use Rattle.napt_rules.specs.Prelude.{mixed, protocol_byte, place_in};
@@ -9,7 +9,7 @@ use napt_config::{NumberAssignment, Seed};
 use napt_wire::{Endpoint, Protocol};
 use std::hash::{DefaultHasher, Hasher};
 
-/// Returns the protocol's number in an IPv4 header.
+/// Returns the protocol's number in an IPv4 header: 1, 6 or 17.
 fn protocol_byte(protocol: Protocol) -> u8
     ensures { result ≡ protocol_byte protocol }
 {
@@ -20,7 +20,7 @@ fn protocol_byte(protocol: Protocol) -> u8
     }
 }
 
-/// Returns SipHash-1-3 of the seed, the protocol and the inside endpoint, in network order.
+/// Returns SipHash-1-3, under the seed, of the protocol and the inside endpoint, in network order.
 fn mixed(seed: Seed, protocol: Protocol, inside: Endpoint) -> u64
     ensures { result ≡ mixed seed protocol inside }
 {

@@ -1,4 +1,4 @@
-//! How many bindings each inside host has, over all protocols (RFC 6888, REQ-4).
+//! The number of bindings of each inside host, over all protocols (RFC 6888, REQ-4).
 
 ghost use Rattle.std.specs.Prelude.{◌≡◌, ℕ, ◌+◌, ◌-◌, ◌^◌, ◌<◌, ◌≤◌, true, cond, Some, OnOk};
 ghost use Rattle.napt_table.specs.Hosts.{held_counts_for};
@@ -6,7 +6,7 @@ ghost use Rattle.napt_table.specs.Hosts.{held_counts_for};
 use napt_binding::{AddressCounts, TableBinding};
 use std::alloc::{AllocError, Global};
 
-/// The number of bindings of each inside host, but redirects. Without a quota none is counted.
+/// The number of bindings of each inside host, without redirects. Only counted under a quota.
 #[derive(Drop)]
 pub(crate) struct HostCounts {
     counts: Option<AddressCounts>,
@@ -50,7 +50,7 @@ impl HostCounts {
         }
     }
 
-    /// Counts a binding, for whose host there is room. A redirect does not count.
+    /// Counts a binding, for whose host there must be room. A redirect is not counted.
     pub(crate) fn increment(&mut self, binding: &TableBinding)
         requires room { 0 < host_place self.old }
         requires fits { count_in self.old binding.now.row.inside.address + 1 < 2 ^ 64 }
@@ -67,7 +67,7 @@ impl HostCounts {
         }
     }
 
-    /// Removes a binding from the count of its host. A redirect does not count.
+    /// Removes a binding from the count of its host. A redirect is not counted.
     pub(crate) fn decrement(&mut self, binding: &TableBinding)
         ensures counted { are_counted self.new ≡ are_counted self.old }
         ensures counts { (host : ℕ) →

@@ -1,4 +1,4 @@
-//! The bindings of one external address: which inside endpoint has which number, and for how long.
+//! The bindings of one external address, which map inside endpoints to its numbers for a time.
 //!
 //! The rules are those of RFC 3022, RFC 4787, RFC 5382 and RFC 5508, as `specs/` states them.
 #![tactic(auto)]
@@ -31,11 +31,11 @@ pub use table::Table;
 #[derive(Clone, Copy, Debug, PartialEq, Eq)]
 pub struct TimedRow {
     pub row: Row,
-    /// The first time, in ns, at which it is not live; `None` for a redirect, which never expires.
+    /// The first time (ns) at which it is not live, or `None` for a redirect, which never expires.
     pub end: Option<u128>,
 }
 
-/// Law: no host ever has more bindings than the quota, or than at the start (RFC 6888, REQ-4).
+/// Law: no host ever exceeds both the quota and its count at the start (RFC 6888, REQ-4).
 pub fn tables_keep_the_quota()
     ensures { PlayedKeepsQuota }
 {}

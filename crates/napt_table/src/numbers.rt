@@ -18,8 +18,8 @@ use std::marker::Model;
 /// The external numbers of one protocol that are in use: UDP or TCP ports, or ICMP identifiers.
 /// Contracts see the protocol and the set of numbers.
 ///
-/// The set is a bitmap with the even numbers first and then the odd ones, so that those of one parity
-/// of a class or of a block are adjacent: a choice reads a few words, however many numbers are in use.
+/// The set is a bitmap with the even numbers first and then the odd ones. The numbers of one parity
+/// of a class or block are therefore adjacent, and a choice reads only a few words.
 #[derive(Drop)]
 pub struct Numbers {
     protocol: Protocol,
@@ -60,8 +60,8 @@ fn least_of(from: u32, end: u32, even: Option<u32>, odd: Option<u32>) -> Option<
 }
 
 impl Numbers {
-    /// Creates a set in which no number is in use. It takes about 8 KiB, and no other method
-    /// allocates; fails if memory is refused.
+    /// Creates a set in which no number is in use, of about 8 KiB. No other method allocates. Fails
+    /// if memory is refused.
     pub fn new(alloc: Global, protocol: Protocol) -> Result<Numbers, AllocError>
         ensures protocol { IfOk result (λ numbers. numbers.protocol ≡ protocol) }
         ensures none { IfOk result (λ numbers. (n : ℕ) → is_used numbers n ≡ false) }
@@ -79,9 +79,9 @@ impl Numbers {
         self.protocol
     }
 
-    /// Returns the external number for an inside endpoint, of a host with this block or without one: the first
-    /// candidate that is free, or `None` if none is. Without a block that is the number itself, or with a seed the one
-    /// at the place of a hash, else the next free one of its class, wrapping around (RFC 4787, REQ-3 and REQ-4).
+    /// Returns the external number for an inside endpoint, of a host with this block or without
+    /// one: the first free candidate, if any. Without a block, the search begins at the number
+    /// itself, or with a seed at the place of a hash, and wraps around (RFC 4787, REQ-3 and REQ-4).
     pub fn choose(
         &self,
         choosing: NumberAssignment,
@@ -127,7 +127,7 @@ impl Numbers {
         }
     }
 
-    /// Returns a block's first free number from a place on: of the place's parity, else of the other.
+    /// Returns a block's first free number from a place on: of its parity, or else of the other.
     fn first_by_parity(&self, block: PortBlock, place: u16) -> Option<u16>
         requires block { IsPortBlock block }
         requires within { place < block.size }
@@ -154,7 +154,7 @@ impl Numbers {
         }
     }
 
-    /// Does what `first_of` does for a class of every other number.
+    /// Returns what `first_of` returns, for a class with a step of 2.
     fn first_of_parity(&self, class: CandidateClass, place: u32) -> Option<u16>
         requires apart { class.step ≡ 2 }
         requires some { 0 < class.count }
@@ -171,7 +171,7 @@ impl Numbers {
         Some((class.least + 2 * (found - start)) as u16)
     }
 
-    /// Does what `first_of` does for a class without gaps.
+    /// Returns what `first_of` returns, for a class with a step of 1.
     fn first_of_all(&self, class: CandidateClass, place: u32) -> Option<u16>
         requires apart { class.step ≡ 1 }
         requires fits { class.least + class.count ≤ 65536 }

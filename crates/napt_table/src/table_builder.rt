@@ -14,7 +14,7 @@ use napt_wire::{Endpoint, Protocol};
 use std::alloc::{AllocError, Global};
 use std::marker::Model;
 
-/// A table before its first packet; contracts see it as a table.
+/// A table before its first packet. Contracts see it as a table.
 #[derive(Drop)]
 pub(crate) struct TableBuilder {
     pub(crate) inbound: InboundRules,
@@ -100,7 +100,7 @@ impl TableBuilder {
         })
     }
 
-    /// Appends a binding of this address that is live or held and shares no endpoint with others.
+    /// Appends a binding of this address that is live or held and shares no endpoint with another.
     fn add(&mut self, binding: TableBinding) -> Result<(), AllocError>
         requires live { is_live self.old.timers (hold_ago self.old.timers self.old.at) binding
             ≡ true }
@@ -118,7 +118,7 @@ impl TableBuilder {
         Ok(())
     }
 
-    /// Appends a binding of a state if it is at this address, is no redirect, and is live or held.
+    /// Appends a state's binding if it is at this address, is not a redirect, and is live or held.
     fn restore(&mut self, alloc: Global, binding: &StateBinding) -> Result<(), AllocError>
         requires apart { AreBindingsApart (map row (self.old.list
             ++ state_bindings_at self.old.timers self.old.at self.old.address (binding.now ∷ []))) }

@@ -1,4 +1,4 @@
-//! The events of a table, which proofs alone read.
+//! The events of a table, which only proofs read.
 
 use napt_rules::{InboundPacket, OutboundPacket};
 

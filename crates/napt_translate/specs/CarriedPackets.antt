@@ -1,4 +1,4 @@
--- The protocol that a packet carries: that of its header, or none for an ICMP error.
+-- The protocol of a packet's binding: that of its header, or none for an ICMP error.
 use Rattle.std.specs.Prelude.{Option, Some, None}
 use Rattle.napt_wire.specs.declared.{Kind.Kind, Protocol.{Protocol, TheVariants.{Icmp, Tcp, Udp}}}
 use Rattle.napt_wire.specs.declared.Kind.TheVariants as kinds

@@ -1,4 +1,4 @@
--- What contracts see of a translator: its place in the pool, its configuration, and the table of its external address.
+-- A translator as contracts see it: its place in the pool, its configuration, and the table of its external address.
 use Rattle.std.specs.Prelude.{◌≡◌, ℕ, ◌<◌, Bool, false, List, length, slice_index, Option, Some, None, Result}
 use Rattle.napt_wire.specs.declared.{Protocol.Protocol, Flags.Flags, Cause.Cause}
 use Rattle.napt_rules.specs.{Prelude.{BindingUse, assignment_rules, inbound_rules, OutboundEffect, step_out, InboundEffect, step_in, outbound_packet, inbound_packet, LocalState, local_after, State}, declared.Leg.Leg}
@@ -12,7 +12,7 @@ pub record TranslatorModel : Type 0 where
   pub rules : Rules
   pub table : TableModel
 
--- The translator at a place of a configuration's pool, before any leg.
+-- Returns the translator at a place of a configuration's pool, before any leg.
 abbrev pub initial_translator : ℕ → Rules → TranslatorModel
 initial_translator index rules = record {
   index = index;
@@ -20,7 +20,7 @@ initial_translator index rules = record {
   table = initial_table rules (slice_index rules.pool index);
 }
 
--- The translator at a place of the pool that goes on from a saved state.
+-- Returns the translator at a place of the pool that continues from a saved state.
 abbrev pub resumed_translator : ℕ → Rules → State → TranslatorModel
 resumed_translator index rules state = record {
   index = index;
@@ -43,17 +43,17 @@ local_state table = record { list = table.list; at = table.at }
 abbrev pub with_local_state : TranslatorModel → LocalState → TranslatorModel
 with_local_state state kept = record state { table = record state.table { list = kept.list; at = kept.at } }
 
--- The translator after a leg.
+-- Returns the translator after a leg.
 abbrev pub translator_after : Leg → TranslatorModel → TranslatorModel
 translator_after leg state = with_local_state state
     (local_after state.rules state.table.address leg (local_state state.table))
 
--- Whether a leg made the binding that its packet used.
+-- Returns whether a leg made the binding that its packet used.
 abbrev pub is_made : Option BindingUse → Bool
 is_made None = false
 is_made (Some went) = went.made
 
--- What the step of an outgoing packet gives at the translator's address, at a time; then the same of an incoming one.
+-- Returns the effect of an outgoing packet at the translator's address, at a time in ns; then that of an incoming one.
 abbrev pub outbound_at : TranslatorModel → ℕ → Protocol → Flags → List ℕ → OutboundEffect
 outbound_at state now protocol flags packet = step_out state.rules.timers (assignment_rules state.rules)
     state.table.address

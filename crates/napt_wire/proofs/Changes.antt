@@ -1,4 +1,4 @@
--- What writing words leaves unchanged, and what it does to the sum of the words of a range of bytes.
+-- The bytes that writing words does not change, and its effect on the sum of the words of a range of bytes.
 use Rattle.std.proofs.lemmas.{Grind.{common_steps, same_number_lists}, Bool.Decides.nat_tests}
 use Rattle.std.proofs.Common.{◌≡◌, ℕ, zero, suc, ◌+◌, ◌-◌, ◌*◌, ◌/◌, ◌%◌, ◌<◌, ◌≤◌, List, [], ◌∷◌, ◌++◌, length, min, take, drop, set, sum, slice_index, arith, refl, sym, ◌∙◌, ap, length-drop, length-take, length-take-le, length-set, get_or-set_same, get_or-set_other, get_or-drop, get_or-take, take_at}
 use Rattle.std.proofs.{Math.Seq.take-set-lt, lemmas.List.drop-set-add}

@@ -1,4 +1,4 @@
--- What the checks of reading show about a packet.
+-- Properties of a packet that follow from the checks of reading.
 use Rattle.std.proofs.Common.{◌≡◌, ℕ, ◌<◌, ◌≤◌, Bool, true, false, List, [], ◌∷◌, ◌++◌, length, take, drop, Option, Some, None, Ok, arith, refl, sym, ◌∙◌, slice_index, length-drop, length-take-le}
 use Rattle.std.{specs.Option.option_or, proofs.{lemmas.{Bool.Decides.nat_tests, Grind.common_steps}, Math.Seq.take-length}}
 use Rattle.napt_wire.specs.Prelude.{version, header_length, total_length, transport_start, form_at, refusal, reading, read_unless, datagram, length_checks, header_checks, body_checks, has_bad_transport, IsPacket, HasHeaders, Cause, Side, TransportForm}

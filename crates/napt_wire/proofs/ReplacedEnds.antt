@@ -1,4 +1,4 @@
--- What a packet is after one of its ends was replaced.
+-- A packet after one of its ends was replaced.
 use Rattle.std.proofs.{lemmas.{Grind.common_steps, Bool.Decides.nat_tests}, Common.{◌<◌, ◌≡◌, ℕ, ◌+◌, false, not, List, arith, refl, sym, ◌∙◌, ap, true, Ok}}
 use Rattle.napt_wire.proofs.Changes.{IsWritten, word-same}
 use Rattle.napt_wire.proofs.EndReplacement.{address_same, end-written, end_address, numbers, numbers-written, other, other_clear, there_clear, end-clear}

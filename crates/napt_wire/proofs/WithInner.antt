@@ -40,7 +40,7 @@ sum-map-append : (f : Change → ℕ) (xs : List Change) (c : Change) → sum (m
 sum-map-append f xs c = ap sum (map-append f xs (c ∷ [])) ∙ sum-append (map f xs) (f c ∷ [])
     ∙ ap (λ (n : ℕ). sum (map f xs) + n) (sum-cons (f c) [] ∙ omega arith)
 
--- What the checks show about an error.
+-- Properties of an error that follow from the checks.
 pub record PassesError (side : Side) (bytes : List ℕ) : Type 0 where
   pub passes : Passes side bytes
   pub form_is : form_at 0 bytes ≡ Error
@@ -58,7 +58,7 @@ same_number a b h = grind (arith, nat_tests)
 number_same : (a b : ℕ) → a ≡ b → not (a == b) ≡ false
 number_same a b h = grind (arith, nat_tests)
 
--- What is unchanged in an error.
+-- The parts of an error that do not change.
 pub record KeepsError (side : Side) (old new : List ℕ) : Type 0 where
   pub passes : Passes side new
   pub same_form : form_at 0 new ≡ form_at 0 old

@@ -10,18 +10,18 @@ use Rattle.napt_wire.specs.declared.Protocol.TheVariants as protocols
 abbrev pub version : ℕ → List ℕ → ℕ
 version at bytes = byte_at at bytes / 16
 
--- The header length in bytes; the field IHL counts units of four bytes.
+-- Returns the header length in bytes. The field IHL counts units of four bytes.
 abbrev pub header_length : ℕ → List ℕ → ℕ
 header_length at bytes = 4 * bit_and (byte_at at bytes) 15
 
 abbrev pub total_length : ℕ → List ℕ → ℕ
 total_length at bytes = word_at (at + 2) bytes
 
--- The offset of the fragment in its datagram, in units of eight bytes.
+-- Returns the offset of the fragment in its datagram, in units of eight bytes.
 abbrev pub fragment_offset : ℕ → List ℕ → ℕ
 fragment_offset at bytes = bit_and (word_at (at + 6) bytes) 8191
 
--- Whether the flag MF is set, so that more fragments follow.
+-- Returns whether the flag MF is set, so that more fragments follow.
 abbrev pub has_more_fragments : ℕ → List ℕ → Bool
 has_more_fragments at bytes = not (bit_and (word_at (at + 6) bytes) 8192 == 0)
 
@@ -35,11 +35,11 @@ address_place Destination = 16
 abbrev pub address : ℕ → DatagramEnd → List ℕ → ℕ
 address at end bytes = double_word_at (at + address_place end) bytes
 
--- The offset at which the transport header begins.
+-- Returns the offset at which the transport header begins.
 abbrev pub transport_start : ℕ → List ℕ → ℕ
 transport_start at bytes = at + header_length at bytes
 
--- The form of an ICMP message with this type (RFC 792): 8 is an echo request and 0 an echo reply.
+-- Returns the form of an ICMP message with this type (RFC 792): 8 is an echo request and 0 an echo reply.
 abbrev pub icmp_form : ℕ → TransportForm
 icmp_form type = if type == 8 then Request else (if type == 0 then Reply else Error)
 
@@ -48,8 +48,8 @@ form_at at bytes =
     if protocol_number at bytes == 17 then Udp
     else (if protocol_number at bytes == 6 then Tcp else icmp_form (byte_at (transport_start at bytes) bytes))
 
--- The offset in the transport header of the number of an end, which is a port or an identifier, if the end has one. The
--- identifier of an echo belongs to the host that sent the request.
+-- Returns the offset in the transport header of an end's number, which is a port or an identifier, if the end has one.
+-- The identifier of an echo belongs to the host that sent the request.
 abbrev pub number_place : TransportForm → DatagramEnd → Option ℕ
 number_place Udp Source = Some 0
 number_place Udp Destination = Some 2
@@ -59,12 +59,12 @@ number_place Request Source = Some 4
 number_place Reply Destination = Some 4
 number_place _ _ = None
 
--- The number at an offset after `start`, or 0 where there is no offset.
+-- Returns the number at an offset after `start`, or 0 if there is no offset.
 abbrev pub number_at : ℕ → Option ℕ → List ℕ → ℕ
 number_at start None bytes = 0
 number_at start (Some place) bytes = word_at (start + place) bytes
 
--- The endpoint at one end of the datagram that begins at `at`.
+-- Returns the endpoint at one end of the datagram that begins at `at`.
 abbrev pub end_at : ℕ → DatagramEnd → List ℕ → Endpoint
 end_at at end bytes = record {
   address = address at end bytes;
@@ -77,7 +77,7 @@ source bytes = end_at 0 Source bytes
 unfoldable pub destination : List ℕ → Endpoint
 destination bytes = end_at 0 Destination bytes
 
--- The control bits FIN, SYN, RST and ACK of a TCP header (RFC 9293 section 3.1).
+-- Returns the control bits FIN, SYN, RST and ACK of a TCP header (RFC 9293 section 3.1).
 abbrev pub flags_of : ℕ → Flags
 flags_of bits = record {
   fin = not (bit_and bits 1 == 0);
@@ -89,7 +89,7 @@ flags_of bits = record {
 unfoldable pub flags : List ℕ → Flags
 flags bytes = flags_of (byte_at (transport_start 0 bytes + 13) bytes)
 
--- The offset at which the datagram that an ICMP error quotes begins.
+-- Returns the offset at which the datagram that an ICMP error quotes begins.
 abbrev pub inner_datagram_start : List ℕ → ℕ
 inner_datagram_start bytes = transport_start 0 bytes + 8
 
@@ -98,7 +98,7 @@ protocol_of Udp = protocols.Udp
 protocol_of Tcp = protocols.Tcp
 protocol_of _ = protocols.Icmp
 
--- The protocol and both ends of the datagram that begins at `at`.
+-- Returns the protocol and both ends of the datagram that begins at `at`.
 abbrev pub inner_of : ℕ → List ℕ → Inner
 inner_of at bytes = record {
   protocol = protocol_of (form_at at bytes);
@@ -109,7 +109,7 @@ inner_of at bytes = record {
 unfoldable pub inner : List ℕ → Inner
 inner bytes = inner_of (inner_datagram_start bytes) bytes
 
--- The kind of a packet whose transport header has this form.
+-- Returns the kind of a packet whose transport header has this form.
 abbrev pub kind_of : TransportForm → List ℕ → Kind
 kind_of Udp bytes = kinds.Udp
 kind_of Tcp bytes = kinds.Tcp (flags bytes)
@@ -119,8 +119,8 @@ kind_of _ bytes = kinds.Echo
 unfoldable pub kind : List ℕ → Kind
 kind bytes = kind_of (form_at 0 bytes) bytes
 
--- The end on the translator's inside for a packet in this direction: its source if outgoing, else its destination. For
--- an ICMP error it is the quoted datagram's destination if outgoing, else its source.
+-- Returns the end of a packet that is inside: the source of an outgoing one, the destination of an incoming one. For an
+-- ICMP error it is the quoted datagram's destination if outgoing, and its source if incoming.
 abbrev pub local_of : Kind → Way → List ℕ → Endpoint
 local_of (kinds.ErrorOf inner) Outgoing bytes = inner.destination
 local_of (kinds.ErrorOf inner) Incoming bytes = inner.source
@@ -134,7 +134,7 @@ opposite Incoming = Outgoing
 unfoldable pub local_end : Way → List ℕ → Endpoint
 local_end way bytes = local_of (kind bytes) way bytes
 
--- The end on the translator's outside, which is the other end.
+-- Returns the end of a packet that is outside, which is the other end.
 unfoldable pub remote_end : Way → List ℕ → Endpoint
 remote_end way bytes = local_of (kind bytes) (opposite way) bytes
 
@@ -143,7 +143,7 @@ abbrev pub CanQuote : Protocol → ℕ → Type 0
 CanQuote protocols.Icmp number = Unit {0}
 CanQuote _ number = 0 < number
 
--- Whether a packet of this kind is an ICMP error.
+-- Returns whether a packet of this kind is an ICMP error.
 abbrev pub is_error : Kind → Bool
 is_error (kinds.ErrorOf inner) = true
 is_error _ = false

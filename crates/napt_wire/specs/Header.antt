@@ -1,4 +1,4 @@
--- What a `Header` says about the bytes of a packet.
+-- The relation of a `Header` to the bytes of a packet.
 use Rattle.std.specs.Prelude.{◌≡◌, ℕ, ◌+◌, ◌≤◌, List, length}
 use Rattle.napt_wire.specs.{Fields.{transport_start, form_at}, declared.header.Header.Header}
 

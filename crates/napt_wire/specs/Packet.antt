@@ -1,21 +1,21 @@
--- What a `Packet` remembers about its bytes.
+-- The fields of a `Packet`, which are found in its bytes once.
 use Rattle.std.specs.Prelude.{◌≡◌, ℕ, List, Ok}
 use Rattle.napt_wire.specs.{Fields.{transport_start, form_at, flags, inner_datagram_start}, Reading.reading, declared.{Side.Side, transport_form.TransportForm.TransportForm}}
 use Rattle.napt_wire.specs.declared.{transport_form.TransportForm.TheVariants.{Udp, Tcp, Request, Reply, Error}, packet.{Body.Body, QuotedHeader.QuotedHeader}}
 use Rattle.napt_wire.specs.declared.packet.Body.TheVariants as bodies
 
--- The bytes are a packet: they read as themselves on arrival from one of the two sides.
+-- The bytes are a packet: on arrival from one of the two sides, reading returns them unchanged.
 abbrev pub IsPacket : List ℕ → Type 0
 IsPacket bytes = (side : Side) × (reading side bytes ≡ Ok bytes)
 
--- The form and the offset of the transport header that an ICMP error quotes.
+-- Returns the form and the offset of the transport header that an ICMP error quotes.
 abbrev pub quoted_of : List ℕ → QuotedHeader
 quoted_of bytes = record {
   form = form_at (inner_datagram_start bytes) bytes;
   start = transport_start (inner_datagram_start bytes) bytes;
 }
 
--- The body of a packet whose transport header has this form.
+-- Returns the body of a packet whose transport header has this form.
 abbrev pub body_of : TransportForm → List ℕ → Body
 body_of Udp bytes = bodies.Udp
 body_of Tcp bytes = bodies.Tcp (flags bytes)
@@ -23,7 +23,7 @@ body_of Request bytes = bodies.Request
 body_of Reply bytes = bodies.Reply
 body_of Error bytes = bodies.Error (quoted_of bytes)
 
--- The form of the transport header of a body.
+-- Returns the form of the transport header of a body.
 abbrev pub form_of : Body → TransportForm
 form_of bodies.Udp = Udp
 form_of (bodies.Tcp flags) = Tcp

@@ -1,4 +1,4 @@
--- The definitions of this crate, for one import.
+-- The definitions of this crate, in one module for import.
 pub use Rattle.napt_wire.specs.{Bytes.{word_at, words, double_word_at, with_word_at, byte_at}, Checksum.is_right, declared.Way.Way}
 pub use Rattle.napt_wire.specs.Fields.{address, protocol_number, transport_start, number_place, number_at, inner_datagram_start, total_length, kind_of, is_error, CanCarry, header_length, version, address_place, end_at, inner_of, protocol_of, local_of, CanQuote, icmp_form}
 pub use Rattle.napt_wire.specs.{Header.HasHeaders, Packet.{IsPacket, BodyIsFound, body_of, quoted_of, form_of}}

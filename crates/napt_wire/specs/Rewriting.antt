@@ -1,12 +1,12 @@
 -- The rewritten packet (RFC 3022 sections 4.1 to 4.3, RFC 5508 section 4). An address and a number are replaced, with
--- each checksum that covers them; all other bytes stay the same.
+-- each checksum that covers them. No other byte changes.
 use Rattle.std.specs.Prelude.{ℕ, ◌+◌, ◌/◌, ◌%◌, List, [], ◌∷◌, ◌++◌, length, map, Option, Some, None, nat_le, if◌then◌else◌}
 use Rattle.napt_wire.specs.{Bytes.{word_at, with_word_at}, Checksum.{canon, canon_udp}}
 use Rattle.napt_wire.specs.{Fields.{address, address_place, transport_start, form_at, number_place, end_at, inner_datagram_start}, declared.{Endpoint.Endpoint, Way.Way}}
 use Rattle.napt_wire.specs.declared.{Way.TheVariants.{Outgoing, Incoming}, transport_form.{TransportForm.{TransportForm, TheVariants.{Udp, Tcp, Error}}, DatagramEnd.DatagramEnd}}
 use Rattle.napt_wire.specs.declared.{transport_form.DatagramEnd.TheVariants.{Source, Destination}, header_rewrite.Change.Change}
 
--- The change that replaces the word at an offset.
+-- Returns the change that replaces the word at an offset.
 abbrev pub word_change : List ℕ → ℕ → ℕ → Change
 word_change bytes place new = record { place = place; old = word_at place bytes; new = new }
 
@@ -16,20 +16,20 @@ old_words changes = map (λ (c : Change). c.old) changes
 abbrev pub new_words : List Change → List ℕ
 new_words changes = map (λ (c : Change). c.new) changes
 
--- The bytes after each change is written.
+-- Returns the bytes after each change is written.
 abbrev pub with_changes : List Change → List ℕ → List ℕ
 with_changes [] bytes = bytes
 with_changes (c ∷ changes) bytes = with_changes changes (with_word_at c.place c.new bytes)
 
--- The two words of an address. `end_words` has the three words of an end that a TCP or UDP checksum covers: its
--- address, by the pseudo-header, and its port.
+-- Returns the two words of an address. `end_words` has the three words of an end that a TCP or UDP checksum covers: its
+-- address, as part of the pseudo-header, and its port.
 abbrev pub address_words : ℕ → List ℕ
 address_words address = address / 65536 ∷ address % 65536 ∷ []
 
 abbrev pub end_words : Endpoint → List ℕ
 end_words end = end.address / 65536 ∷ end.address % 65536 ∷ end.number ∷ []
 
--- The changes that replace an address of the datagram at `at`, and the header checksum, which covers that address.
+-- Returns the changes that replace an address of the datagram at `at`, and the header checksum that covers it.
 abbrev pub address_changes : ℕ → DatagramEnd → ℕ → List ℕ → List Change
 address_changes at end new bytes =
     word_change bytes (at + 10) (canon (word_at (at + 10) bytes) (address_words (address at end bytes))
@@ -37,8 +37,8 @@ address_changes at end new bytes =
     ∷ word_change bytes (at + address_place end) (new / 65536)
     ∷ word_change bytes (at + address_place end + 2) (new % 65536) ∷ []
 
--- The change of the transport checksum, in a transport header of this form that begins at `start`, when an end is
--- replaced. An ICMP checksum covers the identifier alone. A TCP checksum is replaced only if it lies within the bytes,
+-- Returns the change of the transport checksum, in a transport header of this form at offset `start`, if an end is
+-- replaced. An ICMP checksum covers only the identifier. A TCP checksum is replaced only if it lies within the bytes,
 -- as in any whole segment; an error may quote less.
 abbrev pub checksum_changes : TransportForm → ℕ → Endpoint → Endpoint → List ℕ → List Change
 checksum_changes Udp start old new bytes =
@@ -51,13 +51,13 @@ checksum_changes Error start old new bytes = []
 checksum_changes _ start old new bytes =
     word_change bytes (start + 2) (canon (word_at (start + 2) bytes) (old.number ∷ []) (new.number ∷ [])) ∷ []
 
--- The changes that replace the number of an end, if it has one, and the transport checksum that covers it.
+-- Returns the changes that replace the number of an end, if it has one, and the transport checksum that covers it.
 abbrev pub number_changes : Option ℕ → TransportForm → ℕ → Endpoint → Endpoint → List ℕ → List Change
 number_changes None form start old new bytes = []
 number_changes (Some place) form start old new bytes =
     word_change bytes (start + place) new.number ∷ checksum_changes form start old new bytes
 
--- The changes that replace an end of the datagram at `at`.
+-- Returns the changes that replace an end of the datagram at `at`.
 unfoldable pub end_changes : ℕ → DatagramEnd → Endpoint → List ℕ → List Change
 end_changes at end new bytes =
     number_changes (number_place (form_at at bytes) end) (form_at at bytes) (transport_start at bytes)
@@ -70,8 +70,8 @@ with_source source bytes = with_changes (end_changes 0 Source source bytes) byte
 unfoldable pub with_destination : Endpoint → List ℕ → List ℕ
 with_destination destination bytes = with_changes (end_changes 0 Destination destination bytes) bytes
 
--- The end of the quoted datagram that is on the translator's inside. `outer_end` is the end of the ICMP error itself
--- that is translated with it.
+-- Returns the end of the quoted datagram that is inside. `outer_end` is the end of the ICMP error itself that is
+-- translated with it.
 abbrev pub inner_end : Way → DatagramEnd
 inner_end Incoming = Source
 inner_end Outgoing = Destination
@@ -80,8 +80,8 @@ abbrev pub outer_end : Way → DatagramEnd
 outer_end Incoming = Destination
 outer_end Outgoing = Source
 
--- The changes that replace the inside end of the datagram that an ICMP error quotes, the error's own address, and its
--- ICMP checksum, which covers each word of the quoted datagram that is replaced.
+-- Returns the changes that replace the inside end of the datagram that an ICMP error quotes, the error's own address,
+-- and its ICMP checksum, which covers each replaced word of the quoted datagram.
 unfoldable pub reverted_changes : Way → Endpoint → List ℕ → List Change
 reverted_changes way end bytes =
     let quoted : List Change = end_changes (inner_datagram_start bytes) (inner_end way) end bytes in

@@ -22,8 +22,8 @@ pub fn fix_check(check: u16, old: u16, new: u16) -> u16
     (0xffff - folded) as u16
 }
 
-/// Returns the UDP checksum after such a change (RFC 768). A checksum of 0 means that there is none
-/// and stays 0; any other result of 0 is returned as 0xFFFF.
+/// Returns the UDP checksum after such a change (RFC 768). A checksum of 0 means that there is
+/// none, and is returned unchanged; any other result of 0 is returned as 0xFFFF.
 #[tactic(auto, unfolding(crate::specs::Checksum::canon_udp))]
 pub fn fix_check_udp(check: u16, old: u16, new: u16) -> u16
     ensures { result ≡ canon_udp check (old ∷ []) (new ∷ []) }
@@ -58,7 +58,7 @@ pub(crate) fn fix_end(check: u16, old: Endpoint, new: Endpoint) -> u16
     fix_check(fixed, old.number, new.number)
 }
 
-/// Returns the UDP checksum after such a change (RFC 768): 0 stays 0, and no other result is 0.
+/// Returns the UDP checksum after such a change (RFC 768): 0 if and only if `check` is 0.
 pub(crate) fn fix_end_udp(check: u16, old: Endpoint, new: Endpoint) -> u16
     ensures { result ≡ canon_udp check (end_words old) (end_words new) }
 {
@@ -69,8 +69,8 @@ pub(crate) fn fix_end_udp(check: u16, old: Endpoint, new: Endpoint) -> u16
     udp_check_as_sent(fix_check(fixed, old.number, new.number))
 }
 
-/// Returns whether the sum of the 16-bit words is a multiple of 65535 (RFC 1071), a zero byte
-/// padding an odd last one. 32-bit words have the same residue (section 2 (B)).
+/// Returns whether the sum of the 16-bit words is a multiple of 65535 (RFC 1071). An odd last byte
+/// is padded with a zero byte. 32-bit words have the same residue (section 2 (B)).
 pub(crate) fn is_right(bytes: &[u8]) -> bool
     requires { length bytes.now ≤ 65535 }
     ensures { result ≡ is_right (words bytes.now) }

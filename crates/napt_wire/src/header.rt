@@ -1,4 +1,4 @@
-//! Where the headers of a datagram are, and what its ends are.
+//! The headers and the ends of a datagram.
 
 ghost use Rattle.std.specs.Prelude.{◌≡◌, ◌+◌, ◌≤◌, ◌<◌, ◌^◌, IfSome, option_map};
 ghost use Rattle.napt_wire.specs.{Fields.{address_place, end_at, inner_of, number_place}, Header.IsHeader};
@@ -7,7 +7,7 @@ use crate::bytes::{read_u16, read_u32};
 use crate::transport_form::{DatagramEnd, TransportForm};
 use crate::{Endpoint, Inner};
 
-/// The headers of a datagram in a packet's bytes: the packet's own, or those an ICMP error quotes.
+/// The headers of a datagram in a packet's bytes: its own, or those that an ICMP error quotes.
 #[derive(Clone, Copy)]
 pub(crate) struct Header {
     /// The offset of the IPv4 header.
@@ -19,7 +19,7 @@ pub(crate) struct Header {
 }
 
 impl Header {
-    /// Returns the offset of the address of an end.
+    /// Returns the offset of the address of an end in the packet, in bytes.
     pub(crate) fn address_place(self, end: DatagramEnd) -> usize
         requires { self.at + 20 < 2 ^ 64 }
         ensures { result ≡ self.at + address_place end }
@@ -27,7 +27,7 @@ impl Header {
         self.at + end.address_place()
     }
 
-    /// Returns the offset of the number of an end, if it has one.
+    /// Returns the offset of the number of an end in the packet, in bytes, if the end has one.
     pub(crate) fn number_place(self, end: DatagramEnd) -> Option<usize>
         requires { self.start + 8 < 2 ^ 64 }
         ensures place { result ≡ option_map (λ offset. self.start + offset)

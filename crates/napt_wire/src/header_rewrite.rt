@@ -32,7 +32,7 @@ impl Change {
         }
     }
 
-    /// Returns `check` after this change, where it is a checksum that covers the word.
+    /// Returns `check`, which must be a checksum that covers the word, after this change.
     fn fix(self, check: u16) -> u16
         ensures { result ≡ canon check (self.old ∷ []) (self.new ∷ []) }
     {
@@ -125,7 +125,7 @@ impl Header {
         }
     }
 
-    /// Returns the change of the transport checksum, if it is present and covers what is replaced.
+    /// Returns the change of the transport checksum, if it is present and covers a replaced word.
     fn rewrite_check(self, bytes: &[u8], old: Endpoint, new: Endpoint) -> Option<Change>
         requires { IsHeader self.at self bytes.now }
         ensures { option_to_list result
@@ -179,7 +179,7 @@ impl Rewrite {
     }
 }
 
-/// Returns `check` after the change, if any, where it is a checksum that covers the word.
+/// Returns `check`, which must be a checksum that covers the word, after the change, if any.
 fn fix_option(check: u16, change: Option<Change>) -> u16
     requires { check < 65535 }
     ensures { result ≡ canon check (old_words (option_to_list change))

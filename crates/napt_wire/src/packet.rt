@@ -91,7 +91,7 @@ impl Packet {
         bytes
     }
 
-    /// Returns the source. Its number is 0 in an echo reply and an ICMP error.
+    /// Returns the source. Its number is 0 for an echo reply and an ICMP error.
     #[tactic(auto, unfolding(crate::specs::Fields::source))]
     pub fn source(&self) -> Endpoint
         ensures value { result ≡ source self.now }
@@ -101,7 +101,7 @@ impl Packet {
         self.end(DatagramEnd::Source)
     }
 
-    /// Returns the destination. Its number is 0 in an echo request and an ICMP error.
+    /// Returns the destination. Its number is 0 for an echo request and an ICMP error.
     #[tactic(auto, unfolding(crate::specs::Fields::destination))]
     pub fn destination(&self) -> Endpoint
         ensures { result ≡ destination self.now }
@@ -109,7 +109,7 @@ impl Packet {
         self.end(DatagramEnd::Destination)
     }
 
-    /// Returns the kind of the packet. An ICMP error has the datagram that it quotes.
+    /// Returns the kind of the packet, which for an ICMP error has the quoted datagram.
     #[tactic(auto, unfolding(crate::specs::Fields::kind))]
     #[inline(always)]
     pub fn kind(&self) -> Kind
@@ -123,7 +123,7 @@ impl Packet {
         }
     }
 
-    /// Returns the end on the inside: the source if outgoing, the destination if incoming. For an
+    /// Returns the inside end: the source if outgoing, and the destination if incoming. For an
     /// ICMP error it is the quoted datagram's destination if outgoing, and its source if incoming.
     #[tactic(auto, unfolding(crate::specs::Fields::local_end))]
     pub fn local_end(&self, way: Way) -> Endpoint
@@ -137,7 +137,7 @@ impl Packet {
         }
     }
 
-    /// Returns the end on the outside, which is the other end.
+    /// Returns the outside end, which is the end that `local_end` does not return.
     #[tactic(auto, unfolding(crate::specs::Fields::remote_end, crate::specs::Fields::local_end))]
     pub fn remote_end(&self, way: Way) -> Endpoint
         ensures { result ≡ remote_end way self.now }
@@ -158,7 +158,7 @@ impl Packet {
         ensures value { self.new ≡ with_source source self.old }
         ensures reads { (side : Side) → reading side self.old ≡ Ok self.old → reading side self.new
             ≡ Ok self.new }
-        // A transport checksum present with all that it covers is right exactly if it was before.
+        // A transport checksum with all words that it covers is right if and only if it was before.
         ensures right { transport_right 0 self.new ≡ transport_right 0 self.old }
     {
         self.set_end(DatagramEnd::Source, source);
@@ -174,7 +174,7 @@ impl Packet {
         ensures value { self.new ≡ with_destination destination self.old }
         ensures reads { (side : Side) → reading side self.old ≡ Ok self.old → reading side self.new
             ≡ Ok self.new }
-        // A transport checksum present with all that it covers is right exactly if it was before.
+        // A transport checksum with all words that it covers is right if and only if it was before.
         ensures right { transport_right 0 self.new ≡ transport_right 0 self.old }
     {
         self.set_end(DatagramEnd::Destination, destination);
@@ -191,7 +191,7 @@ impl Packet {
         ensures reads { (side : Side) → reading side self.old ≡ Ok self.old → reading side self.new
             ≡ Ok self.new }
         // The same holds for the quoted datagram. The checksums of both IPv4 headers and of the
-        // ICMP message stay right, because the packet reads.
+        // ICMP message are still right, because the bytes read as a packet.
         ensures right { transport_right (inner_datagram_start self.old) self.new
             ≡ transport_right (inner_datagram_start self.old) self.old }
     {

@@ -16,7 +16,7 @@ use napt_rules::{Flow, OutboundPacket};
 use napt_wire::{Endpoint, Flags, Protocol, Way};
 use std::alloc::AllocError;
 
-/// Returns until when (ns) one of these flows is live, at most `u64::MAX`; one is at `now`.
+/// Returns the last time (ns) at which a flow lives, at most 2^64 - 1. One must live at `now`.
 pub(super) fn last_moment_of(flows: &[Flow], timers: IdleTimers, now: u64) -> u64
     requires live { list_any (life.is_live_flow timers now) flows.now ≡ true }
     ensures later { now ≤ result }
@@ -31,7 +31,7 @@ pub(super) fn last_moment_of(flows: &[Flow], timers: IdleTimers, now: u64) -> u6
     last
 }
 
-/// Returns when the last of these flows ends, in ns, or 0 if there is none.
+/// Returns the end of the last of these flows, in ns, or 0 if there is none.
 pub(super) fn last_end(flows: &[Flow], timers: IdleTimers) -> u128
     ensures { result ≡ last_end timers flows.now }
 {
@@ -60,7 +60,7 @@ pub(super) fn standing_place(
         && is_flow_of(flow, sent.remote))
 }
 
-/// Returns how many flows stand when the packet goes out.
+/// Returns the number of flows that stand when the packet goes out.
 pub(super) fn count_standing(flows: &[Flow], timers: IdleTimers, sent: OutboundPacket) -> usize
     ensures { result ≡ length (packets.standing_at timers sent flows.now) }
 {
@@ -79,7 +79,7 @@ pub(super) fn retain_live(flows: &mut Vec<Flow>, timers: IdleTimers, now: u64)
     flows.retain(|flow| is_live_flow(flow, timers, now));
 }
 
-/// Removes the flows that have expired at `now` (ns) if they are of TCP.
+/// Removes the flows that have expired at `now` (ns), if the protocol is TCP.
 pub(super) fn retain_standing(
     flows: &mut Vec<Flow>,
     timers: IdleTimers,
@@ -95,7 +95,7 @@ pub(super) fn retain_standing(
     }
 }
 
-/// Uses the flow of the packet's remote; if none is live, removes expired ones and begins one.
+/// Uses the flow of the packet's remote. If none is live, removes expired ones and begins one.
 pub(super) fn use_flow(
     flows: &mut Vec<Flow>,
     timers: IdleTimers,
@@ -123,7 +123,7 @@ pub(super) fn use_flow(
     Ok(())
 }
 
-/// Marks the remote's flow, if there is one, as used now by an incoming segment.
+/// Records that an incoming segment used the remote's flow, if there is one, at `now` (ns).
 pub(super) fn refresh_flow(flows: &mut [Flow], now: u64, remote: Endpoint, flags: Flags)
     requires distinct { AreDistinct flows.old }
     ensures distinct { AreDistinct flows.new }

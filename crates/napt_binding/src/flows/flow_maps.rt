@@ -1,4 +1,4 @@
-//! Many flows, found through maps; all are visited only to remove expired ones and empty slots.
+//! Many flows, found by maps. All are visited only to remove expired ones and empty slots.
 
 ghost use Rattle.std.specs.Prelude.{◌≡◌, ◌==◌, ◌≤◌, ◌<◌, ◌++◌, ◌^◌, ℕ, Bool, true, false, None, Some, [], ◌∷◌, length, filter, slice_set, OnOk, OnErr, IfOk, IfSome};
 ghost use Rattle.std.specs.List.{list_any};
@@ -19,7 +19,7 @@ use napt_wire::{Endpoint, Flags, Protocol, Way};
 use std::alloc::{AllocError, Global};
 use std::collections::HashMap;
 
-/// With at most this many slots, empty ones stay.
+/// The largest number of slots with which empty ones are not removed.
 const SPARSE: usize = 64;
 
 /// The flows of a binding that has many.
@@ -156,7 +156,7 @@ impl FlowMaps {
         while self.remove_expired(timers, now) {}
     }
 
-    /// Removes the flows that have expired at `now` (ns) if they are of TCP.
+    /// Removes the flows that have expired at `now` (ns), if the protocol is TCP.
     fn retain_standing(&mut self, timers: IdleTimers, now: u64, protocol: Protocol)
         requires many { FlowMapsInvariant self.old }
         ensures many { FlowMapsInvariant self.new }
@@ -185,7 +185,7 @@ impl FlowMaps {
         self.slots.has_live(timers, now)
     }
 
-    /// Returns until when (ns) one of these TCP flows is live, at most `u64::MAX`; one is at `now`.
+    /// Returns the last time (ns) at which a TCP flow lives, at most 2^64 - 1. One must at `now`.
     pub(super) fn last_moment(&self, timers: IdleTimers, now: u64) -> u64
         requires live { list_any (life.is_live_flow timers now)
             (standing_flows self.now.slots.slots)
@@ -199,7 +199,7 @@ impl FlowMaps {
         self.slots.last_moment(timers, now)
     }
 
-    /// Returns when the last of these TCP flows ends, in ns, or 0 if there is none.
+    /// Returns the end of the last of these TCP flows, in ns, or 0 if there is none.
     pub(super) fn last_end(&self, timers: IdleTimers) -> u128
         ensures { result ≡ last_end timers (standing_flows self.now.slots.slots) }
     {
@@ -215,7 +215,7 @@ impl FlowMaps {
         self.addresses.has(address)
     }
 
-    /// Returns whether a flow is of the remote.
+    /// Returns whether there is a flow of the remote.
     pub(super) fn has_remote(&self, remote: Endpoint) -> bool
         requires { FlowMapsInvariant self.now }
         ensures { result ≡ list_any (traffic.is_flow_of remote)
@@ -288,7 +288,7 @@ impl FlowMaps {
         SPARSE < slots && self.places.len() < slots / 2
     }
 
-    /// Makes room for one more flow, and removes the empty slots if `is_sparse` holds.
+    /// Makes room for one more flow, and removes the empty slots if `is_sparse` returns true.
     fn make_room(&mut self, alloc: Global) -> Result<(), AllocError>
         requires { FlowMapsInvariant self.old }
         ensures many { FlowMapsInvariant self.new }
@@ -371,7 +371,7 @@ impl FlowMaps {
         Ok(())
     }
 
-    /// Marks the remote's flow, if there is one, as used now by an incoming segment.
+    /// Records that an incoming segment used the remote's flow, if there is one, at `now` (ns).
     pub(super) fn refresh_flow(&mut self, now: u64, remote: Endpoint, flags: Flags)
         requires many { FlowMapsInvariant self.old }
         requires rising { NoneUsedAfter (standing_flows self.old.slots.slots) now }

@@ -24,11 +24,11 @@ const OTHERS: u32 = 1;
 /// The number of nodes that belong to no slot: the ends of the rows.
 const ENDS: usize = 3;
 
-/// A slot for each flow, oldest first; a removed flow leaves its slot empty. Contracts see the slots and how
-/// many more fit without growth (`room`).
+/// A slot for each flow, oldest first. The slot of a removed flow is empty. Contracts see the slots
+/// and the number of further ones that fit without growth (`room`).
 ///
-/// The flows of a row are linked in the order of last use. No flow is used before the latest, so a flow that
-/// is used moves to the end of its row: a call looks only at it, its neighbours and the ends of rows.
+/// The flows of a row are linked in the order of last use. As times never decrease, a used flow
+/// moves to the end of its row: a call reads only it, its neighbours and the ends of rows.
 #[derive(Drop)]
 pub(crate) struct FlowSlots {
     flows: Vec<Option<Flow>>,
@@ -59,7 +59,7 @@ fn row_of(flow: Flow) -> u32
     }
 }
 
-/// Returns whether there is a time, and it is less than `seconds` seconds before `now` (ns).
+/// Returns whether there is a time `latest` (ns) less than `seconds` seconds before `now` (ns).
 fn is_some_recent(latest: Option<u64>, now: u64, seconds: u64) -> bool
     requires { seconds ≤ 1_000_000_000 }
     ensures { result ≡ is_recent_time now seconds latest }
@@ -70,7 +70,7 @@ fn is_some_recent(latest: Option<u64>, now: u64, seconds: u64) -> bool
     }
 }
 
-/// Returns until when (ns) the time, if there is one, is less than `seconds` seconds ago: at least
+/// Returns the last time (ns) less than `seconds` seconds after `latest`, if there is one: at least
 /// `now`, and at most `u64::MAX`.
 fn last_moment_of(latest: Option<u64>, now: u64, seconds: u64) -> u64
     requires some { 0 < seconds }
@@ -220,7 +220,7 @@ impl FlowSlots {
         self.flow_at(self.links[row as usize].after)
     }
 
-    /// Returns when a flow of the row was last used (ns), or `None` if the row has no flow.
+    /// Returns the latest use (ns) of a flow of the row, or `None` if the row has no flow.
     fn latest(&self, row: u32) -> Option<u64>
         requires { row < 2 }
         ensures { IsLatest row self.now.slots result }
@@ -245,7 +245,7 @@ impl FlowSlots {
         }
     }
 
-    /// Returns the place of an expired TCP flow, if there is one. Looks at two flows at most.
+    /// Returns the place of an expired TCP flow, if there is one. Reads at most two flows.
     pub(crate) fn expired_place(&self, timers: IdleTimers, now: u64) -> Option<usize>
         ensures some { IfSome result (λ place. (flow : Flow) × IsInSlot self.now.slots place flow
             × (life.is_live_flow timers now flow ≡ false)) }
@@ -259,7 +259,7 @@ impl FlowSlots {
         }
     }
 
-    /// Returns whether one of the TCP flows is live. Looks at two flows at most.
+    /// Returns whether one of the TCP flows is live at `now` (ns). Reads at most two flows.
     pub(crate) fn has_live(&self, timers: IdleTimers, now: u64) -> bool
         ensures { result ≡ list_any (life.is_live_flow timers now) (standing_flows self.now.slots) }
     {
@@ -267,8 +267,8 @@ impl FlowSlots {
             || is_some_recent(self.latest(OTHERS), now, timers.seconds.transitory)
     }
 
-    /// Returns until when (ns) one of these TCP flows is live, at most `u64::MAX`; one is at `now`.
-    /// Looks at two flows at most.
+    /// Returns the last time (ns) at which one of the TCP flows is live, at most `u64::MAX`. One
+    /// must be live at `now`. Reads at most two flows.
     pub(crate) fn last_moment(&self, timers: IdleTimers, now: u64) -> u64
         requires live { list_any (life.is_live_flow timers now) (standing_flows self.now.slots)
             ≡ true }
@@ -282,7 +282,7 @@ impl FlowSlots {
         established.max(last_moment_of(self.latest(OTHERS), now, timers.seconds.transitory))
     }
 
-    /// Returns when the last TCP flow ends, in ns, or 0 without one. Looks at two flows at most.
+    /// Returns the end of the last TCP flow, in ns, or 0 without one. Reads at most two flows.
     pub(crate) fn last_end(&self, timers: IdleTimers) -> u128
         ensures { result ≡ last_end timers (standing_flows self.now.slots) }
     {

@@ -1,4 +1,4 @@
-//! A pool of packet buffers, which later inputs use again.
+//! A pool of packet buffers, which later inputs reuse.
 
 ghost use Rattle.std.specs.Prelude.{◌≡◌, ◌⊎◌, ◌<◌, ◌≤◌, ◌∷◌, ◌++◌, [], length, vec_capacity, MatchOption};
 

@@ -15,7 +15,7 @@ use napt_wire::Way;
 pub(crate) enum PendingLeg {
     Ready(Leg),
     /// A placeholder for the second leg of the input with this number (RFC 4787, REQ-9). The answer
-    /// to the first leg decides whether there is a second one.
+    /// to the first leg determines whether there is a second one.
     Place(u64),
 }
 
@@ -28,7 +28,7 @@ pub(crate) enum QueueHead {
     FirstPlace(u64),
 }
 
-/// A leg that was offered to a worker and that is not answered yet.
+/// A leg that was offered to a worker and has not been answered yet.
 #[derive(Clone, Copy)]
 pub(crate) struct AwaitedLeg {
     pub(crate) way: Way,
@@ -60,7 +60,7 @@ impl<P: LegTrace> Dispatcher<P> {
         }
     }
 
-    /// Records an answer of worker `w`. Fails if no such answer is awaited: no worker gives it.
+    /// Records an answer of worker `w`. Fails if no such answer is awaited; no worker gives one.
     #[inline(always)]
     pub(super) fn note(&mut self, w: u32, told: TracedAnswer<P>) -> Result<(), ImpossibleAnswer>
         requires { w < length self.old.queues }
@@ -92,7 +92,7 @@ impl<P: LegTrace> Dispatcher<P> {
         self.queues.none_held() && self.queues.none_owed()
     }
 
-    /// Fails unless every outcome has been written, as it is once nothing is held or owed.
+    /// Fails unless every outcome has been written. It never fails once nothing is held or owed.
     pub(super) fn check_left(&self) -> Result<(), ImpossibleAnswer>
         ensures none { IsOk result ↔ (self.now.progress.under_way ≡ []) }
         ensures few { OnOk result (length self.now.progress.left < 2 ^ 64) }

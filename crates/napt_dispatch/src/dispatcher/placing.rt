@@ -126,7 +126,7 @@ fn second_place(config: &Config, side: Side, packet: &Packet) -> Option<u32>
         pool_place config.now (destination packet.now).address ≡ None }
     ensures reads { IsPacket packet.now }
 {
-    // called for its clause alone: a `Packet` is always valid
+    // Only the contract of this call is used: a `Packet` is always valid.
     let _bytes = packet.bytes();
     match side {
         Side::Outside => None,

@@ -16,7 +16,7 @@ use std::mem;
 pub(crate) enum InputProgress<P> {
     /// The answer to the first leg, which has this direction, is awaited.
     Awaited(Way),
-    /// The answer to the second leg is awaited. Holds the record of the first leg.
+    /// The answer to the second leg is awaited. Contains the record of the first leg.
     Returning(P),
     /// The leg that was answered last, its answer, and the records of the first and second leg. If
     /// the answer is onward, the packet enters again by a second leg.
@@ -36,7 +36,7 @@ impl<P: LegTrace> InputProgress<P> {
     }
 
     /// Returns the records of the first and second leg, where `passage` is that of a leg with
-    /// direction `way`. `None` if no answer to such a leg is awaited.
+    /// direction `way`, or `None` if no answer to such a leg is awaited.
     #[inline(always)]
     pub(crate) fn passages(&self, way: Way, passage: P) -> Option<(P, P)>
         ensures { result ≡ passages_after (P.tells NoPassage) self.now way passage }
@@ -61,7 +61,7 @@ impl<P: LegTrace> InputProgress<P> {
         }
     }
 
-    /// Returns whether it is still undecided if there is a second leg.
+    /// Returns whether it is still unknown if there is a second leg.
     pub(crate) fn is_unknown(&self) -> bool
         ensures { result ≡ is_unknown (Some self.now) }
     {
@@ -101,7 +101,7 @@ pub(crate) struct OpenInput<P> {
     /// The arrival time, in ns.
     pub(crate) time: u64,
     pub(crate) progress: InputProgress<P>,
-    /// Whether a placeholder is held for the second leg. Until it is removed, the outcome stays.
+    /// `true` while a placeholder for the second leg is queued. The outcome is written only later.
     pub(crate) has_place: bool,
 }
 

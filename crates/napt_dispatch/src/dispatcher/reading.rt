@@ -17,8 +17,8 @@ use napt_pool::{Gate, Pool};
 use napt_sequential::{Input, InputSource, LegTrace, RunFault, way_from};
 use std::sync::Wait;
 
-/// How many inputs are read from one check of a worker's answers to the next. The workers take
-/// turns. A check may fetch a cache line that another processor wrote, so fewer checks cost less.
+/// The number of inputs that are read from one check of answers to the next, of the workers in
+/// turn. A check may fetch a cache line that another processor wrote, so that fewer cost less.
 const LOOK_EACH: u64 = 64;
 
 impl<P: LegTrace> Dispatcher<P> {
@@ -35,7 +35,7 @@ impl<P: LegTrace> Dispatcher<P> {
         Some(w)
     }
 
-    /// Takes answers from a worker and offers it legs, if there is one.
+    /// Takes answers from worker `place`, if it is one, and offers it legs.
     #[inline(always)]
     fn take_and_offer_if_some<R: Wait, G: Gate>(
         &mut self,
@@ -53,7 +53,7 @@ impl<P: LegTrace> Dispatcher<P> {
         }
     }
 
-    /// Reads an input at `now`, in ns. Serves its worker if a message is due, and another in turn.
+    /// Reads an input at `now`, in ns. Then serves its worker if a message is due, and one in turn.
     #[inline(always)]
     fn serve<R: Wait, G: Gate>(
         &mut self,
@@ -122,7 +122,7 @@ impl<P: LegTrace> Dispatcher<P> {
         arrivals.next(spare)
     }
 
-    /// Reads the inputs until their end or a fault and takes answers in between. Moves their bytes.
+    /// Reads the inputs until their end or a fault, taking answers in between. Moves their bytes.
     fn read_all<R: Wait, G: Gate, A: InputSource, D: OutcomeSink<Trace = P>>(
         &mut self,
         rt: &R,
@@ -178,7 +178,7 @@ impl<P: LegTrace> Dispatcher<P> {
     }
 }
 
-/// How reading the inputs ended.
+/// The end of reading the inputs.
 #[derive(Drop)]
 pub(crate) struct EndOfInputs<F> {
     /// The greatest clock of the starting state and of the inputs, in ns.

@@ -23,7 +23,7 @@ use std::mem;
 const WINDOW: usize = 131_072;
 
 /// The progress of at most 131,072 open inputs: those that were read and whose outcomes have not
-/// been written. Of the others, only the number is stored; contracts also see their results.
+/// been written. Only the number of the others is stored. Contracts also see their results.
 #[derive(Drop)]
 pub(crate) struct RunProgress<P> {
     /// The number of outcomes handed to the sink, and so the number of the first open input.
@@ -33,9 +33,9 @@ pub(crate) struct RunProgress<P> {
     past: Log<u64, InputResult<P>>,
     /// The buffers of packets that have been written, for later inputs.
     spares: BufferPool,
-    /// Whether there is new progress of an input for whose second leg a placeholder is held.
+    /// `true` if an input for whose second leg a placeholder is held made progress.
     is_freed: bool,
-    /// Whether an outcome may have become ready to be written.
+    /// `true` if an outcome may have become ready to be written.
     may_have_outcome: bool,
 }
 
@@ -147,7 +147,7 @@ impl<P: LegTrace> RunProgress<P> {
         }
     }
 
-    /// Sets the progress of open input `number`. Fails if there is none: no worker answers for it.
+    /// Sets the progress of open input `number`. Fails if there is none; no worker answers for it.
     #[inline(always)]
     pub(crate) fn write(
         &mut self,
@@ -170,7 +170,7 @@ impl<P: LegTrace> RunProgress<P> {
     }
 
     /// Returns the records of both legs of open input `number`, where `passage` is that of a leg
-    /// with direction `way`. `None` if no answer to such a leg is awaited: no worker gives one.
+    /// with direction `way`, or `None` if no answer to such a leg is awaited.
     #[inline(always)]
     pub(crate) fn passages(&self, number: u64, way: Way, passage: P) -> Option<(P, P)>
         ensures { IfSome result (AnswersTo (P.tells NoPassage) self.now number way passage) }
@@ -206,7 +206,7 @@ impl<P: LegTrace> RunProgress<P> {
         }
     }
 
-    /// Returns whether it is still undecided if input `number` has a second leg.
+    /// Returns whether it is still unknown if input `number` has a second leg.
     pub(crate) fn is_unknown(&self, number: u64) -> bool
         ensures { result ≡ is_unknown (slice_get (progress_in self.now) number) }
     {
@@ -216,7 +216,7 @@ impl<P: LegTrace> RunProgress<P> {
         }
     }
 
-    /// Removes and returns the second leg of input `number`, if any. Clears the placeholder's mark.
+    /// Removes and returns the second leg of input `number`, if any. Clears its placeholder's mark.
     pub(crate) fn second_leg(&mut self, number: u64) -> Option<Leg>
         requires { is_unknown (slice_get (progress_in self.old) number) ≡ false }
         ensures { IsSecond number self.old self.new result }
@@ -238,7 +238,7 @@ impl<P: LegTrace> RunProgress<P> {
         }
     }
 
-    /// Removes the first open input, which may leave. Returns its arrival time, in ns, and result.
+    /// Removes the first open input, whose result must be ready. Returns its time (ns) and result.
     #[inline(always)]
     fn pop(&mut self) -> (u64, InputResult<P>)
         requires { FirstIsComplete self.old.under_way }
@@ -253,7 +253,7 @@ impl<P: LegTrace> RunProgress<P> {
         (time, departed)
     }
 
-    /// Writes the results of the first open inputs, up to the first that may not leave yet.
+    /// Writes the results of the first open inputs, up to the first whose result is not ready.
     pub(crate) fn hand_over<D: OutcomeSink<Trace = P>>(
         &mut self,
         departures: &mut D,

@@ -169,7 +169,7 @@ impl<P: LegTrace> Dispatcher<P> {
         self.offer_all(pool)
     }
 
-    /// Writes the outcomes of the first inputs, up to one not ready. Only the contract uses `pool`.
+    /// Writes the outcomes that are ready, in input order. Only the contract uses `pool`.
     fn hand_over<G: Gate, D: OutcomeSink<Trace = P>>(
         &mut self,
         pool: &Pool<Worker<P>, G>,

@@ -1,4 +1,4 @@
-//! A pool of the vectors of answered batches, which later batches use again.
+//! A pool of the vectors of answered batches, which later batches reuse.
 
 ghost use Rattle.std.specs.Prelude.{◌≡◌, []};
 

@@ -14,7 +14,7 @@ use std::collections::VecDeque;
 use std::marker::Model;
 use std::mem;
 
-/// The largest number of legs that enter the next message directly. Later ones wait in a queue.
+/// The largest number of legs that enter the next message directly. Further ones enter a queue.
 const MOST_READY: usize = 64;
 
 /// The queues of one worker. Contracts see a `WorkerQueueModel`.
@@ -63,8 +63,8 @@ impl WorkerQueue {
         self.offered
     }
 
-    /// Appends a leg or a placeholder. A leg enters the next message directly if nothing is held
-    /// after that message and it has fewer than 64 legs.
+    /// Appends a leg or a placeholder. A leg enters the next message directly if the queue after
+    /// that message is empty and the message has fewer than 64 legs.
     #[inline(always)]
     pub(crate) fn push(&mut self, held: PendingLeg) -> Result<(), AllocError>
         ensures ok { OnOk result (HoldPost (held ∷ []) self.old self.new) }
@@ -223,8 +223,8 @@ fn move_legs(
     Ok(())
 }
 
-/// Removes and returns the first `count` legs. If they are all of them, their vector is returned
-/// and `none` replaces it.
+/// Removes and returns the first `count` legs. If these are all legs, returns their vector and
+/// replaces it by `none`.
 fn take_first(legs: &mut Vec<Leg>, count: usize, none: Vec<Leg>) -> Result<Vec<Leg>, AllocError>
     requires count { count ≤ vec_len legs.old }
     requires none { none.items ≡ [] }

@@ -14,8 +14,8 @@ use std::marker::Model;
 /// The largest total of held legs and placeholders. No input is read unless two more would fit.
 const MOST_HELD: u64 = 65_536;
 
-/// The queues of 1 to 4,294,967,295 workers, which hold at most 65,536 legs and placeholders in
-/// total. Contracts see the list of queues, in the order of the workers.
+/// The queues of 1 to 4,294,967,295 workers, which contain at most 65,536 legs and placeholders
+/// in total. Contracts see the list of queues, in the order of the workers.
 #[derive(Drop)]
 pub(crate) struct WorkerQueues {
     queues: Vec<WorkerQueue>,
@@ -85,8 +85,8 @@ impl WorkerQueues {
         self.queues[w as usize].front()
     }
 
-    /// Moves the first held leg of worker `w` to the end of its next message. A placeholder is
-    /// removed, and `second`, if there is one, enters the message in its stead.
+    /// Moves the first held leg of worker `w` to the end of its next message. Replaces a
+    /// placeholder by `second`, if there is one, or removes it.
     pub(crate) fn ready_first(&mut self, w: u32, second: Option<Leg>) -> Result<(), AllocError>
         requires { w < length self.old }
         ensures many { length self.new ≡ length self.old }
@@ -192,7 +192,7 @@ impl WorkerQueues {
     }
 }
 
-/// Returns whether no queue has a leg that is not answered yet.
+/// Returns whether every leg of every queue has been answered.
 fn none_owed(queues: &[WorkerQueue]) -> bool
     ensures { (result ≡ true) ↔ ((w : ℕ) → (queue_of queues.now w).owed ≡ []) }
 {

@@ -1,5 +1,5 @@
-//! The stored bindings of one external address: those that are live, and those that have ended and
-//! are not yet removed.
+//! The stored bindings of one external address: the live ones, and those that have ended but have
+//! not been removed yet.
 
 ghost use Rattle.std.specs.Prelude.{◌≡◌, ◌<◌, ◌^◌, not, Some, None, Ok, Err, OnOk, OnErr, IfOk, IfSome, All, cond, find, slice_get};
 ghost use Rattle.std.specs.Option.{option_copied, option_map, is_some};
@@ -21,20 +21,20 @@ use std::collections::HashMap;
 use std::marker::Model;
 
 /// The stored bindings, found by external number or by inside endpoint. Contracts see them by the
-/// key of their number, with the address, the rules for assigning numbers, and how many more fit.
+/// key of their number, the address, the rules for assigning numbers, and the room for more.
 #[derive(Drop)]
 pub(crate) struct BindingIndex {
     /// The external address, in host order.
     address: u32,
     granting: AssignmentRules,
     by_number: IndexMap<ExternalNumberKey, TableBinding>,
-    /// Hints of where a number's binding is in `by_number`.
+    /// Hints at the index of a number's binding in `by_number`.
     places: BindingPlaces,
     /// The external number of each inside endpoint that has a binding.
     by_inside: HashMap<InsideKey, u16>,
     /// The external numbers of the stored bindings.
     numbers: NumbersInUse,
-    /// How many bindings each inside host has, counted only under a quota.
+    /// The number of bindings of each inside host, counted only under a quota.
     hosts: HostCounts,
 }
 
@@ -97,14 +97,14 @@ impl BindingIndex {
         self.by_number.len() as u64
     }
 
-    /// Returns the binding with this protocol and number.
+    /// Returns the binding with this protocol and number, if there is one.
     pub(crate) fn get(&self, key: ExternalNumberKey) -> Option<&TableBinding>
         ensures { option_copied result ≡ held_binding self.now key }
     {
         self.by_number.get(&key)
     }
 
-    /// Returns the binding with this key and its index: by the hint, else by a look-up.
+    /// Returns the binding with this key and its index, found by the hint or else by a look-up.
     #[inline(always)]
     pub(crate) fn find(&self, key: ExternalNumberKey) -> Option<(usize, &TableBinding)>
         ensures value { option_map (λ found. found.1.now) result ≡ held_binding self.now key }
@@ -121,7 +121,7 @@ impl BindingIndex {
         }
     }
 
-    /// Returns the external number of the inside endpoint's binding.
+    /// Returns the external number of the inside endpoint's binding, if there is one.
     pub(crate) fn number_of(&self, protocol: Protocol, inside: Endpoint) -> Option<u16>
         ensures { IsNumberOf self.now protocol inside result }
     {
@@ -132,7 +132,7 @@ impl BindingIndex {
     }
 
     /// Returns the first candidate for an inside endpoint, of a host with this block or without
-    /// one, that no stored binding has, or `None` if each is taken.
+    /// one, that no stored binding has, or `None` if each is in use.
     pub(crate) fn choose(
         &self,
         block: Option<PortBlock>,
@@ -154,7 +154,7 @@ impl BindingIndex {
         self.numbers.least_free(protocol)
     }
 
-    /// Returns whether the host has all the bindings that the quota allows.
+    /// Returns whether the host has as many bindings as the quota allows.
     pub(crate) fn is_at_quota(&self, host: u32) -> bool
         ensures { result ≡ reaches_quota self.now.granting.quota (count_all self.now host) }
     {
@@ -179,7 +179,7 @@ impl BindingIndex {
         Ok(())
     }
 
-    /// Stores a binding, for which there is room and whose endpoints are free.
+    /// Stores a binding. There must be room for it, and its endpoints must be free.
     pub(crate) fn insert(&mut self, binding: TableBinding)
         requires room { 0 < self.old.room }
         requires at { binding.row.external.address ≡ self.old.address }
@@ -265,7 +265,7 @@ impl BindingIndex {
         Ok(Some(number))
     }
 
-    /// Replaces the last use and the flows of the binding with this key. Its endpoints stay.
+    /// Replaces the last use (ns) and the flows of the binding with this key, not its endpoints.
     pub(crate) fn renew(&mut self, key: ExternalNumberKey, last: u64, flows: Flows)
         ensures one { ChangesOne key self.old self.new }
         ensures left { (b : Binding) → held_binding self.old key ≡ Some b →
@@ -281,7 +281,7 @@ impl BindingIndex {
         binding.flows = flows;
     }
 
-    /// Receives a packet: returns the inside endpoint of the live binding with its number if the
+    /// Receives a packet. Returns the inside endpoint of the live binding with its number if the
     /// filter admits the remote, else `NoBinding` or `Filtered`. Allocates no memory.
     pub(crate) fn receive(
         &mut self,

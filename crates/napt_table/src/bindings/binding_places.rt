@@ -1,4 +1,4 @@
-//! Hints of where the binding of each external number is stored.
+//! Hints at the index where the binding of each external number is stored.
 
 use crate::bindings::keys::ExternalNumberKey;
 use crate::rows::protocol_rank;
@@ -7,11 +7,11 @@ use napt_binding::TableBinding;
 use napt_wire::Protocol;
 use std::alloc::{AllocError, Global};
 
-/// How many external numbers a protocol has.
+/// The number of external numbers of a protocol.
 const NUMBERS: usize = 65_536;
 
-/// The index where the binding of each external number was last stored, by protocol. It is a hint which
-/// the caller checks, so contracts do not mention it. An index from 65,536 on is not recorded.
+/// The index where the binding of each external number was last stored, by protocol. Callers check
+/// this hint, and contracts do not mention it. An index of 65,536 or more is not recorded.
 #[derive(Drop)]
 pub(crate) struct BindingPlaces {
     noted: [Vec<u16>; 3],
@@ -39,7 +39,7 @@ impl BindingPlaces {
         }
     }
 
-    /// Records the index of the binding that is stored there, if there is one.
+    /// Records the index `place` for the binding that is stored there, if there is one.
     pub(crate) fn note(&mut self, held: &IndexMap<ExternalNumberKey, TableBinding>, place: usize) {
         let (Some((key, _)), Ok(place)) = (held.get_index(place), u16::try_from(place)) else {
             return;

@@ -57,7 +57,7 @@ impl NumbersInUse {
         }
     }
 
-    /// Returns the least number of the protocol from 1 on that is free, or `None` if each is in use.
+    /// Returns the least free number of the protocol from 1 on, or `None` if each is in use.
     pub(crate) fn least_free(&self, protocol: Protocol) -> Option<u16>
         requires { AreByProtocol self.now }
         ensures { IsFirstAbsent (λ n. is_in_use self.now (external_key protocol n))

@@ -28,7 +28,7 @@ impl Bindings {
         due.reserve()
     }
 
-    /// Stores and queues a binding that is live at `from`. There is room, and its endpoints are free.
+    /// Stores and queues a binding live at `from` (ns). There must be room, and free endpoints.
     fn insert(&mut self, binding: TableBinding, from: u64)
         requires room { BindingsHaveRoom self.old }
         requires from { from ≤ self.old.at }
@@ -64,8 +64,8 @@ impl Bindings {
     ghost use Rattle.napt_table.specs.BindingIndexes.{held_binding, held_at, HasInside, IsSamePlace, HasNoInside, HoldsSame, IsUsedBy, SendKnownPost};
     ghost use Rattle.napt_table.specs.Bindings.{BindingsHaveRoom, BindingsUnchanged, NewBindingOk, RenewedBindingOk, Finds, SendPost, SendsKnown};
 
-    /// Stores a binding that is live or held and whose endpoints are free. A redirect never expires, so
-    /// it is not queued. Fails if memory is refused; the stored bindings are then unchanged.
+    /// Stores a binding that is live or held and whose endpoints are free. A redirect never expires
+    /// and is not queued. Fails if memory is refused; no stored binding then changes.
     pub(crate) fn add(&mut self, binding: TableBinding) -> Result<(), AllocError>
         requires live { is_live self.old.timers (hold_ago self.old.timers self.old.at) binding
             ≡ true }
@@ -91,8 +91,8 @@ impl Bindings {
         Ok(())
     }
 
-    /// Sends a packet out through its inside endpoint's live binding, if there is one; returns its
-    /// number and takes the packet's time. Fails if memory is refused; no binding then changes.
+    /// Sends a packet out through its inside endpoint's live binding, if there is one. Returns its
+    /// number, and sets the time. Fails if memory is refused; no binding then changes.
     #[inline(always)]
     fn send_held(
         &mut self,
@@ -117,7 +117,7 @@ impl Bindings {
         Ok(Some(number))
     }
 
-    /// Sends a packet out through its inside endpoint's live binding, if there is one; returns its
+    /// Sends a packet out through its inside endpoint's live binding, if there is one. Returns its
     /// number. If there is none, or memory is refused, no binding changes.
     pub(crate) fn send_known(
         &mut self,
@@ -137,7 +137,7 @@ impl Bindings {
         self.send_held(alloc, packet)
     }
 
-    /// Reserves memory for a new binding of the packet; returns its first flows. No binding changes.
+    /// Reserves memory for a new binding of the packet, and returns its flows. No binding changes.
     fn prepare(&mut self, alloc: Global, packet: OutboundPacket) -> Result<Flows, AllocError>
         ensures same { BindingsUnchanged self.old self.new }
         ensures room { OnOk result (BindingsHaveRoom self.new) }
@@ -151,7 +151,7 @@ impl Bindings {
         Flows::from_packet(alloc, self.timers, packet)
     }
 
-    /// Makes the packet's binding with these flows; returns its number, or `NoPort`. Allocates nothing.
+    /// Makes the packet's binding with these flows. Returns a number or `NoPort`. Never allocates.
     fn insert_new(&mut self, packet: OutboundPacket, flows: Flows) -> Result<u16, Cause>
         requires room { BindingsHaveRoom self.old }
         requires at { self.old.at ≡ packet.now }
@@ -192,7 +192,7 @@ impl Bindings {
         Ok(number)
     }
 
-    /// Makes the packet's held binding live again, with these flows and the number that it has.
+    /// Makes the packet's held binding live again, with these flows and its former number.
     fn renew(&mut self, packet: OutboundPacket, number: u16, flows: Flows)
         requires at { self.old.at ≡ packet.now }
         requires its { HasInside self.old.held packet.protocol packet.inside number }
@@ -214,8 +214,8 @@ impl Bindings {
         held.renew(ExternalNumberKey { number, protocol }, packet.now, flows);
     }
 
-    /// Sends a packet out and returns its number: that of its live binding, else of its held one, else
-    /// of a new one, or `OverQuota` or `NoPort`. Fails if memory is refused; no binding then changes.
+    /// Sends a packet out. Returns the number of its live binding, else of its held one, else of a
+    /// new one, or `OverQuota` or `NoPort`. Fails if memory is refused; no binding then changes.
     #[inline(never)]
     pub(crate) fn send(
         &mut self,

@@ -1,4 +1,4 @@
--- live_row: the flows of a binding that is taken up have distinct remotes.
+-- live_row: the flows of a binding of an accepted state have distinct remotes.
 use Rattle.std.proofs.{Common.{◌≡◌, false, List, [], ◌∷◌, sym, ◌∙◌, ap}, lemmas.Bool.or_parts}
 use Rattle.napt_binding.specs.Slots.{AreDistinct}
 use Rattle.napt_rules.specs.{declared.Flow.Flow, Prelude.{Binding, flows_share}}

@@ -1,4 +1,4 @@
--- effects_are_the_log: the two laws, of which the second rests on the sound states of a run.
+-- effects_are_the_log: the two laws, of which the second uses that the states of a run are sound.
 use Rattle.napt_account.proofs.{InputEffects.effects_come, Effects.effects_are_the_log}
 use Rattle.napt_account.proofs.log.effects_are_the_log.Goals as goal
 

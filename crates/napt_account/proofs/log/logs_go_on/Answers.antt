@@ -1,4 +1,4 @@
--- logs_go_on: the three laws, from the laws of runs that go on from a state.
+-- logs_go_on: the three laws, from the laws of runs that start from a state.
 use Rattle.napt_account.proofs.ContinuedLogs as lemmas
 use Rattle.napt_account.proofs.InputEffects.{logs_are_of_their_states}
 use Rattle.napt_account.proofs.log.logs_go_on.Goals as goal

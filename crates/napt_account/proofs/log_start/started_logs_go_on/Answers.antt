@@ -1,4 +1,4 @@
--- started_logs_go_on: the three laws of the log with which a run begins.
+-- started_logs_go_on: the three laws of the log with which a run starts.
 use Rattle.napt_account.proofs.{LogStarts.{logs_begin_anew, states_have_logs}, SavedLogs.saved_logs_are_taken_up}
 use Rattle.napt_account.proofs.log_start.started_logs_go_on.Goals as goal
 

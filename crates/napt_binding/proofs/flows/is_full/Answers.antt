@@ -1,4 +1,4 @@
--- is_full: a list of fewer than `FEW` flows is never full, and a longer one is as its standing flows say.
+-- is_full: a list of fewer than `FEW` flows is never full, and for a longer one the standing flows are counted.
 use Rattle.std.proofs.Common.{◌∙◌, sym, ap, is_some}
 use Rattle.napt_binding.proofs.ListLengths.{never_full, full_where}
 use Rattle.napt_binding.proofs.flows.is_full.Goals as goal

@@ -1,4 +1,4 @@
--- run_workers: what dispatching and the joined workers give is the sequential run.
+-- run_workers: the results of dispatching and of the joined workers are the sequential run.
 use Rattle.std.{proofs.{Common.{◌≡◌, List, length, map, refl, sym, ap, subst, ◌∙◌}, lemmas.Result.IfOk-at_ok}, specs.Prelude.AllPairs}
 use Rattle.napt_config.specs.Rules.{Rules}
 use Rattle.napt_rules.specs.Prelude.{RunResult, run_result, initial_state, AreRowsApart}

@@ -1,4 +1,4 @@
--- workers: one more worker holds the translator of the next address.
+-- workers: one more worker has the translator of the next address.
 use Rattle.std.proofs.Common.{◌≡◌, length, ◌∙◌, ap, refl, arith}
 use Rattle.napt_rules.specs.Prelude.{with_redirects}
 use Rattle.napt_dispatch.{specs.Dispatch.started_from, proofs.{DispatchEnds.length_started, ClosedWorkers.started_more}}

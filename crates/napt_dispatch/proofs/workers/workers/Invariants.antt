@@ -1,4 +1,4 @@
--- workers: the workers so far hold the translators of the first `index` addresses.
+-- workers: the workers so far have the translators of the first `index` addresses.
 use Rattle.std.proofs.Common.{◌≡◌, ◌≤◌, length}
 use Rattle.napt_rules.specs.Prelude.{with_redirects}
 use Rattle.napt_dispatch.specs.Dispatch.{started_from}

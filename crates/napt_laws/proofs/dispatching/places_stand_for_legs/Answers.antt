@@ -1,4 +1,4 @@
--- `places_stand_for_legs`: one more input adds its first leg, and a placeholder that the first leg's end fills.
+-- `places_stand_for_legs`: one more input adds its first leg, and a placeholder that the end of that leg resolves.
 use Rattle.napt_laws.proofs.Places.{answers_fill, places_stand}
 use Rattle.napt_laws.proofs.dispatching.places_stand_for_legs.Goals as goal
 

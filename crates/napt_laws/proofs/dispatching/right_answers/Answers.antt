@@ -1,4 +1,4 @@
--- `right_answers`: right answers are those of the run, grow with it, and give its outcomes.
+-- `right_answers`: right answers are those of the run, remain so for more inputs, and give its outcomes.
 use Rattle.napt_laws.proofs.DispatchLaws as lemmas
 use Rattle.napt_laws.proofs.dispatching.right_answers.Goals as goal
 

@@ -1,4 +1,4 @@
--- `legs_name_their_binding`: a leg records the binding that is found after it, and an error or a drop none.
+-- `legs_name_their_binding`: a leg records the binding that is found after it; an error or a drop records none.
 use Rattle.napt_laws.proofs.BindingUseLaws.{out_says_its_binding, in_says_its_binding, errors_go_through_none, dropped_go_through_none}
 use Rattle.napt_laws.proofs.legs.legs_name_their_binding.Goals as goal
 

@@ -1,4 +1,4 @@
--- `own_states_stay`: the state after a run goes on unchanged, and its configuration takes it.
+-- `own_states_stay`: the configuration of a run accepts the state after it without a change.
 use Rattle.napt_laws.proofs.OwnStates.{own_states_stay, own_states_are_taken}
 use Rattle.napt_laws.proofs.runs.own_states_stay.Goals as goal
 

@@ -1,4 +1,4 @@
--- `runs_go_on`: a run over two lists is one over the first, and one over the second from a state that is alike.
+-- `runs_go_on`: a run over two lists is one over the first, followed by one over the second from a state that is alike.
 use Rattle.napt_laws.proofs.ContinuedRuns.{runs_go_on, gone_change_nothing, earlier_clocks}
 use Rattle.napt_laws.proofs.RunsAlike.{alike_go_on}
 use Rattle.napt_laws.proofs.runs.runs_go_on.Goals as goal

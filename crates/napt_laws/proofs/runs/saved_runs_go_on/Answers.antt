@@ -1,4 +1,4 @@
--- `saved_runs_go_on`: a state that is saved by address is alike, is taken, and goes on as the run.
+-- `saved_runs_go_on`: a state that is saved by address is alike, is accepted, and continues as the run.
 use Rattle.napt_laws.proofs.SavedStates.{ordered_are_alike, ordered_are_taken, saved_runs_go_on}
 use Rattle.napt_laws.proofs.runs.saved_runs_go_on.Goals as goal
 

@@ -1,4 +1,4 @@
--- `taken_states_are_kept`: runs from a state that a configuration takes are sound, in blocks and within bounds.
+-- `taken_states_are_kept`: runs from a state that a configuration accepts are sound, in blocks and within bounds.
 use Rattle.napt_laws.proofs.{TakenStates.{taken_sound, taken_blocks, taken_quota}, OwnBindings.taken_own}
 use Rattle.napt_laws.proofs.runs.taken_states_are_kept.Goals as goal
 

@@ -1,4 +1,4 @@
--- `no_host_exceeds_its_quota`: neither a purge nor a packet takes a host past its quota.
+-- `no_host_exceeds_its_quota`: after neither a purge nor a packet does a host exceed its quota.
 use Rattle.napt_laws.proofs.StepsQuota.{purge_keeps_quota, out_keeps_quota, in_keeps_quota}
 use Rattle.napt_laws.proofs.steps.no_host_exceeds_its_quota.Goals as goal
 

@@ -1,4 +1,4 @@
--- `steps_are_local`: a step at one address depends on and changes that address's bindings alone.
+-- `steps_are_local`: a step at one address depends on, and changes, only the bindings of that address.
 use Rattle.napt_laws.proofs.{Purges.{of_purge, purge_purge}, StepsLocal.{out_local, out_other, in_local, in_other}}
 use Rattle.napt_laws.proofs.steps.steps_are_local.Goals as goal
 

@@ -1,4 +1,4 @@
--- `steps_hold_numbers`: each step keeps the account of who had a number, and for how long it was held.
+-- `steps_hold_numbers`: each step preserves the account of who had a number, and for how long it was held.
 use Rattle.napt_laws.proofs.HoldTimes.{accounts_begin, out_keeps_accounts, in_keeps_accounts, held_times_are_far}
 use Rattle.napt_laws.proofs.steps.steps_hold_numbers.Goals as goal
 

@@ -1,4 +1,4 @@
--- `steps_stay_sound`: a purge and each packet keep the list sound.
+-- `steps_stay_sound`: the list is still sound after a purge and after each packet.
 use Rattle.napt_laws.proofs.StepsSound.{purge_stays_sound, out_stays_sound, in_stays_sound, sound_is_apart}
 use Rattle.napt_laws.proofs.steps.steps_stay_sound.Goals as goal
 

@@ -1,4 +1,4 @@
--- next_reply: an answer at hand or the next reply of the ring is handed out, in each case of the reply.
+-- next_reply: a stored answer or the next reply of the ring is returned, in each case of the reply.
 use Rattle.std.{proofs.Common.{refl, ap, ◌∙◌, [], ◌∷◌, ◌++◌, append-nil}, specs.{Prelude.Some, Vec.Iter.into_iter_items}}
 use Rattle.rtrb.specs.Ring.{received}
 use Rattle.napt_pool.{specs.{Histories.{answers_of, each_reply, replies_handed_out}, declared.message.Reply.TheVariants.{Done, Failed, Many}}, proofs.JoinedWorkers.drained}

@@ -1,4 +1,4 @@
--- merge: one more input moves from those to come, and at the end none is left.
+-- merge: one more input is moved from the remaining ones, of which there are none at the end.
 use Rattle.std.proofs.Common.{◌≡◌, length, refl, sym, ◌∙◌, ap, arith, append-nil, append_assoc, [], ◌∷◌}
 use Rattle.napt_records.proofs.Merges.{none_left}
 use Rattle.napt_records.proofs.record_merger.merge.Goals as goal

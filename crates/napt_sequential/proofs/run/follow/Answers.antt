@@ -1,4 +1,4 @@
--- follow: each end of the first leg gives the step of the definition, with a second leg if it goes onward.
+-- follow: each end of the first leg gives the step of the definition, with a second leg if the end is onward.
 use Rattle.std.{proofs.{Common.{◌≡◌, ℕ, List, Some, refl, sym, ◌∙◌, ap, subst, arith}, lemmas.Option.slice_get_within}, specs.List.slice_get}
 use Rattle.napt_wire.specs.Fields.{destination}
 use Rattle.napt_config.specs.Rules.{Rules}

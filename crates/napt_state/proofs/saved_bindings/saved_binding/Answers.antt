@@ -1,4 +1,4 @@
--- saved_binding: what is not live has ended by the clock, so that its end is a number of 64 bits.
+-- saved_binding: a binding that is not live has ended by the clock, so that its end is a number of 64 bits.
 use Rattle.std.proofs.lemmas.{Bool.true≢false, Bool.Decides.nat_tests}
 use Rattle.std.proofs.Common.{◌≡◌, ◌≤◌, ◌-◌, ◌^◌, ◌∙◌, ℕ, Bool, true, false, cond, min, Option, Some, None, sym, ap, subst, arith}
 use Rattle.napt_config.specs.Rules.{AreTimers}

@@ -1,4 +1,4 @@
--- end_misfits_in: the binding before those that are judged.
+-- end_misfits_in: one more binding, before those that have been checked, is checked.
 use Rattle.std.proofs.Common.{◌≡◌, ◌∙◌, ◌+◌, ℕ, List, [], Option, None, is_some, true, false, drop, length, refl, subst, sym, ap, arith}
 use Rattle.std.proofs.Math.ListN.{drop_of_length-le}
 use Rattle.napt_rules.specs.{Bindings.Binding, Life.hold_ago, declared.Misfit.Misfit}

@@ -1,4 +1,4 @@
--- end_misfits_in: the bindings from a place on are judged, and those that do not fit have ended.
+-- end_misfits_in: the bindings from an index on have been checked, and those that do not fit have ended.
 use Rattle.std.proofs.Common.{◌≡◌, ◌≤◌, length, drop, take}
 use Rattle.napt_rules.specs.Opening.{opening}
 use Rattle.napt_state.specs.{EndedMisfits.{misfits_in, ended_misfits, fitting_in}, StateReaders.AreOf}

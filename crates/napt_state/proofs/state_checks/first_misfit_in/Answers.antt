@@ -1,4 +1,4 @@
--- first_misfit_in: the reason against one more binding that goes on, given those after it.
+-- first_misfit_in: the reason why one more binding that continues does not fit, given those after it.
 use Rattle.std.proofs.Common.{◌≡◌, ◌-◌, ◌∙◌, ℕ, List, [], ◌∷◌, Option, length, drop, subst, sym, ap, cond, not, ◌&&◌, arith}
 use Rattle.std.proofs.Math.ListN.{drop_of_length-le}
 use Rattle.napt_rules.specs.{Bindings.{Binding}, Misfits.{misfit_of, misfit_or, misfit_in}, declared.{Misfit.Misfit}}

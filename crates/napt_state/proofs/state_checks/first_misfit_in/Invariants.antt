@@ -1,4 +1,4 @@
--- first_misfit_in: the bindings from a place on that go on were judged.
+-- first_misfit_in: the bindings from an index on that continue have been checked.
 use Rattle.std.proofs.Common.{◌≡◌, ◌≤◌, length, drop}
 use Rattle.napt_rules.specs.{Opening.opening, Misfits.misfit_in, Life.hold_ago}
 use Rattle.napt_state.specs.StateReaders.{AreOf}

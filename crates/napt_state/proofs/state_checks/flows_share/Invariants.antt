@@ -1,4 +1,4 @@
--- flows_share: the flows from a place on that stand are of distinct remotes.
+-- flows_share: the standing flows from an index on have distinct remotes.
 use Rattle.std.proofs.Common.{◌≡◌, ◌≤◌, false, length, drop}
 use Rattle.napt_rules.specs.Misfits.{flows_share}
 use Rattle.napt_state.specs.StateReaders.{AreRemotes}

@@ -1,4 +1,4 @@
--- why_ended: a binding that goes on is judged.
+-- why_ended: a binding is checked if it continues.
 use Rattle.std.proofs.Common.{◌≡◌, true, Option, None, IfOk, cond, sym, ◌∙◌, ap, subst}
 use Rattle.napt_rules.specs.{Life.{hold_ago, with_live_flows}, Misfits.misfit_of, declared.Misfit.Misfit}
 use Rattle.napt_state.specs.EndedMisfits.{goes_on}

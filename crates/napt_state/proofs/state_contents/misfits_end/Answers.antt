@@ -1,4 +1,4 @@
--- misfits_end: what fits of a state goes on, the configuration takes it, and what does not fit ends in the log at
+-- misfits_end: the bindings that fit continue, the configuration accepts them, and the entries of the others end at
 -- the clock.
 use Rattle.napt_state.proofs.EndedBindings.{misfits_end}
 use Rattle.napt_state.proofs.state_contents.misfits_end.Goals as goal

@@ -1,4 +1,4 @@
--- `mixed`: the hash of the four parts, written in turn, is that of all their bytes.
+-- `mixed`: the hash of the four parts, written one after another, is that of all their bytes.
 use Rattle.std.{proofs.{Common.{◌≡◌, ℕ, List, [], ◌∷◌, ◌++◌, sym, ◌∙◌, ap}, lemmas.List.Sums.fold-append}, specs.Int.{w16, w32, to_be_bytes}}
 use Rattle.std.specs.{Hash.DefaultHasher.{initial, write_byte, write, finish}, declared.hash.DefaultHasher.DefaultHasher}
 use Rattle.napt_rules.specs.Prelude.{mixed, protocol_byte}

@@ -1,4 +1,4 @@
--- `onward`: the place that it returns foretells whether the packet's outgoing leg ends onward, and where.
+-- `onward`: the returned place determines whether the packet's outgoing leg can end onward, and where.
 use Rattle.std.proofs.Common.{◌≡◌, ◌∙◌, ap, subst, sym}
 use Rattle.napt_wire.specs.{declared.Endpoint.Endpoint, Fields.destination}
 use Rattle.napt_config.specs.Rules.{pool_place}

@@ -1,4 +1,4 @@
--- `route`: the place that it returns is that of the external address that serves the packet.
+-- `route`: the returned place is that of the external address that serves the packet.
 use Rattle.std.proofs.Common.{◌≡◌, ℕ, List, Option, Some, Result, IfOk, ok_or, slice_get, sym, ◌∙◌, ap, subst}
 use Rattle.napt_wire.specs.declared.{Cause.{Cause, TheVariants.NotOurs}, Way.Way}
 use Rattle.napt_config.specs.Rules.{pool_place}

@@ -1,4 +1,4 @@
--- is_right: what the loop has added and what is left are the whole sum, modulo 65535.
+-- is_right: the sum that the loop has added and the remaining words are the whole sum, modulo 65535.
 use Rattle.std.proofs.Common.{◌≡◌, ◌≤◌, length, sum, ◌+◌, ◌*◌, ◌%◌, ◌^◌}
 use Rattle.napt_wire.specs.Bytes.{words}
 use Rattle.napt_wire.proofs.checksum.is_right.Given as goal

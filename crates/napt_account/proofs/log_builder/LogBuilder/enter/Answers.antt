@@ -1,4 +1,4 @@
--- enter: the log is the fold of one more input, the part is what this adds, and the invariant is preserved.
+-- enter: the log is the fold of one more input, which adds the part, and the invariant is preserved.
 use Rattle.std.proofs.Common.{◌≡◌, ℕ, ◌+◌, ◌*◌, ◌^◌, ◌<◌, false, List, [], ◌∷◌, ◌++◌, length, drop, filter, Option, Ok, refl, sym, ◌∙◌, ap, subst, arith, append-nil, append_assoc}
 use Rattle.std.specs.Option.{IfSome}
 use Rattle.napt_sequential.specs.declared.passage.{Passage.{Passage, TheVariants.{Nothing, Made, Out, In, Dropped}}, Trace.Trace}

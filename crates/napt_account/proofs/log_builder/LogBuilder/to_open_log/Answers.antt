@@ -1,4 +1,4 @@
--- left: by the invariant, the entries that are kept are the open entries of the log.
+-- left: by the invariant, the stored entries are the open entries of the log.
 use Rattle.std.{proofs.Common.{◌≡◌, ◌∙◌, ap, subst}, specs.Prelude.IfOk}
 use Rattle.napt_account.specs.{LogBuilders.{LogBuilderModel}, LogParts.kept_at}
 use Rattle.napt_account.proofs.log_builder.LogBuilder.to_open_log.Goals as goal

@@ -1,4 +1,4 @@
--- take_due: if nothing is returned, no time in the queue has come.
+-- take_due: if nothing is returned, no endpoint in the queue is due.
 use Rattle.std.proofs.{lemmas.{Grind.common_steps, Bool.Decides.nat_tests}, Common.arith}
 use Rattle.napt_account.proofs.{EndOrder.none_due, EndQueue.{not_empty, first_least}}
 use Rattle.napt_account.proofs.open_entries.OpenEntries.take_due.Goals as goal

@@ -1,4 +1,4 @@
--- admit: the invariant is kept with one more input, which has a first leg or is dropped without one.
+-- admit: the invariant is preserved with one more input, which has a first leg or is dropped without one.
 use Rattle.std.proofs.{Common.{◌≡◌, Ok, Some, slice_get}, lemmas.Result.IfOk-at_ok}
 use Rattle.napt_config.specs.Rules.{Rules}
 use Rattle.napt_rules.specs.Prelude.{way_from, served_at, Arrival, admission}

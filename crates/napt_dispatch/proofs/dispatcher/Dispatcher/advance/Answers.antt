@@ -1,4 +1,4 @@
--- advance: two offers and what is taken between them make one step.
+-- advance: two offers and the answers taken between them make one step.
 use Rattle.napt_dispatch.proofs.{RunSteps.{continues_both, continues_then}, Lanes.halts_after}
 use Rattle.std.proofs.lemmas.Result.{err_from_is_err_and}
 use Rattle.napt_dispatch.proofs.dispatcher.Dispatcher.advance.Goals as goal

@@ -1,4 +1,4 @@
--- offer_all: an offer to one worker leaves what holds of the workers before it.
+-- offer_all: an offer to one worker does not affect the property of the workers before it.
 use Rattle.std.proofs.{Common.{inl, inr, arith}, lemmas.{Bool.cases_eq, Result.err_from_is_err_and}}
 use Rattle.napt_dispatch.proofs.{WorkerOffers.offered_still, RunSteps.continues_both, Lanes.halts_after}
 use Rattle.napt_dispatch.proofs.dispatcher.Dispatcher.offer_all.Goals as goal

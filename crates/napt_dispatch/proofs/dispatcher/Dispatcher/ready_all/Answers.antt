@@ -1,4 +1,4 @@
--- ready_all: the moves so far and the next one make one, up to `most` legs or a placeholder that waits.
+-- ready_all: the moves so far and the next one make one move, up to `most` legs or a placeholder that waits.
 use Rattle.std.proofs.Common.{refl, ◌∙◌}
 use Rattle.napt_dispatch.{specs.declared.dispatcher.Dispatcher.Dispatcher, proofs.WorkerOffers.{readies_moved, readies_both}}
 use Rattle.napt_dispatch.proofs.dispatcher.Dispatcher.ready_all.Goals as goal

@@ -1,4 +1,4 @@
--- read_ahead: the record that was read is the first of what is left, and a fault is that of what is left.
+-- read_ahead: the record that was read is the first of the unread ones, and a fault is that of the unread part.
 use Rattle.std.proofs.lemmas.Result.{err_from_is_err_and}
 use Rattle.napt_capture.specs.{declared.{fault.CaptureFault.CaptureFault, reading.NextRead.NextRead}, RecordReaders.remaining_text}
 use Rattle.napt_records.proofs.ReaderRests.{StopsBy-says, held_refused, held_told, held_whole, untold}

@@ -1,4 +1,4 @@
--- next: the next input is returned, the end is reached, or the fault is that of what is left.
+-- next: the next input is returned, the end is reached, or the fault is that of the unread part.
 use Rattle.std.proofs.lemmas.Result.{err_from_is_err_and}
 use Rattle.napt_records.proofs.HandedInputs.{Hands-any}
 use Rattle.napt_records.proofs.stream_merger.StreamMergerInputSource.next.Goals as goal

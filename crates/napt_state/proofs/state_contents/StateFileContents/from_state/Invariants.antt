@@ -1,4 +1,4 @@
--- of: the bindings so far and those to come are all, and those so far are saved.
+-- of: the bindings so far and those to come are all bindings, and those so far have been saved.
 use Rattle.std.{proofs.Common.{◌≡◌, ◌++◌}, specs.Vec.Iter.into_iter_items}
 use Rattle.napt_state.specs.Saved.{saved_bindings}
 use Rattle.napt_state.proofs.state_contents.StateFileContents.from_state.Given as goal

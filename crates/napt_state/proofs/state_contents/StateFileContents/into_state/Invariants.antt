@@ -1,4 +1,4 @@
--- into_state: the bindings so far and those to come are all, and those so far are taken.
+-- into_state: the bindings so far and those to come are all bindings, and those so far have been converted.
 use Rattle.std.{proofs.Common.{◌≡◌, ◌++◌}, specs.Vec.Iter.into_iter_items}
 use Rattle.napt_state.proofs.RestoredBindings.{TakesSoFar}
 use Rattle.napt_state.proofs.state_contents.StateFileContents.into_state.Given as goal

@@ -1,4 +1,4 @@
--- restore: the state is taken if no binding misfits, and otherwise the first misfit is returned.
+-- restore: the state is returned if each binding fits, and otherwise the first misfit is.
 use Rattle.std.proofs.Common.{◌∙◌, ap, sym, subst}
 use Rattle.napt_state.specs.Saved.{IsTaken, starting}
 use Rattle.napt_state.proofs.RestoredBindings.{taken_up, not_taken}

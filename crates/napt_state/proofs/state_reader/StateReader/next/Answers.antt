@@ -1,4 +1,4 @@
--- next: a line that was written is read, and what is read is the beginning of the text.
+-- next: a line that was written is read, and the line that is read is the beginning of the text.
 use Rattle.std.proofs.Common.{ℕ, ◌≡◌, ◌≢◌, ◌∙◌, Bool, true, false, List, [], ◌∷◌, ◌++◌, Option, Some, MatchOption, Result, Ok, Err, OnOk, is_err, Bor, sym, ap, subst, lit<}
 use Rattle.std.specs.{Prelude.bytes_eq, Str.IsUtf8}
 use Rattle.std.proofs.lemmas.{Str.Pattern.strip_suffix_char, Option.none-some, Bool.true≢false, Slice.Eq.bytes_eq-Decides}

@@ -1,4 +1,4 @@
--- saved: a text that was written is read to its end, and a text that is read is one of a state.
+-- saved: a text that was written for a state is read to its end, and each text that can be read is that of a state.
 use Rattle.std.proofs.lemmas.{Bool.true≢false, Result.err_from_is_err_and}
 use Rattle.std.proofs.Common.{ℕ, ◌≡◌, List, Some, Ok, Err, IfOk, sym, ap, subst, inl, inr}
 use Rattle.napt_state.specs.declared.line.StateLine.{StateLine}

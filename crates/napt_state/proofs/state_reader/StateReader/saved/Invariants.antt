@@ -1,4 +1,4 @@
--- saved: the contents so far are those of the lines that were read, and the lines after them are left.
+-- saved: the contents so far are those of the lines that were read, and the lines after them are not read yet.
 use Rattle.std.proofs.Common.{◌≡◌, ℕ, List, Some}
 use Rattle.napt_state.specs.StateFiles.{StateFileModel}
 use Rattle.napt_state.specs.{Saved.IsSaved, StateText.saved_text}

@@ -1,4 +1,4 @@
--- `add`: the queue stays valid for the stored bindings.
+-- `add`: the queue is still valid for the stored bindings.
 use Rattle.std.proofs.Common.{◌≡◌, ℕ, None, sym, ◌∙◌, subst}
 use Rattle.napt_table.specs.{Bindings.BindingsModel, BindingIndexes.{held_binding, IsUsedBy}, Keys.key_of}
 use Rattle.napt_table.proofs.Queues.{fixed_due}

@@ -1,4 +1,4 @@
--- `insert`: the queue stays valid for the stored bindings.
+-- `insert`: the queue is still valid for the stored bindings.
 use Rattle.std.proofs.Common.{◌≡◌, ◌≤◌, arith, Some, None, cond, sym, subst}
 use Rattle.napt_table.specs.{declared.bindings.keys.ExternalNumberKey.ExternalNumberKey, Bindings.BindingsModel, BindingIndexes.{held_binding, IsUsedBy}, Keys.{key_eq, key_of}}
 use Rattle.napt_table.proofs.Queues.{inserted_due}

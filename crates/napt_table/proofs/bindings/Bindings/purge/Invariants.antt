@@ -1,4 +1,4 @@
--- `purge`: what the loop keeps; each round leaves fewer due entries.
+-- `purge`: the invariant of the loop, of which each round leaves fewer due entries.
 use Rattle.std.proofs.Common.{◌≡◌}
 use Rattle.napt_rules.specs.Prelude.{hold_ago}
 use Rattle.napt_table.specs.{BindingIndexes.KeepsSeen, Bindings.{BindingsHaveRoom, entries_due}}

@@ -1,4 +1,4 @@
--- `purge_at`: each binding whose hold time is over at `now` was removed, and the queue stays valid.
+-- `purge_at`: each binding whose hold time is over at `now` was removed, and the queue is still valid.
 use Rattle.std.proofs.Common.{◌≤◌, sym, subst}
 use Rattle.napt_table.{specs.Bindings.BindingsModel, proofs.Queues.due_later}
 use Rattle.napt_table.proofs.bindings.Bindings.purge_at.Goals as goal

@@ -1,4 +1,4 @@
--- `receive`: the answer and the stored bindings are those of the definition, and the queue stays valid.
+-- `receive`: the answer and the stored bindings are those of the definition, and the queue is still valid.
 use Rattle.std.proofs.Common.{◌≤◌, sym, subst, ◌∙◌}
 use Rattle.napt_rules.specs.Prelude.{purge, in_taken}
 use Rattle.napt_table.{specs.Bindings.{BindingsModel, AllShow}, proofs.{Queues.due_later, Steps.in_is_shown, HeldThroughTime.{keeps_on, in_stays, in_apart}}}

@@ -1,4 +1,4 @@
--- `renew`: the stored bindings agree with the list that has the renewed one, and the queue stays valid.
+-- `renew`: the stored bindings agree with the list that has the renewed one, and the queue is still valid.
 use Rattle.std.proofs.Common.{◌≡◌, ℕ, [], None, sym, ap, subst, ◌∙◌}
 use Rattle.napt_wire.specs.declared.Way.TheVariants.{Outgoing}
 use Rattle.napt_rules.specs.{Prelude.{purge, change_first, live_flows, is_flow_of, flow_after, with_flow}}

@@ -1,4 +1,4 @@
--- `send_held`: the queue stays valid, and no binding was used after the packet's time.
+-- `send_held`: the queue is still valid, and no binding was used after the packet's time.
 use Rattle.std.proofs.Common.{◌≤◌, sym, subst}
 use Rattle.napt_table.{specs.{BindingIndexes.{HasNone, SendKnownPost}, Bindings.BindingsModel}, proofs.{Queues.{same_due, due_later}, OutboundSteps.sent_due}}
 use Rattle.napt_table.proofs.bindings.Bindings.send_held.Goals as goal

@@ -1,4 +1,4 @@
--- `free_number`: the number is the least that no binding of the list has, live or held, and the invariant is kept.
+-- `free_number`: the number is the least that no live or held binding of the list has, and the invariant is preserved.
 use Rattle.std.{proofs.Common.{◌≤◌, refl, sym, subst}, specs.Option.is_some}
 use Rattle.napt_rules.specs.Prelude.{by_number, hold_ago}
 use Rattle.napt_table.specs.{declared.table_event.TableEvent.TheVariants.Purged, HeldLists.seen_binding, BindingIndexes.held_at, TableModels.{table_model, list_of}, Tables.TableModel}

@@ -1,4 +1,4 @@
--- `outbound_known`: a known binding's packet is sent as in `step_out`, and the invariant is kept.
+-- `outbound_known`: a known binding's packet is sent as in `step_out`, and the invariant is preserved.
 use Rattle.std.{proofs.Common.{◌≤◌, ◌∙◌, ℕ, Option, Result, Ok, true, false, ap, refl, sym, subst}, specs.Prelude.{IfOk, IfSome}}
 use Rattle.napt_wire.specs.declared.Cause.{Cause}
 use Rattle.napt_rules.specs.Prelude.{OutboundEffect, IsNumber}

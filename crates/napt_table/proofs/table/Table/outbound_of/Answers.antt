@@ -1,4 +1,4 @@
--- `outbound_of`: the answer and the list after it are those of `step_out`, and the invariant is kept.
+-- `outbound_of`: the answer and the list after it are those of `step_out`, and the invariant is preserved.
 use Rattle.std.proofs.Common.{◌≤◌, refl, sym, subst}
 use Rattle.napt_table.specs.{declared.table_event.TableEvent.TheVariants.Sent, TableModels.table_model, Tables.TableModel}
 use Rattle.napt_table.proofs.{TableSteps.{all, all_sound, all_taken, keep_now, shown_after, keeps_after, keeps_same}, Tables.table_out}

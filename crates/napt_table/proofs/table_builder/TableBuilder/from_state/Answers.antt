@@ -1,4 +1,4 @@
--- `from_state`: each binding of the state may be added, as the configuration takes the state.
+-- `from_state`: each binding of the state may be added, since the configuration accepts the state.
 use Rattle.std.proofs.Common.{◌≡◌, ◌≤◌, ◌<◌, List, [], ◌∷◌, ◌++◌, map, length, get_or, sym, ◌∙◌, ap, subst}
 use Rattle.napt_config.specs.Rules.{Rules}
 use Rattle.napt_rules.specs.Prelude.{Binding, Each, AreFlowsOwn, State, row, AreBindingsApart}

@@ -1,4 +1,4 @@
--- `redirects`: no redirect shares an endpoint with an earlier one, and the loop keeps its invariant.
+-- `redirects`: no redirect shares an endpoint with an earlier one, and the loop preserves its invariant.
 use Rattle.std.proofs.Common.{◌≡◌, ◌+◌, ◌<◌, List, [], ◌∷◌, ◌++◌, map, length, get_or, false, sym, ◌∙◌, ap, subst}
 use Rattle.napt_config.specs.{Rules.{Rules}, declared.settings.Redirect.Redirect}
 use Rattle.napt_rules.specs.Prelude.{Binding, row, AreBindingsApart}

@@ -1,4 +1,4 @@
--- has_remote: a remote has a place if and only if a flow is of it.
+-- has_remote: a remote has a place if and only if there is a flow of it.
 use Rattle.napt_binding.proofs.FlowMapSteps.{found_is}
 use Rattle.napt_binding.proofs.flows.flow_maps.FlowMaps.has_remote.Goals as goal
 

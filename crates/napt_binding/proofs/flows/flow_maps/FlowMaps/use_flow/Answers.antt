@@ -1,4 +1,4 @@
--- use_flow: if no flow of the remote stands, a new one can be inserted, and gives the flows after the packet.
+-- use_flow: if no flow of the remote stands, a new one can be inserted, which gives the flows after the packet.
 use Rattle.std.{proofs.{Common.{arith, ◌≡◌, ◌∙◌, ap, refl, List, [], ◌∷◌, ◌++◌}, lemmas.{Grind.common_steps, Bool.Decides.nat_tests}}, specs.List.list_any}
 use Rattle.napt_rules.specs.{declared.Flow.Flow, Prelude.{no_marks, is_live_flow, live_flows}}
 use Rattle.napt_binding.{specs.Slots.standing_flows, proofs.{FlowMapSteps.no_place, DistinctFlows.put_next, LastUses.live_flows_used, StandingFlows.{none_left, flow_begun, live_begun}}}

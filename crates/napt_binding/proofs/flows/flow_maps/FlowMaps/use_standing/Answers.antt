@@ -1,4 +1,4 @@
--- use_standing: the standing flow of the remote is used and then live, or there is none.
+-- use_standing: the standing flow of the remote is used, and is then live, or there is none.
 use Rattle.std.proofs.{Common.{arith, ◌≡◌, Some, rules, refl}, lemmas.{Grind.common_steps, Bool.Decides.nat_tests}}
 use Rattle.napt_binding.{specs.FlowMapInvariants.place_of_remote, proofs.{FlowMapSteps.{one, not_found, place_of_is}, StandingFlows.{none_at_all, none_stands, flow_stood, live_stood}}}
 use Rattle.napt_binding.proofs.flows.flow_maps.FlowMaps.use_standing.Goals as goal

@@ -1,4 +1,4 @@
--- insert: the invariant holds with a slot more, whose flow is linked at the end of its row.
+-- insert: the invariant holds with one more slot, whose flow is linked at the end of its row.
 use Rattle.std.proofs.{Common.{◌≡◌, ◌+◌, ◌<◌, length, arith, sym, subst}, lemmas.List.{with_items_is, length_push}}
 use Rattle.napt_collections.specs.Links.{no_links}
 use Rattle.napt_binding.{specs.{Slots.{standing_flows, NoneUsedAfter}, SlotsModels.FlowSlotsModel}, proofs.TimedRows.{row_low, longer_within, pushed}}

@@ -1,4 +1,4 @@
--- new: the invariant holds of no slots.
+-- new: the invariant holds of an empty list of slots.
 use Rattle.std.proofs.{Common.arith, lemmas.{Grind.common_steps, Bool.Decides.nat_tests}}
 use Rattle.napt_binding.proofs.TimedRows.{no_flows}
 use Rattle.napt_binding.proofs.flows.slots.FlowSlots.new.Goals as goal

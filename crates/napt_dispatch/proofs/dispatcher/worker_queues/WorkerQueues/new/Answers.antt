@@ -1,4 +1,4 @@
--- new: unused queues hold nothing, so that the count is right.
+-- new: unused queues are empty, so that the count is right.
 use Rattle.std.proofs.Common.{arith}
 use Rattle.napt_dispatch.proofs.QueueStates.{counted_none}
 use Rattle.napt_dispatch.proofs.dispatcher.worker_queues.WorkerQueues.new.Goals as goal

@@ -1,4 +1,4 @@
--- none_held: the sum is zero exactly if each queue holds nothing.
+-- none_held: the sum is zero if and only if each queue is empty.
 use Rattle.std.proofs.{Common.{◌≡◌, ◌∙◌, ℕ, sym}, lemmas.Bool.{eqb-true, eq-eqb}}
 use Rattle.napt_dispatch.{specs.WorkerQueues.{queue_of, held_legs_count}, proofs.QueueStates.{none_held, held_none}}
 use Rattle.napt_dispatch.proofs.dispatcher.worker_queues.WorkerQueues.none_held.Goals as goal

@@ -1,4 +1,4 @@
--- `insert`: the index then has the binding too, and its invariant is kept.
+-- `insert`: the index then has the binding too, and its invariant is preserved.
 use Rattle.std.proofs.{Common.{ℕ, ◌≡◌, ◌∙◌, ◌+◌, ◌||◌, ap, refl, sym, subst, cond, Some, None, arith}, lemmas.Option.same_Some}
 use Rattle.napt_wire.specs.declared.Protocol.{Protocol}
 use Rattle.napt_table.specs.{declared.bindings.keys.ExternalNumberKey.ExternalNumberKey, NumbersInUse.is_in_use, HeldModels.{holdings_of, number_of_inside}}

@@ -1,4 +1,4 @@
--- `receive`: the binding changes as `binding_after_inbound` says, if it is live, and the invariant is kept.
+-- `receive`: a live binding changes to `binding_after_inbound`, and the invariant is preserved.
 use Rattle.std.proofs.{Common.{◌≡◌, Some, None, sym, subst, ap, ◌∙◌}, lemmas.Option.same_Some}
 use Rattle.napt_rules.specs.Prelude.{Binding, with_live_flows, row}
 use Rattle.napt_binding.specs.Inbounds.{inbound_answer, binding_after_inbound}

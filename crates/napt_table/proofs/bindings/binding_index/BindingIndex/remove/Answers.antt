@@ -1,4 +1,4 @@
--- `remove`: the index then lacks the binding alone, and its invariant is kept.
+-- `remove`: the index then lacks only the binding, and its invariant is preserved.
 use Rattle.std.{proofs.{Common.{ℕ, ◌≡◌, ◌+◌, ◌-◌, ◌&&◌, not, cond, Some, None, refl, sym, ap, ◌∙◌, arith}, lemmas.Option.same_Some}, specs.Map.lookup}
 use Rattle.napt_rules.specs.Prelude.{Binding}
 use Rattle.napt_table.{specs.{NumbersInUse.is_in_use, Keys.{key_eq, inside_key, inside_eq}, HeldModels.number_of_inside}, proofs.IndexConsistency.{same_held, step_held}}

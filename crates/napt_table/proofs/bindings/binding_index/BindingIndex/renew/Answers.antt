@@ -1,4 +1,4 @@
--- `renew`: the binding alone changes, keeps its endpoints, and the invariant is kept.
+-- `renew`: only the binding changes, but not its endpoints, and the invariant is preserved.
 use Rattle.std.{proofs.Common.{Some, refl, sym, ◌∙◌, ap}, proofs.lemmas.Option.same_Some}
 use Rattle.napt_rules.specs.Prelude.{Binding}
 use Rattle.napt_table.proofs.IndexConsistency.{lent_there, held_at_place, one_at_place, left_at_place}

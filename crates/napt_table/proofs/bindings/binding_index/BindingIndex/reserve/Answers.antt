@@ -1,4 +1,4 @@
--- `reserve`: no stored binding changes and the invariant is kept, also if memory is refused.
+-- `reserve`: no stored binding changes, and the invariant is preserved, also if memory is refused.
 use Rattle.std.{proofs.Common.{refl, ap}, specs.Map.lookup}
 use Rattle.napt_table.{specs.Keys.{key_eq, inside_key}, proofs.IndexConsistency.same_held}
 use Rattle.napt_table.proofs.bindings.binding_index.BindingIndex.reserve.Goals as goal

@@ -1,4 +1,4 @@
--- `rows`: a round of the loop that adds the row of a live binding keeps the invariant.
+-- `rows`: a round of the loop that adds the row of a live binding preserves the invariant.
 use Rattle.std.{proofs.{Common.{◌≡◌, ◌++◌, ◌∷◌, [], Bool, true, cond, List, map, filter, sym, ◌∙◌, ap}, lemmas.List.append_assoc}, specs.Map.Iter.deref}
 use Rattle.std.proofs.lemmas.{List.Elements.All-push, Map.Iter.rest_more}
 use Rattle.napt_rules.specs.{Prelude.{Binding, is_live, row}, declared.Row.Row}

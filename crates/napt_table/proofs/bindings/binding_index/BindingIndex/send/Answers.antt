@@ -1,4 +1,4 @@
--- `send`: the packet goes out through its source's live binding, if it has one, and the invariant is kept.
+-- `send`: the packet goes out through its source's live binding, if there is one, and the invariant is preserved.
 use Rattle.std.{proofs.{Common.{◌≡◌, Some, None, refl, sym, subst, ap, ◌∙◌}, lemmas.Option.same_Some}, specs.Map.lookup}
 use Rattle.napt_rules.specs.Prelude.{Binding, with_live_flows, row}
 use Rattle.napt_table.specs.{declared.bindings.keys.InsideKey.InsideKey, Keys.{external_key, inside_eq}, HeldModels.number_of_inside, HeldLists.seen_binding}
