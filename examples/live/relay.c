@@ -41,10 +41,12 @@ static const char HELP[] =
     "                  inside.pcap. If one of an earlier run is there, the relay ends at once; with --state, or with --resume\n"
     "                  among the words, it takes the next number instead, as inside-2.pcap. If it ends before it is ready, it\n"
     "                  leaves none. If one cannot be written any more, as on a full disk, a line says so, and the captures end\n"
-    "                  as after SIGTERM\n"
+    "                  as after SIGTERM: that one with its last whole record, and PROGRAM gets no packet that is not kept\n"
     "  --state FILE    the run goes on from the state FILE, which its own state replaces at the end: PROGRAM gets --resume FILE\n"
     "                  and --save FILE.saved, which is renamed if all has ended in good order, and FILE.begun is removed. A\n"
-    "                  relay that is killed leaves both as they were, although to PROGRAM that is the end of the captures\n"
+    "                  relay that is killed leaves both as they were, although to PROGRAM that is the end of the captures. If\n"
+    "                  FILE.begun is there, as for a gateway, both also stay if PROGRAM fails after it was ready, or if a\n"
+    "                  capture or the report cannot be written. A line says so: the next start of the gateway makes it good\n"
     "  --ready-fd N    also writes the line 'ready' to the open file N, and closes it; it is closed without the line if the\n"
     "                  relay ends before\n"
     "\n"
@@ -62,8 +64,8 @@ static const char HELP[] =
     "signals. If it is started again with --resume FILE, it goes on with the bindings and the log, also under another\n"
     "configuration or as another version. If the clock is earlier than that state, a line says so. If a device is deleted, a\n"
     "line says so, and the captures end. If PROGRAM ends by itself, the relay ends, too. The status is that of PROGRAM; it is 1\n"
-    "if a device, a folder or PROGRAM cannot be opened, a device is deleted or a capture cannot be kept, and 2 for wrong\n"
-    "arguments.\n";
+    "if a device, a folder or PROGRAM cannot be opened, a device is deleted, or a capture or the report cannot be written, and\n"
+    "2 for wrong arguments.\n";
 
 enum {
     HEADER_BYTES = 24,
@@ -260,14 +262,17 @@ static volatile sig_atomic_t is_over;
 static const int ENDING[] = {SIGTERM, SIGINT, SIGHUP};
 enum { ENDINGS = sizeof ENDING / sizeof *ENDING };
 
-// A capture that is kept; no file where none is.
+// A capture that is kept: its file, or -1 where none is or no more can be written, how much that has, in whole records, and the
+// records that are to follow.
 typedef struct {
-    FILE *file;
+    int file;
     char *path;
+    size_t size;
+    Bytes text;
 } Kept;
 
-// the paths of those that were made, whether the relay was ready, whether all could be written so far, and whether both devices
-// are there
+// the paths of those that were made, whether the relay was ready, whether they and the report could be written so far, and whether
+// both devices are there
 static char *made[KEPT];
 static int many_made;
 static bool is_ready, are_whole = true, are_there = true;
@@ -318,36 +323,68 @@ static void number_on(Folder *folder) {
 }
 
 static Kept kept_file(const Folder *folder, const char *option) {
-    Kept kept = {0};
+    Kept kept = {.file = -1};
     if (!folder->path) return kept;
     kept.path = path_in(folder, option);
-    kept.file = fopen(kept.path, "wbex");
-    if (!kept.file && errno == EEXIST)
+    kept.file = open(kept.path, O_WRONLY | O_CREAT | O_EXCL | O_CLOEXEC, 0666);
+    if (kept.file < 0 && errno == EEXIST)
         fail(1, "%s: a capture of an earlier run is there: --keep names a folder without any, or --resume goes on", kept.path);
-    if (!kept.file) fail(1, "%s: %s", kept.path, strerror(errno));
+    if (kept.file < 0) fail(1, "%s: %s", kept.path, strerror(errno));
     made[many_made++] = kept.path;
-    setvbuf(kept.file, NULL, _IOFBF, PIECE);
     return kept;
 }
 
-// Ends the captures where one cannot be written, and says so of the first.
-static void note_fault(const Kept *kept) {
+static size_t record_length(const uint8_t *record) {
+    uint32_t fields[4];
+    memcpy(fields, record, RECORD_BYTES);
+    return RECORD_BYTES + fields[2];
+}
+
+// The bytes of the records that are whole.
+static size_t whole_records(const uint8_t *records, size_t many) {
+    size_t end = 0;
+    while (many - end >= RECORD_BYTES && many - end >= record_length(records + end)) end += record_length(records + end);
+    return end;
+}
+
+static void close_file(Kept *kept) {
+    close(kept->file);
+    kept->file = -1;
+}
+
+// Ends the captures where one cannot be written, and says so of the first; all others are still kept. Its file keeps the records that
+// are whole among the bytes that were written. Returns the bytes of those that are not kept.
+static size_t cut(Kept *kept, size_t written) {
     if (are_whole) fprintf(stderr, "%s: %s: %s: the captures end\n", name, kept->path, strerror(errno));
     are_whole = false;
     is_over = 1;
+    size_t header = kept->size > 0 ? 0 : HEADER_BYTES, whole = 0;
+    if (written >= header) whole = header + whole_records(kept->text.at + kept->text.begin + header, written - header);
+    if (ftruncate(kept->file, (off_t)(kept->size + whole))) errno = 0;
+    close_file(kept);
+    return length(&kept->text) - whole;
 }
 
-static void keep(const Kept *kept, const void *data, size_t many) {
-    if (kept->file && are_whole && fwrite(data, 1, many, kept->file) < many) note_fault(kept);
+static void keep(Kept *kept, const void *data, size_t many) {
+    if (kept->file >= 0) put(&kept->text, data, many);
 }
 
-// Hands what was kept so far to the system, so that it is there where the relay is killed.
-static void flush_kept(const Kept *kept) {
-    if (kept->file && are_whole && fflush(kept->file)) note_fault(kept);
+// Hands what was kept so far to the system, so that it is there where the relay is killed. Returns the bytes of records that are not.
+static size_t flush_kept(Kept *kept) {
+    size_t all = length(&kept->text), written = 0;
+    while (kept->file >= 0 && written < all) {
+        ssize_t many = write(kept->file, kept->text.at + kept->text.begin + written, all - written);
+        if (many < 0 && errno != EINTR) return cut(kept, written);
+        if (many > 0) written += (size_t)many;
+    }
+    kept->size += written;
+    kept->text.begin = kept->text.end;
+    return 0;
 }
 
-static void close_kept(const Kept *kept) {
-    if (kept->file && fclose(kept->file)) note_fault(kept);
+static void close_kept(Kept *kept) {
+    flush_kept(kept);
+    if (kept->file >= 0) close_file(kept);
 }
 
 // The packets of a device, on their way to the program.
@@ -397,15 +434,18 @@ static void tick(Side *side) {
 
 // Takes the packets that are there, up to some, and returns whether there were any.
 static bool read_packets(Side *side) {
-    for (int taken = 0; taken < AT_ONCE; taken++) {
+    int taken = 0;
+    for (; taken < AT_ONCE; taken++) {
         uint8_t *record = room_for(&side->waiting, RECORD_BYTES + MOST_PACKET);
         ssize_t many = read(side->device->file, record + RECORD_BYTES, MOST_PACKET);
-        if (many <= 0) return taken > 0;
+        if (many <= 0) break;
         set_record(record, (uint32_t)many);
         keep(&side->kept, record, RECORD_BYTES + (size_t)many);
         side->waiting.end += RECORD_BYTES + (size_t)many;
     }
-    return true;
+    // a packet is in the capture that is kept before the program knows of it, and so before its rows are in the log
+    side->waiting.end -= flush_kept(&side->kept);
+    return taken > 0;
 }
 
 // Hands on what waits, as far as the pipe takes it, and returns whether the program still reads.
@@ -441,14 +481,12 @@ static Exit exit_of(Device *device, const Folder *folder, const char *option) {
 // Sends the packets that are there whole. One that the device does not take is lost, as on any link.
 static void send_whole(Exit *leaves) {
     Bytes *text = &leaves->text;
-    uint32_t fields[4];
-    while (length(text) >= RECORD_BYTES) {
-        const uint8_t *record = text->at + text->begin;
-        memcpy(fields, record, RECORD_BYTES);
-        if (length(text) - RECORD_BYTES < fields[2]) return;
-        if (write(leaves->device->file, record + RECORD_BYTES, fields[2]) < 0) errno = 0;
-        text->begin += RECORD_BYTES + fields[2];
-    }
+    const uint8_t *record = text->at + text->begin, *end = record + whole_records(record, length(text));
+    keep(&leaves->kept, record, (size_t)(end - record));
+    if (length(&leaves->kept.text) >= PIECE) flush_kept(&leaves->kept);
+    text->begin += (size_t)(end - record);
+    for (; record < end; record += record_length(record))
+        if (write(leaves->device->file, record + RECORD_BYTES, record_length(record) - RECORD_BYTES) < 0) errno = 0;
 }
 
 // Takes what the program wrote, and sends its packets.
@@ -460,9 +498,9 @@ static void read_on(Exit *leaves) {
         leaves->is_open = false;
         return;
     }
-    keep(&leaves->kept, leaves->text.at + leaves->text.end, (size_t)many);
     leaves->text.end += (size_t)many;
     if (!leaves->has_begun && length(&leaves->text) >= HEADER_BYTES) {
+        keep(&leaves->kept, leaves->text.at + leaves->text.begin, HEADER_BYTES);
         leaves->text.begin += HEADER_BYTES;
         leaves->has_begun = true;
     }
@@ -512,16 +550,17 @@ static void write_line(FILE *file, const char *line, size_t many, uint64_t clock
     fwrite(line, 1, many, file);
 }
 
-// Writes the report, if the program wrote one, and returns whether that succeeded.
-static bool write_report(Report *report, uint64_t clocks) {
-    if (!report->path || length(&report->text) == 0) return true;
+// Writes the report, if the program wrote one, and says where that fails.
+static void write_report(Report *report, uint64_t clocks) {
+    if (!report->path || length(&report->text) == 0) return;
     put(&report->text, "", 1);
-    if (ftruncate(report->file, 0) && errno != EINVAL) return false;
-    FILE *file = fdopen(report->file, "wb");
-    if (!file) return false;
+    FILE *file = some(fdopen(report->file, "wb"));
+    bool is_written = ftruncate(report->file, 0) == 0 || errno == EINVAL;
     const char *line = (const char *)report->text.at + report->text.begin;
     for (const char *end; (end = strchr(line, '\n')); line = end + 1) write_line(file, line, (size_t)(end + 1 - line), clocks);
-    return fclose(file) == 0;
+    if (is_written && !ferror(file) && fclose(file) == 0) return;
+    fprintf(stderr, "%s: %s: %s: the report cannot be written\n", name, report->path, strerror(errno));
+    are_whole = false;
 }
 
 // THE PROGRAM
@@ -659,12 +698,11 @@ static void watch_devices(const Relay *relay, const struct pollfd *files) {
     }
 }
 
-// A packet is in the capture that is kept before the program knows of it, and so before its rows are in the log.
+// Hands on what came, and closes a side that is over.
 static void hand_on(Relay *relay) {
     for (int at = 0; at < 2; at++) {
         Side *side = &relay->sides[at];
         if (!side->is_open) continue;
-        flush_kept(&side->kept);
         // the program's end shows at what it writes
         bool is_read = write_on(side);
         if (!is_read || (is_over && length(&side->waiting) == 0)) close_side(side);
@@ -714,14 +752,16 @@ static int end_of(Relay *relay) {
         close_kept(&relay->sides[at].kept);
         close_kept(&relay->exits[at].kept);
     }
-    bool is_written = write_report(&relay->report, relay->sides[0].clocks + relay->sides[1].clocks);
-    if (WIFSIGNALED(status)) fail(128 + WTERMSIG(status), "the program was ended by signal %d", WTERMSIG(status));
-    int told = WEXITSTATUS(status);
-    if (told == 0 && relay->state) {
+    write_report(&relay->report, relay->sides[0].clocks + relay->sides[1].clocks);
+    if (WIFSIGNALED(status)) fprintf(stderr, "%s: the program was ended by signal %d\n", name, WTERMSIG(status));
+    int told = WIFSIGNALED(status) ? 128 + WTERMSIG(status) : WEXITSTATUS(status);
+    if (is_ready && (told || !are_whole) && relay->state && access(relay->begun, F_OK) == 0)
+        fprintf(stderr, "%s: %s is the state before this run: the next start runs the packets that were kept through the program again\n",
+                name, relay->state);
+    else if (told == 0 && relay->state) {
         if (rename(relay->saved, relay->state)) fail(1, "%s: %s", relay->state, strerror(errno));
         unlink(relay->begun);
     }
-    if (told == 0 && !is_written) fail(1, "%s: the report cannot be written", relay->report.path);
     return told || (are_whole && are_there) ? told : 1;
 }
 
