@@ -3,7 +3,7 @@ use Rattle.std.proofs.Common.{arith, ◌≡◌, ℕ, Bool, true, false, not, con
 use Rattle.std.{proofs.lemmas.{Grind.common_steps, Bool.{Decides.nat_tests, not-true}}, specs.{Prelude.find, List.list_any}}
 use Rattle.napt_rules.specs.Prelude.{BindingUse, Binding, Each, change_first, has_number, is_live, with_live_flows, purge, hold_ago, live_and_held, permits, inbound_rules, assignment_rules, is_of_source, binding_after_out, other_bindings, new_binding, out_made, granted_again, out_found, is_of_destination, binding_after_in, in_found, outbound_packet, inbound_packet, LegEffect, act_out, act_in, act_by, act, row, Protocol, Cause, Flags, Way, Outgoing, Kind, kind, Rules, AreTimers}
 use Rattle.napt_rules.specs.declared.{AssignmentRules.AssignmentRules, OutboundPacket.OutboundPacket, InboundPacket.InboundPacket, Row.Row, Leg.Leg}
-use Rattle.napt_laws.proofs.{StepCases.in_passed, Acts.of_act, Lists.{any_none, find_passes, each_weaker, each_pushed, each_kept, each_true}, Endpoints.{has_it, inside_parts}}
+use Rattle.napt_laws.proofs.{StepCases.in_passed, LegCases.of_act, Lists.{any_none, find_passes, each_weaker, each_pushed, each_kept, each_true}, Endpoints.{has_it, inside_parts}}
 use Rattle.napt_laws.proofs.{FreshBindings.{IsFresh, sent_fresh, received_fresh}, HeldNumbers.each_rows, SeenElements.purge_taken, StepRows.{purge_keeps, out_keeps, in_keeps}}
 use Rattle.napt_laws.proofs.{StepsLive.{sent_seen, made_is_seen, made_is_fresh, received_seen}, Quotas.granted_is_chosen, StepsSound.chosen_free}
 

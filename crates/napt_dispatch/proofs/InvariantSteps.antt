@@ -9,8 +9,8 @@ use Rattle.napt_rules.specs.Prelude.{Each, way_from, served_at, LegEffect, act, 
 use Rattle.napt_rules.specs.declared.{Leg.Leg, End.End, Outcome.Outcome}
 use Rattle.napt_rules.specs.declared.End.TheVariants as ends
 use Rattle.napt_rules.specs.declared.Outcome.TheVariants as outcomes
-use Rattle.napt_dispatch.specs.declared.dispatcher.{holding.{QueueHead.QueueHead, PendingLeg.{PendingLeg, TheVariants.{Ready, Place}}, AwaitedLeg.AwaitedLeg}, progress.InputProgress.InputProgress}
-use Rattle.napt_dispatch.specs.declared.{dispatcher.progress.InputProgress.TheVariants.{Returning, Answered}}
+use Rattle.napt_dispatch.specs.declared.dispatcher.{pending_leg.{QueueHead.QueueHead, PendingLeg.{PendingLeg, TheVariants.{Ready, Place}}, AwaitedLeg.AwaitedLeg}, input_progress.InputProgress.InputProgress}
+use Rattle.napt_dispatch.specs.declared.{dispatcher.input_progress.InputProgress.TheVariants.{Returning, Answered}}
 use Rattle.napt_dispatch.specs.{declared.dispatcher.Dispatcher.Dispatcher, Dispatch.{of_worker, local_bindings, IsDispatchedFrom, AnswersAreRight, input_results, input_result}}
 use Rattle.napt_dispatch.specs.{OutcomeLists.collected_outcome, RunsThrough.timed_results}
 use Rattle.napt_dispatch.specs.WorkerQueues.{WorkerQueueModel, unused_queue, queue_of, counts_in, all_held, held_legs_count, front_of, owed_of, first_held_leg, queue_readied, queue_answered, with_offers, with_queue, HoldPost, AllHold, only_at, lane_at}
@@ -18,7 +18,7 @@ use Rattle.napt_dispatch.specs.RunProgresses.{RunProgressModel, RunLegs, whole_o
 use Rattle.napt_dispatch.specs.DispatcherInvariants.{PoolGrows, Lane, DispatcherModel, state_with, dispatcher_state, LaneStands, resolved_legs, lane_legs, IsRight, AreRight, DispatcherReaches, DispatcherInvariant, DispatcherKeeps, Admits, Resolves, queue_waits, DispatcherIsDone}
 use Rattle.napt_dispatch.proofs.{DispatchEnds.map_at, Lanes.{fronts_both, place_within}, QueueStates.{queue_own, queue_other, length_with, nothing, of_replicate}}
 use Rattle.napt_dispatch.proofs.KnownInputs.{known_set, returning_known, ended_known, second_known, left_front, left_whole, timed_outcomes, departed_long, departed_outcomes}
-use Rattle.napt_dispatch.specs.declared.dispatcher.holding.QueueHead.TheVariants as fronts
+use Rattle.napt_dispatch.specs.declared.dispatcher.pending_leg.QueueHead.TheVariants as fronts
 use Rattle.napt_laws.specs.{Dispatching.{IsFrontOf, outcome_of_end, OutcomeIsGiven, IsEndForeseen, OnwardIsForeseen}, SecondLegs.{first_act, second_legs, second_of, IsSeconded}}
 use Rattle.napt_laws.proofs.{DispatchLaws.answers_tell, OneMoreInput.outcomes_long, OneInput.{acts_begin, outcomes_begin, get_at, grown}}
 use Rattle.napt_laws.proofs.{Places.{legs_append, answers_fill, cond_map, place_stands, acts_grow}, Pools.stands_at}

@@ -8,8 +8,8 @@ use Rattle.napt_rules.specs.{declared.{Leg.Leg, Outcome.Outcome}, Prelude.{Arriv
 use Rattle.napt_rules.specs.declared.Outcome.TheVariants as outcomes
 use Rattle.napt_config.specs.Rules.{Rules}
 use Rattle.napt_sequential.{specs.{declared.{outcome.StepResult.StepResult, passage.Passage.Passage}, Steps.steps_of}, proofs.JoinedSteps.{steps_long, steps_outcomes}}
-use Rattle.napt_dispatch.specs.{Dispatch.{input_results, input_result}, declared.dispatcher.progress.InputProgress.{InputProgress, TheVariants.{Awaited, Returning}}}
-use Rattle.napt_dispatch.specs.{declared.dispatcher.progress.OpenInput.OpenInput, OutcomeLists.collected_outcome, DispatcherInvariants.{AnswersTo, IsSecond, IsSecondOf}}
+use Rattle.napt_dispatch.specs.{Dispatch.{input_results, input_result}, declared.dispatcher.input_progress.InputProgress.{InputProgress, TheVariants.{Awaited, Returning}}}
+use Rattle.napt_dispatch.specs.{declared.dispatcher.input_progress.OpenInput.OpenInput, OutcomeLists.collected_outcome, DispatcherInvariants.{AnswersTo, IsSecond, IsSecondOf}}
 use Rattle.napt_dispatch.specs.{RunsThrough.timed_results, declared.outcome_sink.InputResult.InputResult}
 use Rattle.napt_dispatch.specs.RunProgresses.{RunProgressModel, RunLegs, time_in, end_of_answer, progress_ended, ended_in, second_leg_asked, AsksForSecondLeg, first_by, first_in, unmarked, known_in, progress_arrived, mark_of, progress_in, times_in, marks_in, departed_with, departed_in, is_unknown, passages_after, progress_expecting, IsUnmarked, ProgressIsWritten, HasMark, InputIsMarked, FirstIsComplete, FirstInputLeaves, NoneBehind, KnowsSecond, ProgressIsKnown, AllKnown, OutcomesAreHandedOver}
 use Rattle.napt_laws.specs.{Dispatching.{IsFrontOf, outcome_of_end}, SecondLegs.second_legs}

@@ -4,7 +4,7 @@ use Rattle.std.proofs.Common.{◌≡◌, ◌≢◌, ℕ, zero, suc, ◌+◌, ◌
 use Rattle.std.proofs.lemmas.List.{length-append, length-map, length-set, length-replicate, length_push, get_or_default, get_or-set_same, get_or-set_other}
 use Rattle.std.proofs.lemmas.List.Sums.{sum_by-cons, sum_by-set}
 use Rattle.napt_rules.specs.{Prelude.LegAct, declared.Leg.Leg}
-use Rattle.napt_dispatch.specs.{declared.dispatcher.holding.{PendingLeg.{PendingLeg, TheVariants.Ready}, AwaitedLeg.AwaitedLeg}, DispatcherInvariants.{MovesLegs, MovesLegsAt, turned_legs}}
+use Rattle.napt_dispatch.specs.{declared.dispatcher.pending_leg.{PendingLeg.{PendingLeg, TheVariants.Ready}, AwaitedLeg.AwaitedLeg}, DispatcherInvariants.{MovesLegs, MovesLegsAt, turned_legs}}
 use Rattle.napt_dispatch.specs.WorkerQueues.{WorkerQueueModel, unused_queue, queue_of, all_held, held_legs_count, held_count, AreQueuesCounted, HoldPost, AllHold, AnswersAt, only_at, with_queue}
 
 module _ (queues : List WorkerQueueModel) (w : ℕ) (change : WorkerQueueModel → WorkerQueueModel) where

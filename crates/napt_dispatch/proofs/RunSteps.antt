@@ -13,7 +13,7 @@ use Rattle.napt_dispatch.specs.RunProgresses.{RunProgressModel, OutcomesAreHande
 use Rattle.napt_dispatch.specs.DispatcherInvariants.{journal_of, dispatcher_state, IsSizedFor, DispatcherInvariant, DispatcherContinues, ContinuesOr, DispatcherHalts, Admits, DispatcherHasRoom, DispatcherIsDone}
 use Rattle.napt_dispatch.proofs.{QueueStates.held_none, Lanes.{grows_none, grows_both, halts_after}, InvariantSteps.known_stands}
 use Rattle.napt_dispatch.{proofs.KnownInputs.{known_push, times_long, expecting_times, expecting_progress}, specs.declared.faults.DispatchFault.DispatchFault}
-use Rattle.napt_dispatch.specs.declared.dispatcher.{reading.EndOfInputs.EndOfInputs, progress.InputProgress.TheVariants.Awaited}
+use Rattle.napt_dispatch.specs.declared.dispatcher.{reading.EndOfInputs.EndOfInputs, input_progress.InputProgress.TheVariants.Awaited}
 use Rattle.napt_dispatch.specs.RunsThrough.{DeparturesFail, DispatcherGoesOn, OutcomesLeave, RunThroughHalts, HaltsAt, ReadInputPost, ReadInputsPost, HasCome, ReadsToEnd, ReadsHalted}
 use Rattle.napt_dispatch.specs.declared.faults.DispatchFault.TheVariants as dispatch_faults
 

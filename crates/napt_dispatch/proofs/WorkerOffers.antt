@@ -3,8 +3,8 @@ use Rattle.std.{proofs.lemmas.{Grind.common_steps, Bool.{Decides.nat_tests, case
 use Rattle.std.proofs.Common.{◌≡◌, ◌≢◌, ◌⊎◌, ◌||◌, ℕ, zero, suc, ◌+◌, ◌<◌, ◌≤◌, min, Bool, true, false, List, [], ◌∷◌, ◌++◌, length, map, take, drop, length-append, length-drop, take-append-drop, Option, refl, sym, ◌∙◌, ap, subst, arith}
 use Rattle.napt_rules.specs.{Prelude.effect_from, declared.Leg.Leg}
 use Rattle.napt_pool.specs.{declared.pool.Pool.Pool, Pools.{initial_machines, accepted_items, taken_answers, capacity_of}}
-use Rattle.napt_dispatch.specs.declared.dispatcher.{Dispatcher.Dispatcher, holding.{QueueHead.QueueHead, PendingLeg.TheVariants.Ready}, progress.InputProgress.InputProgress}
-use Rattle.napt_dispatch.specs.{declared.{dispatcher.progress.InputProgress.TheVariants.{Returning, Answered}, outcome_sink.InputResult.InputResult}, Dispatch.of_worker}
+use Rattle.napt_dispatch.specs.declared.dispatcher.{Dispatcher.Dispatcher, pending_leg.{QueueHead.QueueHead, PendingLeg.TheVariants.Ready}, input_progress.InputProgress.InputProgress}
+use Rattle.napt_dispatch.specs.{declared.{dispatcher.input_progress.InputProgress.TheVariants.{Returning, Answered}, outcome_sink.InputResult.InputResult}, Dispatch.of_worker}
 use Rattle.napt_dispatch.specs.WorkerQueues.{WorkerQueueModel, queue_of, owed_count, front_of, queue_readied, queue_answered, with_offers, with_queue}
 use Rattle.napt_dispatch.specs.RunProgresses.{RunProgressModel, progress_in, ProgressIsWritten, InputIsMarked}
 use Rattle.napt_dispatch.specs.DispatcherInvariants.{journal_of, state_with, dispatcher_state, with_more_at, DispatcherKeeps, KeepsAt, IsSizedFor, DispatcherContinues, NoteAnswerPost, NoteAnswersPost, Forgets, NothingMoved, Resolves, queue_waits, waits_behind, ReadyLegsPost, HasTaken, HasOffered, OffersOnlyTo, MovesLegsAt}

@@ -10,13 +10,13 @@ use Rattle.napt_pool.specs.{declared.pool.Pool.Pool, Pools.{initial_machines, ac
 use Rattle.napt_sequential.specs.{declared.{fault.RunFault.RunFault, passage.Passage.{Passage, TheVariants.Nothing}, leg_trace.TracedAnswer.TracedAnswer}, Steps.traced_replies}
 use Rattle.napt_wire.specs.declared.Way.{Way}
 use Rattle.napt_laws.specs.{Dispatching.IsFrontOf, SecondLegs.second_legs}
-use Rattle.napt_dispatch.specs.declared.{outcome_sink.InputResult.InputResult, dispatcher.{Dispatcher.Dispatcher, holding.{QueueHead.QueueHead, PendingLeg.PendingLeg}}}
-use Rattle.napt_dispatch.specs.declared.dispatcher.{holding.{PendingLeg.TheVariants.{Ready, Place}, AwaitedLeg.AwaitedLeg}, progress.{OpenInput.OpenInput, InputProgress.InputProgress}}
-use Rattle.napt_dispatch.specs.declared.dispatcher.{progress.InputProgress.TheVariants.{Returning, Answered}, taking.StopCondition.StopCondition}
+use Rattle.napt_dispatch.specs.declared.{outcome_sink.InputResult.InputResult, dispatcher.{Dispatcher.Dispatcher, pending_leg.{QueueHead.QueueHead, PendingLeg.PendingLeg}}}
+use Rattle.napt_dispatch.specs.declared.dispatcher.{pending_leg.{PendingLeg.TheVariants.{Ready, Place}, AwaitedLeg.AwaitedLeg}, input_progress.{OpenInput.OpenInput, InputProgress.InputProgress}}
+use Rattle.napt_dispatch.specs.declared.dispatcher.{input_progress.InputProgress.TheVariants.{Returning, Answered}, taking.StopCondition.StopCondition}
 use Rattle.napt_dispatch.specs.Dispatch.{of_worker, local_bindings, IsDispatchFault}
 use Rattle.napt_dispatch.specs.WorkerQueues.{WorkerQueueModel, AnswersAt, all_held, held_legs_count, front_of, queue_of, owed_of, owed_count, held_count, with_queue}
 use Rattle.napt_dispatch.specs.RunProgresses.{RunProgressModel, progress_in, times_in, is_unknown, passages_after, second_leg_asked, AsksForSecondLeg, first_in, whole_of, AllKnown, ProgressIsWritten, HasMark, InputIsMarked}
-use Rattle.napt_dispatch.specs.declared.dispatcher.holding.QueueHead.TheVariants as fronts
+use Rattle.napt_dispatch.specs.declared.dispatcher.pending_leg.QueueHead.TheVariants as fronts
 use Rattle.napt_dispatch.specs.declared.dispatcher.taking.StopCondition.TheVariants as untils
 
 -- THE STATE OF A DISPATCHER

@@ -7,8 +7,8 @@ use Rattle.napt_rules.specs.declared.End.TheVariants as ends
 use Rattle.napt_laws.specs.{SecondLegs.second_legs, Dispatching.outcome_of_end}
 use Rattle.napt_rules.specs.declared.Outcome.TheVariants as outcomes
 use Rattle.napt_sequential.specs.{declared.passage.Passage.Passage, Traces.traces_of}
-use Rattle.napt_dispatch.specs.declared.{outcome_sink.InputResult.InputResult, dispatcher.progress.{OpenInput.OpenInput, InputProgress.InputProgress}}
-use Rattle.napt_dispatch.specs.{declared.dispatcher.progress.InputProgress.TheVariants.{Awaited, Returning, Answered}, Dispatch.input_results}
+use Rattle.napt_dispatch.specs.declared.{outcome_sink.InputResult.InputResult, dispatcher.input_progress.{OpenInput.OpenInput, InputProgress.InputProgress}}
+use Rattle.napt_dispatch.specs.{declared.dispatcher.input_progress.InputProgress.TheVariants.{Awaited, Returning, Answered}, Dispatch.input_results}
 
 -- The results that left the window, each with its arrival time in ns, and then the open inputs, all in input order.
 pub record RunProgressModel (P : Type 0) : Type 0 where

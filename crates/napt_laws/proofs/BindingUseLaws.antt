@@ -4,8 +4,8 @@ use Rattle.std.specs.Option.{option_map}
 use Rattle.napt_wire.specs.declared.Kind.TheVariants.{Udp, Tcp, Echo, ErrorOf}
 use Rattle.napt_rules.specs.declared.{AssignmentRules.AssignmentRules, InboundRules.InboundRules, OutboundPacket.OutboundPacket, InboundPacket.InboundPacket, Leg.Leg, End.TheVariants.Dropped}
 use Rattle.napt_rules.specs.Prelude.{Binding, purge, live_and_held, permits, inbound_rules, is_of_source, binding_after_out, new_binding, OutboundEffect, out_made, granted_again, out_found, step_out, is_of_destination, binding_after_in, InboundEffect, in_found, step_in, AreTimers, Timers, onward_end, end_out, end_in, outbound_packet, inbound_packet, LegEffect, act_by, Cause, Way, Outgoing, Incoming, Kind, kind, is_error, Rules, assignment_rules}
-use Rattle.napt_laws.{specs.BindingUses.{BindingUseIsSaid, OutboundNamesItsBinding, InboundNamesItsBinding, ErrorsGoThroughNone, DroppedGoThroughNone}, proofs.Acts.of_act}
-use Rattle.napt_laws.proofs.{Endpoints.inside_it, Finds.{find_changed, find_pushed}, StepCases.in_passed, StepsLive.{sent_seen, made_is_seen, received_seen}, SeenElements.purge_taken}
+use Rattle.napt_laws.{specs.BindingUses.{BindingUseIsSaid, OutboundNamesItsBinding, InboundNamesItsBinding, ErrorsGoThroughNone, DroppedGoThroughNone}, proofs.LegCases.of_act}
+use Rattle.napt_laws.proofs.{Endpoints.inside_it, UniqueSearches.{find_changed, find_pushed}, StepCases.in_passed, StepsLive.{sent_seen, made_is_seen, received_seen}, SeenElements.purge_taken}
 
 -- OUTGOING PACKETS
 

@@ -5,7 +5,7 @@ use Rattle.napt_rules.specs.declared.{AssignmentRules.AssignmentRules, InboundRu
 use Rattle.napt_rules.specs.Prelude.{Binding, Each, change_first, same_protocol, same_endpoint, is_live, with_live_flows, purge, hold_ago, live_and_held, permits, is_of_source, is_of_live_source, binding_after_out, live_binding_after_out, other_bindings, new_binding, OutboundEffect, out_made, granted_again, out_found, out_taken, is_of_destination, is_of_live_destination, live_binding_after_in, InboundEffect, in_found, row, AreRowsApart, AreBindingsApart, IsSound, AreTimers, Timers, Cause}
 use Rattle.napt_rules.proofs.Life.{lived, live_same}
 use Rattle.napt_laws.specs.HoldTimes.{Holder, HaveSameEnds, have_same_ends, holder_after, holders_after, AreHoldersApart, HoldersStayApart, HasOne, HolderCoversBinding, IsAccounted, AreBindingsAccounted, OutKeepsAccounts, InKeepsAccounts, AccountsBegin, HeldTimesAreFar}
-use Rattle.napt_laws.proofs.{Lists.{each_pushed, each_weaker, find_passes, find_none, any_none, each_true}, Finds.Once, HeldNumbers.each_rows, StepCases.in_passed}
+use Rattle.napt_laws.proofs.{Lists.{each_pushed, each_weaker, find_passes, find_none, any_none, each_true}, UniqueSearches.Once, HeldNumbers.each_rows, StepCases.in_passed}
 use Rattle.napt_laws.proofs.Endpoints.{inside_parts, protocol_is, same_itself, end_itself, end_is, once_inside}
 use Rattle.napt_laws.proofs.{SeenElements.{ago_before, ago_later, find_seen}, StepRows.rows_push, StepsSound.{purge_stays_sound, out_stays_sound}}
 use Rattle.napt_laws.proofs.StepsLive.{sent_is_fresh, made_is_fresh, received_is_fresh}

@@ -3,7 +3,7 @@ use Rattle.std.proofs.Common.{◌≡◌, ℕ, Bool, false, not, List, [], ◌∷
 use Rattle.std.proofs.lemmas.Bool.{or_parts}
 use Rattle.napt_rules.specs.Prelude.{Binding, Each, is_live, with_live_flows, purge, is_of_source, other_bindings, granted_again, block_of, inbound_rules, candidates, is_free, redirect_binding, opening, new_binding, row, LegEffect, outbound_packet, inbound_packet, act_out, act_in, act_by, Arrival, run_from, IsBlockNumber, IsInItsBlock, RunsKeepToBlocks, Protocol, Way, Flags, Kind, kind, Rules, RulesInvariant, IsPortBlock, pair_of, PortBlock, NumberAssignment, Endpoint, Redirect, assignment_rules}
 use Rattle.napt_rules.specs.declared.{OutboundPacket.OutboundPacket, Row.Row, Leg.Leg}
-use Rattle.napt_laws.proofs.{Acts.of_act, Blocks.each_of_block, Lists.{each_pushed, each_kept, find_passes}, Quotas.granted_is_chosen, HeldNumbers.each_rows, Endpoints.inside_parts, SeenElements.ended}
+use Rattle.napt_laws.proofs.{LegCases.of_act, Blocks.each_of_block, Lists.{each_pushed, each_kept, find_passes}, Quotas.granted_is_chosen, HeldNumbers.each_rows, Endpoints.inside_parts, SeenElements.ended}
 use Rattle.napt_laws.proofs.{StepRows.{out_keeps, in_keeps}, RunInduction.run_keeps}
 
 -- A candidate is a number of the host's block, if it has one.

@@ -7,8 +7,8 @@ use Rattle.napt_rules.specs.Prelude.{Binding, change_first, has_number, is_of_in
 use Rattle.napt_rules.specs.Quota.{assigned_number}
 use Rattle.napt_rules.specs.declared.{AssignmentRules.AssignmentRules, InboundRules.InboundRules, OutboundPacket.OutboundPacket, InboundPacket.InboundPacket, Leg.Leg, Row.Row}
 use Rattle.napt_config.specs.declared.settings.Timers.{Timers}
-use Rattle.napt_laws.proofs.{Lists.find_agree, Finds.{Once, passes}, SeenElements.{find_seen, purge_taken}, Endpoints.{once_inside, once_number}, StepsSound.purge_stays_sound}
-use Rattle.napt_laws.proofs.{Shuffles.{filter_moved, find_once}, AlikeLists.{filter_of, any_of_all, find_of, once_of, changed_last, alike_taken, alike_put}}
+use Rattle.napt_laws.proofs.{Lists.find_agree, UniqueSearches.{Once, passes}, SeenElements.{find_seen, purge_taken}, Endpoints.{once_inside, once_number}, StepsSound.purge_stays_sound}
+use Rattle.napt_laws.proofs.{Permutations.{filter_moved, find_once}, AlikeLists.{filter_of, any_of_all, find_of, once_of, changed_last, alike_taken, alike_put}}
 
 -- THE ROWS OF A LIST, in any order, determine whether a number is assigned and which
 

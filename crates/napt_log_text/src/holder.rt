@@ -3,7 +3,7 @@ ghost use Rattle.std.specs.Prelude.{◌≡◌, ◌++◌, OnOk, false, option_map
 ghost use Rattle.napt_log_text.specs.Holders as holders;
 
 use crate::digits::{add_address, add_endpoint, add_number};
-use crate::moment::TimeStamp;
+use crate::time_stamp::TimeStamp;
 use crate::request::{NearestEntries, Request, TimeSpan};
 use napt_account::{Entry, Party};
 use napt_config::Config;

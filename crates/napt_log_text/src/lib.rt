@@ -10,7 +10,7 @@ mod json_object;
 mod log_reader;
 mod log_row;
 mod log_rows;
-mod moment;
+mod time_stamp;
 mod request;
 mod suffix;
 
@@ -24,6 +24,6 @@ pub use log_rows::{
     add_first, add_living, add_opening, add_part, begins_piece, effects_have_the_rows, log_grows,
     logs_join,
 };
-pub use moment::TimeStamp;
+pub use time_stamp::TimeStamp;
 pub use napt_account::LogEntry;
 pub use request::{NearestEntries, Request, TimeSpan};

@@ -8,7 +8,7 @@ use crate::files::RunFiles;
 use crate::log_file::LogOutput;
 use crate::stop::{MEMORY, Stop};
 use either::{Either, Left, Right};
-use napt_capture::{EmptySource, NullSink, ROOM, Watched};
+use napt_capture::{EmptySource, NullSink, READ_AHEAD_BYTES, Watched};
 use std::alloc::Global;
 use std::io::{BufReader, BufWriter, Read, Write};
 
@@ -17,7 +17,7 @@ pub(crate) const BUFFERED: usize = 65_536;
 
 /// The size of an output's buffer in bytes if there is a log. Between two flushes no more bytes
 /// come than both captures read ahead, so none is written before the log has been flushed.
-pub(crate) const HELD: usize = 2 * ROOM;
+pub(crate) const HELD: usize = 2 * READ_AHEAD_BYTES;
 
 /// A device for each file of a run, as `RunFiles` names them. `EmptySource` replaces a capture that
 /// was not given, and `NullSink` an output that was not requested.

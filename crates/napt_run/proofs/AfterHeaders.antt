@@ -15,12 +15,12 @@ use Rattle.napt_records.proofs.ReaderRests.{StopsBy-then}
 use Rattle.napt_laws.specs.Dispatching.{IsFrontOf}
 use Rattle.napt_rules.specs.Prelude.{Arrival}
 use Rattle.napt_sequential.specs.Inputs.{InputsCame}
-use Rattle.napt_run.{specs.OutputSinks.{AreTimes, FailsBy, FailsToBegin, IsNew, IsSettled, SinkBegins, SinkTakes, TimedOutcome, records_text}, proofs.Fronts.{capture_is, front_of, times_of}}
-use Rattle.napt_run.specs.{OutputSinkLaws.{appends_none, breaks_more, grows_more, grows_none, records_text-append, times_first, times_second}, Outputs.{Breaks, OutputGrows}}
+use Rattle.napt_run.{specs.OutcomeWriters.{AreTimes, FailsBy, FailsToBegin, IsNew, IsSettled, SinkBegins, SinkTakes, TimedOutcome, records_text}, proofs.OutcomePrefixes.{capture_is, front_of, times_of}}
+use Rattle.napt_run.specs.{OutcomeWriterLaws.{appends_none, breaks_more, grows_more, grows_none, records_text-append, times_first, times_second}, Outputs.{Breaks, OutputGrows}}
 use Rattle.napt_run.specs.CaptureRuns.{FailsAfter, PassesAll, PassesOr, RunPassesHalted}
 use Rattle.napt_run.specs.{LogLaws.held, Posts.{AtMostOneMore, ExtentPost, FailedPost, OutputEnds, RunsTo, capture_to, may_have_ended, output_text_by}, Runs.{IfHeld, run_left_of}, Files.files_until}
-use Rattle.napt_run.specs.{Streams.{AreTaken, IsStreamFaultOf, IsOfRun, IsReading, IsSettledBy, capture_text, side_of}, declared.{output.Output.Output, output_sinks.OutcomeWriter.OutcomeWriter, capture_run.RunTotals.RunTotals}}
-use Rattle.napt_run.proofs.{OpenStreams.{ReadBy, read_somehow, read_to_fault, read_well, told}, Breaks.first_within, OutcomeCounts.all_counted, Ends.{IfHeld-by, IsCapture, broken, ends, grown, grown_if, headed, inside_is, none_held, outside_is, same_text}, Files.{begun_files, files_large}}
+use Rattle.napt_run.specs.{Streams.{AreTaken, IsStreamFaultOf, IsOfRun, IsReading, IsSettledBy, capture_text, side_of}, declared.{output.Output.Output, outcome_writer.OutcomeWriter.OutcomeWriter, capture_run.ReportData.ReportData}}
+use Rattle.napt_run.proofs.{OpenStreams.{ReadBy, read_somehow, read_to_fault, read_well, told}, LaterBreaks.first_within, OutcomeCounts.all_counted, Ends.{IfHeld-by, IsCapture, broken, ends, grown, grown_if, headed, inside_is, none_held, outside_is, same_text}, Files.{begun_files, files_large}}
 
 -- WHAT IS KNOWN OF THE CAPTURES
 
@@ -196,7 +196,7 @@ module _ {R Q : Type 0} {G : source.Ghosts R} {H : source.Ghosts Q} (begin end :
 
 module _ {W V : Type 0} {S : sink.Ghosts W} {T : sink.Ghosts V} (origin : OriginModel) (bytes others : Option (List ℕ))
     (start new : OutcomeWriter W V S T) where
-  abbrev pub To : Result RunTotals Fault → Type 0
+  abbrev pub To : Result ReportData Fault → Type 0
   To result = RunsTo origin bytes others start new result
 
   abbrev GrownOutside : List Arrival → Type 0
@@ -280,7 +280,7 @@ module _ {W V : Type 0} {S : sink.Ghosts W} {T : sink.Ghosts V} (origin : Origin
 pub none_read : {W V : Type 0} {S : sink.Ghosts W} {T : sink.Ghosts V} (start new : OutcomeWriter W V S T)
     (fault : Fault) →
     FailsToBegin start fault new →
-    (let told : Result RunTotals Fault = Err fault in IsReading told (Ok tt))
+    (let told : Result ReportData Fault = Err fault in IsReading told (Ok tt))
 none_read start new (Write Outside fault) p = tt
 none_read start new (Write Inside fault) p = tt
 none_read start new (Write Report fault) p = absurd p
@@ -326,7 +326,7 @@ module _ {R Q W V : Type 0} {G : source.Ghosts R} {H : source.Ghosts Q} {S : sin
       new.to_inside begins.to_inside (subst (λ (l : List TimedOutcome). OutputGrows mid.to_inside
       (records_text sides.Inside l) new.to_inside) is p)
 
-  well : (totals : RunTotals) → PassesAll origin begin mid end new totals →
+  well : (totals : ReportData) → PassesAll origin begin mid end new totals →
       RunsTo origin bytes others start new (Ok totals)
   well totals p =
       let whole = p.well.whole in
@@ -505,7 +505,7 @@ module _ {R Q W V : Type 0} {G : source.Ghosts R} {H : source.Ghosts Q} {S : sin
     told = tt;
   }
 
-  pub runs_to : (result : Result RunTotals Fault) → PassesOr origin begin mid end new result →
+  pub runs_to : (result : Result ReportData Fault) → PassesOr origin begin mid end new result →
       RunsTo origin bytes others start new result
   runs_to (Ok totals) p = well totals p
   runs_to (Err (Capture side fault)) p =
@@ -534,7 +534,7 @@ module _ {R Q W V : Type 0} {G : source.Ghosts R} {H : source.Ghosts Q} {S : sin
     (origin : OriginModel) (begin end : StreamMerger R Q G H) (mid new : OutcomeWriter W V S T)
     (live : IsMergerLive begin)
   where
-    pub reads_of : (result : Result RunTotals Fault) → PassesOr origin begin mid end new result →
+    pub reads_of : (result : Result ReportData Fault) → PassesOr origin begin mid end new result →
         (¬ IsOfRun result) → (read : Result (Unit {0}) Fault) × IsReading result read × ReadBy begin end live read
     reads_of (Ok totals) p not_run = (Ok tt, refl, read_well begin end live p.well.whole.inputs p.well.whole.came)
     reads_of (Err (Capture side fault)) p not_run =

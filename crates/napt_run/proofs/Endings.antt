@@ -10,16 +10,16 @@ use Rattle.napt_wire.specs.declared.Side.TheVariants as sides
 use Rattle.napt_rules.specs.{Prelude.{Arrival}, declared.Outcome.Outcome}
 use Rattle.napt_run.specs.{Captures.{failed_readings, failed_writings}, LogLaws.held, Posts.IsBeforeReport, Runs.{IfHeld, IsToldOf}}
 use Rattle.napt_run.specs.Streams.{GetsReport, HasRead, IsOfRun, IsReportFault, LeavesInTheEnd, ReportGetsFrom, Reports, ReportsAll}
-use Rattle.napt_run.{specs.declared.capture_run.RunTotals.RunTotals, proofs.Ends.IfHeld-all}
+use Rattle.napt_run.{specs.declared.capture_run.ReportData.ReportData, proofs.Ends.IfHeld-all}
 use Rattle.napt_sequential.specs.declared.fault.RunFault.TheVariants as faults
 
 -- THE REPORT
 
-abbrev Written : RunTotals → Result (Unit {0}) Fault → Option (List ℕ) → Option (List ℕ) → Type 0
+abbrev Written : ReportData → Result (Unit {0}) Fault → Option (List ℕ) → Option (List ℕ) → Type 0
 Written totals result old new = (outcomes : List Outcome) → AreCountsOf outcomes totals.counts →
     GetsReport (report_of totals.cuts.inside totals.cuts.outside outcomes totals.passed.bindings.items) result old new
 
-text_told : (origin : OriginModel) (totals : RunTotals) (inputs : List Arrival) →
+text_told : (origin : OriginModel) (totals : ReportData) (inputs : List Arrival) →
     totals.passed.bindings.items ≡ (ran_by origin inputs).bindings →
     report_of totals.cuts.inside totals.cuts.outside (ran_by origin inputs).outcomes totals.passed.bindings.items
     ≡ report_text totals.cuts.inside totals.cuts.outside (ran_by origin inputs)
@@ -27,7 +27,7 @@ unfolding report_text
 text_told origin totals inputs is = grind (arith, common_steps, nat_tests)
 
 all_reported : (origin : OriginModel) (inside outside : Option (List ℕ)) (old new : Option (List ℕ))
-    (totals : RunTotals) (result : Result (Unit {0}) Fault) → IsToldOf origin inside outside totals →
+    (totals : ReportData) (result : Result (Unit {0}) Fault) → IsToldOf origin inside outside totals →
     Written totals result old new → IfHeld inside outside (λ all. ReportsAll origin result all old new)
 all_reported origin inside outside old new totals result told written =
     held (λ all. all ≡ record { arrivals = told.inputs; end = Ok totals.cuts })
@@ -38,7 +38,7 @@ all_reported origin inside outside old new totals result told written =
           (written (ran_by origin told.inputs).outcomes told.counts),
     )) told.all
 
-reported : (origin : OriginModel) (inside outside : Option (List ℕ)) (old new : Option (List ℕ)) (totals : RunTotals)
+reported : (origin : OriginModel) (inside outside : Option (List ℕ)) (old new : Option (List ℕ)) (totals : ReportData)
     (fault : Fault) → IsReportFault fault → IsToldOf origin inside outside totals →
     Written totals (Err fault) old new → Reports origin (Err fault) inside outside old new
 reported origin inside outside old new totals (Write Report fault) report told written =
@@ -65,7 +65,7 @@ module _ {U : Type 0} (S : Ghosts U) (origin : OriginModel) (inside outside : Op
     settled = tt;
   }
 
-  module _ (old new : U) (totals : RunTotals) (told : IsToldOf origin inside outside totals) where
+  module _ (old new : U) (totals : ReportData) (told : IsToldOf origin inside outside totals) where
     -- The report could not be made or written.
     pub report_failed : (fault : Fault) → IsReportFault fault →
         Written totals (Err fault) (S.contents old) (S.contents new) →
@@ -87,7 +87,7 @@ module _ {U : Type 0} (S : Ghosts U) (origin : OriginModel) (inside outside : Op
     }
 
 -- The value that gives the state that is left.
-pub left_told : (origin : OriginModel) (inside outside : Option (List ℕ)) (totals : RunTotals) →
+pub left_told : (origin : OriginModel) (inside outside : Option (List ℕ)) (totals : ReportData) →
     IsToldOf origin inside outside totals → LeavesInTheEnd origin inside outside totals.passed
 left_told origin inside outside totals told = grind (arith, common_steps, nat_tests, held)
 

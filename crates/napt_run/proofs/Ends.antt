@@ -7,8 +7,8 @@ use Rattle.napt_records.specs.{RecordMerging.MergedInputs, declared.{Fault.{Faul
 use Rattle.napt_rules.specs.Prelude.{Arrival}
 use Rattle.napt_sequential.specs.declared.fault.RunFault.TheVariants.{Memory, TooMany, Pool}
 use Rattle.napt_run.specs.{Files.files_until, LogLaws.after_success, LogOrigins.LogTexts, Origins.OriginModel, Outputs.{Breaks, OutputGrows}}
-use Rattle.napt_run.specs.{Posts.{AtMostOneMore, CapturePost, ExtentPost, FailedPost, FailedWrites, FaultPost, IsBeforeReport, IsBegun, IsEndFault, IsTextFault, OutputEnds, OutputPost, SinkPost, WriteExtent, capture_to, output_text_by, text_if}, OutputSinks.records_text, Runs.{IfHeld, run_left_of}}
-use Rattle.napt_run.{specs.{Streams.{IsOfRun, IsReportFault, IsSettledBy, capture_text, side_of}, declared.output.Output.Output}, proofs.Fronts.capture_is}
+use Rattle.napt_run.specs.{Posts.{AtMostOneMore, CapturePost, ExtentPost, FailedPost, FailedWrites, FaultPost, IsBeforeReport, IsBegun, IsEndFault, IsTextFault, OutputEnds, OutputPost, SinkPost, WriteExtent, capture_to, output_text_by, text_if}, OutcomeWriters.records_text, Runs.{IfHeld, run_left_of}}
+use Rattle.napt_run.{specs.{Streams.{IsOfRun, IsReportFault, IsSettledBy, capture_text, side_of}, declared.output.Output.Output}, proofs.OutcomePrefixes.capture_is}
 
 -- WHAT IS KNOWN OF THE CAPTURES
 

@@ -33,10 +33,10 @@ inside_refused inside left outside fault heads b o is same =
     (subst (λ (k : Option (List ℕ)). HeadsBadly k left fault) is heads)
 
 -- The header of the inside capture is then right.
-pub outside_refused : (inside left known other : Option (List ℕ)) (spelling : CaptureFormat) (fault : CaptureFault) →
-    Heads inside left (Ok spelling) → HeadsBadly known other fault → EndsAtHeader sides.Outside fault inside known
-outside_refused inside left known other spelling fault good bad b o is same =
-    let first = spelled b left (Ok spelling) (subst (λ (k : Option (List ℕ)). Heads k left (Ok spelling)) is good) in
+pub outside_refused : (inside left known other : Option (List ℕ)) (format : CaptureFormat) (fault : CaptureFault) →
+    Heads inside left (Ok format) → HeadsBadly known other fault → EndsAtHeader sides.Outside fault inside known
+outside_refused inside left known other format fault good bad b o is same =
+    let first = spelled b left (Ok format) (subst (λ (k : Option (List ℕ)). Heads k left (Ok format)) is good) in
     StopsBy-says RecordReader fault (λ (p : Heads (Some o) other (Err fault)).
     ap (λ r. unless_bad sides.Inside r (unless_refused sides.Outside o (all_of b o))) first
     ∙ ap (λ r. unless_bad sides.Outside r (all_of b o)) (spelled o other (Err fault) p))

@@ -3,13 +3,13 @@ pub mod JoinedTexts
 pub mod Pieces
 pub mod OutcomeCounts
 pub mod PassesAll
-pub mod Breaks
-pub mod Entering
-pub mod Fronts
+pub mod LaterBreaks
+pub mod InputRowWrites
+pub mod OutcomePrefixes
 pub mod TraceFronts
 pub mod Files
 pub mod AfterHeaders
-pub mod BothPassed
+pub mod OutputsAndLogOfRun
 pub mod OpenStreams
 pub mod Headers
 pub mod Ends

@@ -12,7 +12,7 @@ use Rattle.napt_log_text.specs.{Logs.{living_rows, rows_from}, Times.TimeText}
 use Rattle.napt_records.specs.{RecordMerging.MergedInputs, declared.{Fault.{Fault, TheVariants.{Capture, Run, Write}}, Which.TheVariants.{Outside, Inside, Report, Log}, stream_merger.CutFlags.CutFlags}}
 use Rattle.napt_rules.specs.Prelude.{Arrival, Binding, RunEffect, Rules, last_clock, step}
 use Rattle.napt_sequential.{specs.{Traces.traces_from, declared.{fault.RunFault.{RunFault, TheVariants.{Memory, TooMany, Pool}}, passage.{Passage.Passage, Trace.Trace}}}, proofs.JoinedSteps.traces_long}
-use Rattle.napt_run.specs.{LogLaws.held, OutputSinkLaws.{breaks_more, grows_more}, Outputs.{Breaks, OutputGrows}, Origins.OriginModel}
+use Rattle.napt_run.specs.{LogLaws.held, OutcomeWriterLaws.{breaks_more, grows_more}, Outputs.{Breaks, OutputGrows}, Origins.OriginModel}
 use Rattle.napt_run.specs.{LogRuns.{EntersAll, EntersFront, LogFailsOver, Legs, LogsTo, legs_told, traces_by}, LogOrigins.{LoggedOrigin, ending, text_so_far, texts_of, whole_text}, Logs.{LogPost}}
 use Rattle.napt_run.specs.{Posts.{AtMostOneMore, ExtentPost, FailedPost, FaultPost, OutputEnds, may_have_ended, text_if}, Runs.IfHeld, Streams.{AreTaken, IsSettledBy}}
 use Rattle.napt_run.specs.RunningLogs.{Adds, Closes, Enters, FlushPost, IsReady, LogFails, FailsBy, LogGoesOnFrom, FailsMore, IsAfterFault, LogHalts, LogIsAt, Opens, ending_with, left_with, rows_in, running_log_of, running_log_traces, last_trace_time}

@@ -4,7 +4,7 @@ use Rattle.std.proofs.Common.{◌≡◌, ℕ, ◌-◌, ◌^◌, ◌<◌, List, [
 use Rattle.napt_capture.specs.{Text.{entry_of_packet, record_text}, declared.{device.Sink.Ghosts, fault.WriteFault.WriteFault}}
 use Rattle.napt_rules.specs.declared.Outcome.{Outcome, TheVariants.{ToOutside, ToInside}}
 use Rattle.napt_records.specs.{Counts.AreCountsOf, Output.IsTime, declared.{report.OutcomeCounts.OutcomeCounts, Which.TheVariants.{Outside, Inside}}}
-use Rattle.napt_run.specs.{Outputs.{OutputGrows, Breaks}, OutputSinks.{AreTimes, SinkTakes, SinkFails, named}, declared.{output.Output.Output, output_sinks.OutcomeWriter.OutcomeWriter}}
+use Rattle.napt_run.specs.{Outputs.{OutputGrows, Breaks}, OutcomeWriters.{AreTimes, SinkTakes, SinkFails, named}, declared.{output.Output.Output, outcome_writer.OutcomeWriter.OutcomeWriter}}
 
 time_of_one : (time : ℕ) (outcome : Outcome) → AreTimes ((time, outcome) ∷ []) → IsTime time
 time_of_one time outcome all = All-head (λ timed. IsTime timed.0) (time, outcome) [] all

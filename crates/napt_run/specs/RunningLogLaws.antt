@@ -6,7 +6,7 @@ use Rattle.napt_account.{specs.{Effects.log_after, Log.{LogModel, after_input}, 
 use Rattle.napt_log_text.specs.{Logs.{part_rows, piece_opening, rows_by}, Times.TimeText}
 use Rattle.napt_records.specs.declared.{Fault.{Fault, TheVariants.{Capture, Run, Write}}, Which.TheVariants.{Outside, Inside, Report, Log}}
 use Rattle.napt_sequential.specs.declared.passage.{Passage.Passage, Trace.Trace}
-use Rattle.napt_run.specs.{OutputSinkLaws.{breaks_more, grows_more, grows_none}, LogRuns.Legs, Outputs.{Breaks, OutputGrows}}
+use Rattle.napt_run.specs.{OutcomeWriterLaws.{breaks_more, grows_more, grows_none}, LogRuns.Legs, Outputs.{Breaks, OutputGrows}}
 use Rattle.napt_run.specs.{LogOrigins.LoggedOrigin, RunningLogs.{Enters, LogFails, FailsBy, LogIsAt, known_logs, last_time, rows_in, running_log_traces, last_trace_time}, declared.log_writer.LogWriter.LogWriter}
 
 traces_join : (xs ys : List (Legs Passage)) → running_log_traces (xs ++ ys) ≡ running_log_traces xs

@@ -10,9 +10,9 @@ ghost use Rattle.napt_records.specs.Faults.{is_shut_gate_fault};
 use crate::buffered_text::BufferedText;
 use crate::devices::Devices;
 use crate::run_end::RunEnd;
-use crate::start::{OriginSetting, Start};
+use crate::start::{RunSetting, Start};
 use crate::stream_log::NoLog;
-use crate::whole_captures::RunTally;
+use crate::whole_captures::ReportTally;
 use napt_account::OpenLog;
 use napt_capture::{Capture, Sink, Source, Watched, read_capture, write_text};
 use napt_dispatch::RunSummary;
@@ -72,7 +72,7 @@ impl CaptureFiles {
 
 /// Runs over the captures, and makes all outputs in memory.
 fn make_outputs<T: Threads + Wait + Copy + Send + 'static, G: Gate + Send + Sync + Drop + 'static>(
-    setting: OriginSetting<'_, '_, T, G>,
+    setting: RunSetting<'_, '_, T, G>,
     captures: CaptureFiles,
 ) -> Result<CaptureOutputs, RunFault>
     requires inside { All IsWritable captures.inside.records }
@@ -89,7 +89,7 @@ fn make_outputs<T: Threads + Wait + Copy + Send + 'static, G: Gate + Send + Sync
     let inputs = RecordMerger::new(inside.records, outside.records);
     let mut to_outside = Watched::new(BufferedText::new(alloc)?);
     let mut to_inside = Watched::new(BufferedText::new(alloc)?);
-    let RunTally { counts, passed } = setting.run_into(inputs, &mut to_outside, &mut to_inside)?;
+    let ReportTally { counts, passed } = setting.run_into(inputs, &mut to_outside, &mut to_inside)?;
     let report = report_of(alloc, &counts, &passed.bindings, inside.cut, outside.cut)?;
     Ok(CaptureOutputs {
         to_outside: to_outside.into_inner(),
@@ -256,7 +256,7 @@ fn run_whole<
     let inside = read_side(alloc, Side::Inside, inside)?;
     let outside = read_side(alloc, Side::Outside, outside)?;
     let captures = CaptureFiles { inside, outside };
-    let setting = OriginSetting {
+    let setting = RunSetting {
         rt,
         alloc,
         start,

@@ -4,7 +4,7 @@ ghost use Rattle.std.specs.Prelude.{◌≡◌, [], List, true, IfErr, IfOk, Matc
 ghost use Rattle.napt_rules.specs.Prelude.{TakesState};
 ghost use Rattle.napt_account.specs.{LogBuilders.part_in, LogStarts.is_saved_log_state};
 ghost use Rattle.napt_sequential.specs.declared.passage.Trace.{Trace as Did};
-ghost use Rattle.napt_run.specs.{LogOrigins.{LoggedOrigin, log_origin, texts_from, texts_of}, LogRuns.IsLogFault, Origins.origin_of, OutputSinks.named, Posts.IsTextFault, RunningLogs.{IsReady, ending_with, running_log_of}};
+ghost use Rattle.napt_run.specs.{LogOrigins.{LoggedOrigin, log_origin, texts_from, texts_of}, LogRuns.IsLogFault, Origins.origin_of, OutcomeWriters.named, Posts.IsTextFault, RunningLogs.{IsReady, ending_with, running_log_of}};
 ghost use Rattle.napt_records.specs.declared.Which.TheVariants.{Log};
 
 use crate::log_start::{LogStart, ResumedLog, log_laws, resume_log};

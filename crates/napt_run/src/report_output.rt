@@ -4,7 +4,7 @@ ghost use Rattle.napt_rules.specs.declared.Outcome.{Outcome};
 ghost use Rattle.napt_records.specs.{Counts.AreCountsOf, Report.report_of};
 ghost use Rattle.napt_run.specs.{Captures.failed_writings, Streams.{GetsReport, IsReportFault}};
 
-use crate::capture_run::RunTotals;
+use crate::capture_run::ReportData;
 use napt_capture::{Sink, write_text};
 use napt_records::{Fault, Which, report_of};
 use napt_sequential::RunFault;
@@ -14,7 +14,7 @@ use std::alloc::Global;
 pub(crate) fn write_report<U: Sink>(
     alloc: Global,
     output: &mut U,
-    totals: &RunTotals,
+    totals: &ReportData,
 ) -> Result<(), Fault>
     ensures written { (outcomes : List Outcome) → AreCountsOf outcomes totals.now.counts →
         GetsReport (report_of totals.now.cuts.inside totals.now.cuts.outside outcomes
@@ -24,7 +24,7 @@ pub(crate) fn write_report<U: Sink>(
     ensures count { U.failed output.new ≡ U.failed output.old
         + failed_writings Which.Report result }
 {
-    let RunTotals {
+    let ReportData {
         counts,
         passed,
         cuts,

@@ -38,8 +38,8 @@ pub(crate) fn at_most(most: usize, call: u64, trouble: InjectedFault) -> FaultPl
 {
     FaultPlan {
         most: most.max(1),
-        call,
-        trouble,
+        failing_call: call,
+        fault: trouble,
     }
 }
 
@@ -60,7 +60,7 @@ fn plan_of(plans: &[(Device, FaultPlan)], device: Device) -> FaultPlan
             found = *plan;
         }
     }
-    at_most(found.most, found.call, found.trouble)
+    at_most(found.most, found.failing_call, found.fault)
 }
 
 /// The call of a program: `napt` reads whole captures, `stream` in steps, with or without a log.

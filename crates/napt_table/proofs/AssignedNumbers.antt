@@ -7,10 +7,10 @@ use Rattle.napt_rules.specs.declared.{AssignmentRules.AssignmentRules, OutboundP
 use Rattle.napt_rules.specs.Prelude.{Binding, change_first, is_live, with_live_flows, purge, hold_ago, live_and_held, choice, count_for, reaches_quota, has_number, is_of_source, binding_after_out, new_binding, OutboundEffect, out_made, granted_again, out_found, out_taken, row, AreBindingsApart}
 use Rattle.napt_table.specs.{declared.bindings.keys.ExternalNumberKey.ExternalNumberKey, Keys.{key_eq, external_key}, HeldLists.{seen_binding, ShowsHeld}}
 use Rattle.napt_table.specs.BindingIndexes.{BindingIndexModel, held_binding, held_at, count_all, HasInside, IsNumberOf, IsNamed, HasNoInside, HoldsSame, KeepsSeen, WentThrough, HasNone}
-use Rattle.napt_table.specs.Bindings.{BindingsModel, AllShow, AllKeep, KeepsUnseen, BindingsUnchanged, IsPurged, shown_made, NewBindingOk, RenewedBindingOk}
+use Rattle.napt_table.specs.Bindings.{BindingsModel, ListShowsStored, ListAgrees, KeepsUnseen, BindingsUnchanged, IsPurged, shown_made, NewBindingOk, RenewedBindingOk}
 use Rattle.napt_table.proofs.{Hosts.count_is_held, SeenBindings.{seen_is, seen_seen, found_seen}, Keys.{by_key, at_key, key_number, past_key}}
 use Rattle.napt_table.proofs.{Steps.{by_protocol, sent_others}, OutboundSteps.{found, parts, known_shows, not_found, made_shows}, HeldThroughTime.{live_apart, keeps_on, out_stays}}
-use Rattle.napt_laws.proofs.{Endpoints.{not_has, inside_it, inside_parts, has_it, once_inside, once_number}, Finds.{passes, find_same, find_passed_over}}
+use Rattle.napt_laws.proofs.{Endpoints.{not_has, inside_it, inside_parts, has_it, once_inside, once_number}, UniqueSearches.{passes, find_same, find_passed_over}}
 use Rattle.napt_laws.proofs.{SeenElements.ago_before, StepsLive.{sent_seen, made_is_seen}}
 
 -- The row of a live binding is visible.
@@ -66,7 +66,7 @@ keeps_then timers at a b c p q = record {
 module _ (timers : Timers) (t : AreTimers timers) (granting : AssignmentRules) (packet : OutboundPacket)
     (old new : BindingIndexModel)
     (named : IsNamed old) (number : ℕ) (went : WentThrough timers packet old new number) (list : List Binding)
-    (apart : AreBindingsApart (map row list)) (keeps : AllKeep timers packet.now old.address old list) where
+    (apart : AreBindingsApart (map row list)) (keeps : ListAgrees timers packet.now old.address old list) where
   abbrev live : List Binding
   live = purge timers packet.now list
 
@@ -105,7 +105,7 @@ module _ (timers : Timers) (t : AreTimers timers) (granting : AssignmentRules) (
   left_is = ap (λ (o : OutboundEffect). purge timers packet.now o.list) out_is
       ∙ sent_seen timers t old.address packet list
 
-  went_shows : AllShow timers packet.now old.address new
+  went_shows : ListShowsStored timers packet.now old.address new
       (change_first (is_of_source old.address packet) (binding_after_out packet) live)
   went_shows q = by_protocol packet.protocol q (λ r. ShowsHeld timers packet.now old.address r (held_at new r)
       (change_first (is_of_source old.address packet) (binding_after_out packet) live))
@@ -124,16 +124,16 @@ module _ (timers : Timers) (t : AreTimers timers) (granting : AssignmentRules) (
       (λ d h. ap (seen_binding timers at) (went.one.others k d)) none
 
   pub went_keeps : AreBindingsApart (map row (out_taken timers granting old.address packet list).list) →
-      AllKeep timers packet.now old.address new (out_taken timers granting old.address packet list).list
+      ListAgrees timers packet.now old.address new (out_taken timers granting old.address packet list).list
   went_keeps left =
       keeps_on timers packet.now old.address old new list (out_taken timers granting old.address packet list).list left
-      keeps.held (subst (AllShow timers packet.now old.address new) (sym left_is) went_shows) went_unseen
+      keeps.held (subst (ListShowsStored timers packet.now old.address new) (sym left_is) went_shows) went_unseen
       (λ q n. out_stays timers t old.address list q n granting packet apart left)
 
 -- A PACKET WHOSE INSIDE ENDPOINT HAS NO LIVE BINDING
 
 pub none_live : (timers : Timers) (packet : OutboundPacket) (old new : BindingIndexModel) → IsNamed old → HasNone timers packet old new →
-    (list : List Binding) → AreBindingsApart (map row list) → AllKeep timers packet.now old.address old list →
+    (list : List Binding) → AreBindingsApart (map row list) → ListAgrees timers packet.now old.address old list →
     find (is_of_source old.address packet) (purge timers packet.now list) ≡ None
 none_live timers packet old new named none list apart keeps =
     not_found timers old.address packet (held_at old packet.protocol) (purge timers packet.now list)
@@ -145,12 +145,12 @@ none_live timers packet old new named none list apart keeps =
 
 pub made_all : (timers : Timers) (address : ℕ) (packet : OutboundPacket) (old new : BindingIndexModel) (number : ℕ)
     (binding : Binding)
-    (list : List Binding) → AllShow timers packet.now address old list →
+    (list : List Binding) → ListShowsStored timers packet.now address old list →
     ((k : ExternalNumberKey) → held_binding new k ≡ cond (key_eq (external_key packet.protocol number) k) (Some binding)
     (held_binding old k)) → seen_binding timers packet.now (held_at old packet.protocol number) ≡ None →
     seen_binding timers packet.now (Some binding) ≡ Some
     (binding_after_out packet (new_binding address packet number)) →
-    AllShow timers packet.now address new (shown_made list address packet (Ok number))
+    ListShowsStored timers packet.now address new (shown_made list address packet (Ok number))
 made_all timers address packet old new number binding list shows holds free is q =
     let p : Protocol = packet.protocol in
     by_protocol p q (λ r. ShowsHeld timers packet.now address r (held_at new r)
@@ -246,11 +246,11 @@ module _ (old mid gone : BindingsModel) (packet : OutboundPacket) (same : Bindin
 
   module _ (t : AreTimers old.timers) (list : List Binding) (apart : AreBindingsApart (map row list))
       (is_taken : live_and_held old.timers packet.now list ≡ list)
-      (keeps : AllKeep old.timers packet.now old.held.address old.held list) where
+      (keeps : ListAgrees old.timers packet.now old.held.address old.held list) where
     abbrev address : ℕ
     address = old.held.address
 
-    gone_keeps : AllKeep old.timers packet.now address gone.held list
+    gone_keeps : ListAgrees old.timers packet.now address gone.held list
     gone_keeps = record {
       live = λ q n. keeps.live q n ∙ sym (gone_seen (external_key q n) packet.now (ago_before old.timers packet.now));
       held = λ q n at from. keeps.held q n at from ∙ sym (ap (option_map row) (gone_seen (external_key q n) at from));
@@ -327,15 +327,15 @@ module _ (old mid gone : BindingsModel) (packet : OutboundPacket) (same : Bindin
         answered : answer ≡ (out_taken old.timers old.held.granting address packet list).number
         answered = made_answer list address packet answer ∙ sym (ap (λ (o : OutboundEffect). o.number) made_is)
 
-        made_keeps : (new : BindingIndexModel) → AllShow old.timers packet.now address new
+        made_keeps : (new : BindingIndexModel) → ListShowsStored old.timers packet.now address new
             (shown_made (purge old.timers packet.now list) address packet answer) →
             KeepsUnseen old.timers packet.now gone.held new →
             AreBindingsApart (map row (out_taken old.timers old.held.granting address packet list).list) →
-            AllKeep old.timers packet.now address new (out_taken old.timers old.held.granting address packet list).list
+            ListAgrees old.timers packet.now address new (out_taken old.timers old.held.granting address packet list).list
         made_keeps new live unseen left =
             keeps_on old.timers packet.now address gone.held new list
             (out_taken old.timers old.held.granting address packet list).list left gone_keeps.held
-            (subst (AllShow old.timers packet.now address new)
+            (subst (ListShowsStored old.timers packet.now address new)
             (sym (ap (λ (o : OutboundEffect). purge old.timers packet.now o.list)
             made_is ∙ shown_is old.timers t address packet list gone_none answer)) live) unseen
             (λ q n. out_stays old.timers t address list q n old.held.granting packet apart left)
@@ -343,7 +343,7 @@ module _ (old mid gone : BindingsModel) (packet : OutboundPacket) (same : Bindin
     abbrev Out_is : BindingsModel → Result ℕ Cause → Type 0
     Out_is new answer = (let out : OutboundEffect = out_taken old.timers old.held.granting address packet list in
         AreBindingsApart (map row out.list) → (answer ≡ out.number) ×
-        AllKeep old.timers packet.now address new.held out.list)
+        ListAgrees old.timers packet.now address new.held out.list)
 
     -- The quota is reached.
     pub over_sends : HasNoInside gone.held packet.protocol packet.inside →
@@ -367,7 +367,7 @@ module _ (old mid gone : BindingsModel) (packet : OutboundPacket) (same : Bindin
         (subst (P gone.timers gone.held.granting) gone_address p))
 
     abbrev Made : BindingsModel → Result ℕ Cause → Timers → ℕ → Type 0
-    Made new answer t a = AllShow t packet.now a new.held (shown_made (purge t packet.now list) a packet answer)
+    Made new answer t a = ListShowsStored t packet.now a new.held (shown_made (purge t packet.now list) a packet answer)
         × KeepsUnseen t packet.now gone.held new.held
 
     -- The quota is not reached, so a binding is made if a number is free.
@@ -376,7 +376,7 @@ module _ (old mid gone : BindingsModel) (packet : OutboundPacket) (same : Bindin
         (new : BindingsModel) (answer : Result ℕ Cause) → NewBindingOk packet gone new answer → Out_is new answer
     begun_sends absent under new answer begins left =
         let P : Timers → AssignmentRules → ℕ → Type 0 = λ t g a. live_and_held t packet.now list ≡ list →
-        AllKeep t packet.now a gone.held list →
+        ListAgrees t packet.now a gone.held list →
         (answer ≡ ok_or (choice g.choosing packet.block list packet.protocol a packet.inside) NoPort)
         × Made new answer t a in
         let b = there P (λ k keep. let r = begins list apart k keep in (r.0, (r.1.live, r.1.unseen))) is_taken
@@ -394,7 +394,7 @@ module _ (old mid gone : BindingsModel) (packet : OutboundPacket) (same : Bindin
         RenewedBindingOk packet gone new n → Out_is new (Ok n)
     renewed_sends n has new renews left =
         let P : Timers → AssignmentRules → ℕ → Type 0 = λ t g a.
-        AllShow t packet.now a gone.held (purge t packet.now list) → Made new (Ok n) t a in
+        ListShowsStored t packet.now a gone.held (purge t packet.now list) → Made new (Ok n) t a in
         let b = there P (λ shows. let r = renews list shows in (r.live, r.unseen)) gone_keeps.live in
         let f = held_found n has in
         let granted : granted_again old.held.granting list address packet (find (is_of_source address packet) list)

@@ -2,7 +2,7 @@
 use Rattle.std.specs.{Prelude.{◌≡◌, ℕ, ◌<◌, ◌^◌, min, true, Option, Some}, Option.is_some, HashMap.spare, Map.lookup}
 use Rattle.napt_wire.specs.declared.{Protocol.Protocol, Endpoint.Endpoint}
 use Rattle.napt_rules.specs.Prelude.{Binding}
-use Rattle.napt_table.specs.{declared.bindings.{keys.ExternalNumberKey.ExternalNumberKey, binding_index.BindingIndex.TheInside.Inside}, Counts.{are_counted, count_in, host_place}}
+use Rattle.napt_table.specs.{declared.bindings.{keys.ExternalNumberKey.ExternalNumberKey, binding_index.BindingIndex.TheInside.Inside}, Counts.{are_counted, count_in, host_room}}
 use Rattle.napt_table.specs.{BindingIndexes.{BindingIndexModel, held_binding, count_all, HasInside, IsNamed}, NumbersInUse.{is_in_use, AreByProtocol}, Keys.{inside_eq, inside_key}}
 
 abbrev pub holdings_of : Inside → BindingIndexModel
@@ -10,7 +10,7 @@ holdings_of it = record {
   address = it.address;
   granting = it.granting;
   entries = it.by_number.entries;
-  room = min (spare it.by_number) (min (spare it.by_inside) (host_place it.hosts));
+  room = min (spare it.by_number) (min (spare it.by_inside) (host_room it.hosts));
 }
 
 -- Returns the number that the index has for the inside endpoint, if there is one.

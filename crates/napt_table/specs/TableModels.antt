@@ -1,7 +1,7 @@
 -- A table that is stored in maps, as contracts see it, and its invariant.
 use Rattle.std.specs.Prelude.{List, map}
 use Rattle.napt_rules.specs.Prelude.{Binding}
-use Rattle.napt_table.specs.{declared.table.Table.TheInside.Inside, Bindings.AllKeep, Events.list_after_events, Tables.{TableModel, IsTable}}
+use Rattle.napt_table.specs.{declared.table.Table.TheInside.Inside, Bindings.ListAgrees, Events.list_after_events, Tables.{TableModel, IsTable}}
 
 -- Returns the list of the contracts: the bindings at the start, after all events since then.
 abbrev pub list_of : Inside → List Binding
@@ -21,5 +21,5 @@ table_model table = record {
 
 pub record KeepsItsList (table : Inside) : Type 0 where
   pub state : IsTable (table_model table)
-  pub keeps : AllKeep table.bindings.timers table.bindings.at table.bindings.held.address table.bindings.held
+  pub keeps : ListAgrees table.bindings.timers table.bindings.at table.bindings.held.address table.bindings.held
       (list_of table)

@@ -48,8 +48,8 @@ impl Refusal {
         let call = if self.device == device { self.call } else { 0 };
         FaultPlan {
             most: AT_ONCE,
-            call,
-            trouble: self.trouble,
+            failing_call: call,
+            fault: self.trouble,
         }
     }
 }

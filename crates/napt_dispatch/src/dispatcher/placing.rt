@@ -4,14 +4,14 @@ ghost use Rattle.std.specs.Prelude.{◌≡◌, ◌+◌, ◌<◌, ◌≤◌, ◌�
 ghost use Rattle.napt_wire.specs.{declared.Side.TheVariants.Inside as InsideSide, Fields.destination, Packet.IsPacket, Reading.reading};
 ghost use Rattle.napt_config.specs.Rules.{RulesInvariant, pool_place};
 ghost use Rattle.napt_rules.specs.Prelude.{way_from, served_at, admission_as};
-ghost use Rattle.napt_dispatch.specs.{declared.dispatcher.holding.PendingLeg.TheVariants.Ready, Dispatch.IsDispatchFault};
+ghost use Rattle.napt_dispatch.specs.{declared.dispatcher.pending_leg.PendingLeg.TheVariants.Ready, Dispatch.IsDispatchFault};
 ghost use Rattle.napt_dispatch.specs.{WorkerQueues.{AllHold, held_count, only_at, lane_at}, RunProgresses.{progress_in, progress_refused, IsUnmarked, ProgressIsWritten}};
 ghost use Rattle.napt_dispatch.specs.DispatcherInvariants.{journal_of, Admits};
 ghost use Rattle.napt_sequential.specs.declared.passage.Passage.TheVariants.{Nothing as NoPassage};
 
 use crate::dispatcher::Dispatcher;
-use crate::dispatcher::holding::PendingLeg;
-use crate::dispatcher::progress::InputProgress;
+use crate::dispatcher::pending_leg::PendingLeg;
+use crate::dispatcher::input_progress::InputProgress;
 use crate::faults::ImpossibleAnswer;
 use napt_config::Config;
 use napt_sequential::{Input, LegTrace, RunFault, places_stand_for_legs, right_answers, way_from};

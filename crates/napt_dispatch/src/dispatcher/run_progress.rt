@@ -7,7 +7,7 @@ ghost use Rattle.napt_dispatch.specs.RunProgresses.{progress_in, marks_in, progr
 ghost use Rattle.napt_dispatch.specs.{RunsThrough.{HandOverOk, HandOverErr}, DispatcherInvariants.{IsSecond, AnswersTo}};
 
 use crate::dispatcher::buffer_pool::BufferPool;
-use crate::dispatcher::progress::{InputProgress, OpenInput};
+use crate::dispatcher::input_progress::{InputProgress, OpenInput};
 use crate::faults::ImpossibleAnswer;
 use crate::outcome_sink::{InputResult, OutcomeSink};
 use http_server::Log;

@@ -4,7 +4,7 @@ ghost use Rattle.std.specs.Prelude.{◌≡◌, ◌↔◌, ◌+◌, ◌<◌, ◌�
 ghost use Rattle.napt_dispatch.specs.{Dispatch.IsDispatchFault, DispatcherInvariants.MovesLegsAt};
 ghost use Rattle.napt_dispatch.specs.WorkerQueues.{AllHold, AnswersAt, held_legs_count, counts_in, front_of, held_count, only_at, queue_of, queue_readied, unused_queue, with_offers, with_queue};
 
-use crate::dispatcher::holding::{AwaitedLeg, PendingLeg, QueueHead};
+use crate::dispatcher::pending_leg::{AwaitedLeg, PendingLeg, QueueHead};
 use crate::dispatcher::worker_queue::WorkerQueue;
 use napt_sequential::RunFault;
 use napt_translate::Leg;

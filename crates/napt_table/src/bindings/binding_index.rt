@@ -324,7 +324,7 @@ impl BindingIndex {
     ghost use Rattle.std.specs.{List.IsDistinct, Map.{keys_of, values_of}};
     ghost use Rattle.napt_rules.specs.Prelude.{purge};
     ghost use Rattle.napt_binding.specs.Slots.{AreDistinct};
-    ghost use Rattle.napt_table.specs.{Keys.key_eq, HeldRows.{held_rows, AreRead}};
+    ghost use Rattle.napt_table.specs.{Keys.key_eq, HeldRows.{held_rows, AreListable}};
 
     /// Returns the rows of the bindings that are live at `now` (ns), in no order.
     pub(crate) fn rows(
@@ -334,7 +334,7 @@ impl BindingIndex {
         now: u64,
     ) -> Result<Vec<Row>, AllocError>
         ensures rows { IfOk result (λ made. made.items ≡ held_rows timers now self.now) }
-        ensures read { OnOk result (AreRead timers now self.now) }
+        ensures read { OnOk result (AreListable timers now self.now) }
     {
         let mut made = Vec::new(alloc);
         let held = self.by_number.as_slice();

@@ -5,7 +5,7 @@ ghost use Rattle.napt_config.specs.Rules.{IsPortBlock};
 
 use crate::bindings::Bindings;
 use crate::bindings::keys::{ExternalNumberKey, key_of};
-use napt_binding::{Flows, PackedRow, TableBinding, until};
+use napt_binding::{Flows, PackedRow, TableBinding, live_until};
 use napt_rules::{OutboundPacket, Row};
 use napt_wire::{Cause, Endpoint, Protocol};
 use std::alloc::{AllocError, Global};
@@ -46,7 +46,7 @@ impl Bindings {
             (Some binding) (held_binding self.old.held key) }
     {
         let key = key_of(&binding);
-        let end = until(&binding, self.timers, from);
+        let end = live_until(&binding, self.timers, from);
         let held = &mut self.held;
         held.insert(binding);
         let due = &mut self.due;

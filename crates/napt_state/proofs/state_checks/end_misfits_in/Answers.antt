@@ -83,7 +83,7 @@ loop-left-preserved-in_ok-insert c =
     let none : why rules clock b (drop left all) ≡ None =
     sym is ∙ none_found found (sym c.is_some.ensures ∙ c.if-is_some.false) in
     let on : goes_on rules.timers (hold_ago rules.timers clock) b ≡ true =
-    sym (c.goes_on.ensures ∙ ap (λ n. goes_on rules.timers n b) c.held_at.ensures) ∙ c.if-goes_on.true in
+    sym (c.goes_on.ensures ∙ ap (λ n. goes_on rules.timers n b) c.hold_ago.ensures) ∙ c.if-goes_on.true in
     record {
       within = omega (arith, inv.within);
       redirects = inv.redirects;
@@ -117,7 +117,7 @@ loop-left-preserved c =
     let none : why rules clock b (drop left all) ≡ None =
     sym is ∙ none_found found (sym c.is_some.ensures ∙ c.if-is_some.false) in
     let away : goes_on rules.timers (hold_ago rules.timers clock) b ≡ false =
-    sym (c.goes_on.ensures ∙ ap (λ n. goes_on rules.timers n b) c.held_at.ensures) ∙ c.if-goes_on.false in
+    sym (c.goes_on.ensures ∙ ap (λ n. goes_on rules.timers n b) c.hold_ago.ensures) ∙ c.if-goes_on.false in
     record {
       within = omega (arith, inv.within);
       redirects = inv.redirects;

@@ -37,7 +37,7 @@ enter-requires c =
     let it = c.self.inside in
     let log : LogModel = built it.begun.items it.past.items in
     let is = c.self.invariant c.if-self.false in
-    let room = c.if-self-ge-MOST_INPUTS.false in
+    let room = c.if-self-ge-MOST_LOGGED_INPUTS.false in
     let late = c.if-effects-self.false in
     let few = is.few in (
       2 ^ 61 + 2 * it.taken,
@@ -52,7 +52,7 @@ returns-in_default-clause-err c = λ going.
     let it = c.self.inside in
     let log : LogModel = built it.begun.items it.past.items in
     let is = c.self.invariant c.if-self.false in
-    let room = c.if-self-ge-MOST_INPUTS.false in
+    let room = c.if-self-ge-MOST_LOGGED_INPUTS.false in
     let late = c.if-effects-self.false in
     subst (λ (v : LogBuilderModel). (v.taken + 1 < 2 ^ 62) × (¬ IsNext v.clock v.log c.args.effects)) c.self.view_is (
       omega (arith, room),

@@ -1,6 +1,6 @@
 -- write: the device gets the text, or some first bytes of it if the write fails.
 use Rattle.std.proofs.Common.{List, ℕ, subst}
-use Rattle.napt_run.{specs.Outputs.OutputGrows, proofs.Entering.write_adds}
+use Rattle.napt_run.{specs.Outputs.OutputGrows, proofs.InputRowWrites.write_adds}
 use Rattle.napt_run.proofs.log_writer.LogWriter.write.Goals as goal
 
 pub returns-in-Ok-clause-text : goal.returns-in-Ok-clause-text

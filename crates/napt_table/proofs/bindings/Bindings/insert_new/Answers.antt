@@ -2,15 +2,15 @@
 use Rattle.std.{proofs.Common.{◌≡◌, ◌∙◌, ℕ, List, [], map, find, None, Some, Ok, cond, refl, sym, ap, subst, arith, not, true, false}, specs.{Prelude.ok_or, Option.{is_some, option_map}}}
 use Rattle.std.proofs.lemmas.Bool.{not-true}
 use Rattle.napt_wire.specs.declared.{Way.TheVariants.Outgoing, Cause.TheVariants.NoPort}
-use Rattle.napt_table.specs.{declared.bindings.keys.ExternalNumberKey.ExternalNumberKey, HeldLists.seen_binding, Bindings.{BindingsModel, AllKeep, NewBindingOk}, BindingIndexes.{held_binding, held_at}}
+use Rattle.napt_table.specs.{declared.bindings.keys.ExternalNumberKey.ExternalNumberKey, HeldLists.seen_binding, Bindings.{BindingsModel, ListAgrees, NewBindingOk}, BindingIndexes.{held_binding, held_at}}
 use Rattle.napt_table.{specs.Keys.{key_eq, external_key, key_of}, proofs.{AssignedNumbers.{made_all, made_unseen, seen_row}, SeenBindings.found_seen, OutboundSteps.{none_from, choice_is, made_live, made_used, made_seen}}}
 use Rattle.napt_config.specs.Rules.{AreTimers}
 use Rattle.napt_rules.specs.{Prelude.{Binding, candidates, change_first, has_number, is_live, purge, hold_ago, live_and_held, live_flows, is_flow_of, flow_after, with_flow, binding_after_out, new_binding, row, AreBindingsApart}, declared.{Row.Row, OutboundPacket.OutboundPacket}}
-use Rattle.napt_laws.proofs.Finds.{passes}
+use Rattle.napt_laws.proofs.UniqueSearches.{passes}
 use Rattle.napt_table.proofs.bindings.Bindings.insert_new.Goals as goal
 
 rows_of : (s : BindingsModel) (p : OutboundPacket) (list : List Binding) → AreBindingsApart (map row list) →
-    live_and_held s.timers p.now list ≡ list → AllKeep s.timers p.now s.held.address s.held list →
+    live_and_held s.timers p.now list ≡ list → ListAgrees s.timers p.now s.held.address s.held list →
     ((k : ExternalNumberKey) (b : Binding) → held_binding s.held k ≡ Some b →
     is_live s.timers (hold_ago s.timers p.now) b ≡ true) →
     (n : ℕ) → option_map row (find (λ b. has_number s.held.address p.protocol n b.row) list)

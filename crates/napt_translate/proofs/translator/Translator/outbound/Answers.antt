@@ -7,7 +7,7 @@ use Rattle.napt_translate.proofs.translator.Translator.outbound.Goals as goal
 pub invariant_of-self-in-Some : goal.invariant_of-self-in-Some
 invariant_of-self-in-Some c =
     let old : TableModel = c.self.inside.table in
-    let new : TableModel = c.outbound_known.new.self in
+    let new : TableModel = c.outbound_if_bound.new.self in
     let known = subst (λ (found : Option ℕ). IfSome found (λ number. (block : Option PortBlock) →
     OutboundPost (record c.args.sent { block = block }) old new (Ok number))) c.in-Some.is
     c.in_ok-number.ensures.known in
