@@ -2,7 +2,7 @@
 use Rattle.std.specs.{Prelude.{◌≡◌, ◌==◌, ◌&&◌, ◌||◌, nat_eq, ℕ, Bool, List, Option, Some, None}, BTreeSet.contains, List.list_any, Option.{option_cmp, option_eq}, Ordering.{nat_cmp, ordering_then}}
 use Rattle.std.specs.declared.cmp.Ordering.{Ordering}
 use Rattle.napt_wire.specs.declared.Endpoint.{Endpoint}
-use Rattle.napt_account.specs.{Questions.is_meant, declared.question.Party.Party}
+use Rattle.napt_account.specs.{Parties.is_meant, declared.party.Party.Party}
 use Rattle.napt_attribution.specs.declared.{requests.HolderRequest.HolderRequest, wanted_endpoints.WantedEndpoints.WantedEndpoints}
 
 -- Returns whether one of the requests asks about an endpoint, or about each endpoint of its address.

@@ -17,11 +17,11 @@ use Rattle.napt_sequential.specs.declared.fault.RunFault.TheVariants as faults
 
 abbrev Written : ReportData → Result (Unit {0}) Fault → Option (List ℕ) → Option (List ℕ) → Type 0
 Written totals result old new = (outcomes : List Outcome) → AreCountsOf outcomes totals.counts →
-    GetsReport (report_of totals.cuts.inside totals.cuts.outside outcomes totals.passed.bindings.items) result old new
+    GetsReport (report_of totals.cuts.inside totals.cuts.outside outcomes totals.summary.bindings.items) result old new
 
 text_told : (origin : OriginModel) (totals : ReportData) (inputs : List Arrival) →
-    totals.passed.bindings.items ≡ (ran_by origin inputs).bindings →
-    report_of totals.cuts.inside totals.cuts.outside (ran_by origin inputs).outcomes totals.passed.bindings.items
+    totals.summary.bindings.items ≡ (ran_by origin inputs).bindings →
+    report_of totals.cuts.inside totals.cuts.outside (ran_by origin inputs).outcomes totals.summary.bindings.items
     ≡ report_text totals.cuts.inside totals.cuts.outside (ran_by origin inputs)
 unfolding report_text
 text_told origin totals inputs is = grind (arith, common_steps, nat_tests)
@@ -88,7 +88,7 @@ module _ {U : Type 0} (S : Ghosts U) (origin : OriginModel) (inside outside : Op
 
 -- The value that gives the state that is left.
 pub left_told : (origin : OriginModel) (inside outside : Option (List ℕ)) (totals : ReportData) →
-    IsToldOf origin inside outside totals → LeavesInTheEnd origin inside outside totals.passed
+    IsToldOf origin inside outside totals → LeavesInTheEnd origin inside outside totals.summary
 left_told origin inside outside totals told = grind (arith, common_steps, nat_tests, held)
 
 -- If the report failed, as many reads failed as before.

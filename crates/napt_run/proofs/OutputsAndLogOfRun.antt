@@ -219,7 +219,7 @@ module _ {P A F W V K : Type 0} {S : sink.Ghosts W} {T : sink.Ghosts V} (tells :
   pub passes_by : (result : Result RunSummary (PassFault F Fault)) → RunPasses result →
       PassesBy origin hands ends from before.leaving left after.leaving result
   unfolding passes_to ran_by
-  passes_by (Ok passed) p = record { whole = passes_to None p.whole; bindings = p.bindings; leaves = p.leaves }
+  passes_by (Ok summary) p = record { whole = passes_to None p.whole; bindings = p.bindings; leaves = p.leaves }
   passes_by (Err (pass_faults.Arrival fault)) p = passes_to (Some fault) p
   passes_by (Err (pass_faults.Departure fault)) p = elim p.failed.failed [
     | inl o ↦ inl (
@@ -238,7 +238,7 @@ module _ {P A F W V K : Type 0} {S : sink.Ghosts W} {T : sink.Ghosts V} (tells :
 
   pub enters_by : (result : Result RunSummary (PassFault F Fault)) → RunPasses result →
       EntersBy tells origin hands ends enters fails is_settled from before.log.now left after.log.now result
-  enters_by (Ok passed) p = enters_to None p.whole
+  enters_by (Ok summary) p = enters_to None p.whole
   enters_by (Err (pass_faults.Arrival fault)) p = enters_to (Some fault) p
   enters_by (Err (pass_faults.Departure fault)) p = elim p.failed.failed [
     | inl o ↦ inl (o.of_output, (output_failed p.inputs p.went p.come p.front fault p.failed o).1)

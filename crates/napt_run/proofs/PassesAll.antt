@@ -16,15 +16,15 @@ use Rattle.napt_run.proofs.{OutcomeCounts.all_counted, OutcomePrefixes.{capture_
 
 -- The run over all inputs.
 pub passes_all : {F W V : Type 0} {S : Ghosts W} {T : Ghosts V} (origin : OriginModel) (from left : List Arrival)
-    (old new : OutcomeWriter W V S T) (passed : RunSummary) → AreCountsOf [] old.counts → All IsTimely from →
-    RunPassesWell {F = F} origin (λ x xs y. x ≡ xs ++ y) (λ x end y. x ≡ []) from old left new passed →
-    WritesAll [] origin from old new (record { counts = new.counts; passed = passed })
-passes_all origin from left old new passed none timely p =
+    (old new : OutcomeWriter W V S T) (summary : RunSummary) → AreCountsOf [] old.counts → All IsTimely from →
+    RunPassesWell {F = F} origin (λ x xs y. x ≡ xs ++ y) (λ x end y. x ≡ []) from old left new summary →
+    WritesAll [] origin from old new (record { counts = new.counts; summary = summary })
+passes_all origin from left old new summary none timely p =
     let inputs : List Arrival = p.whole.inputs in
     let whole : from ≡ inputs = came_whole (λ x. x) from left inputs None p.whole.came in
     let times = times_of inputs (ran_by origin inputs).outcomes (subst (λ (l : List Arrival). All IsTimely l) whole
     timely) in
-    let tally : ReportTally = record { counts = new.counts; passed = passed } in
+    let tally : ReportTally = record { counts = new.counts; summary = summary } in
     subst (λ (l : List Arrival). WritesAll [] origin l old new tally) (sym whole) (record {
       to_outside = p.whole.took.to_outside times;
       to_inside = p.whole.took.to_inside times;
@@ -85,7 +85,7 @@ kept_text origin side inputs arrivals none last kept empty are taken appended =
 pub told_report : (origin : OriginModel) (inputs arrivals : List Arrival) (tally : ReportTally) (counts : OutcomeCounts)
     (rows : List Row)
     (cut_inside cut_outside : Bool) (told : List ℕ) → inputs ≡ arrivals → IsTallyOf origin inputs tally →
-    counts ≡ tally.counts → rows ≡ tally.passed.bindings.items → ((outcomes : List Outcome) →
+    counts ≡ tally.counts → rows ≡ tally.summary.bindings.items → ((outcomes : List Outcome) →
     AreCountsOf outcomes counts →
     told ≡ report_of cut_inside cut_outside outcomes rows) →
     told ≡ report_text cut_inside cut_outside (ran_by origin arrivals)

@@ -200,9 +200,10 @@ before_report fault is = grind (arith, common_steps, nat_tests)
 
 -- THE STATE THAT IS LEFT
 
-pub leaves : (origin : OriginModel) (inside outside : Option (List ℕ)) (captures : CaptureFiles) (passed : RunSummary) →
+pub leaves : (origin : OriginModel) (inside outside : Option (List ℕ)) (captures : CaptureFiles)
+    (summary : RunSummary) →
     IsReadFrom inside captures.inside → IsReadFrom outside captures.outside →
-    GivesState origin (arrivals_of captures) passed → OutputIsLeft origin inside outside passed
-leaves origin None outside captures passed first second left = tt
-leaves origin (Some bytes) None captures passed first second left = tt
-leaves origin (Some bytes) (Some others) captures passed first second left = rw (first, second) left
+    GivesState origin (arrivals_of captures) summary → OutputIsLeft origin inside outside summary
+leaves origin None outside captures summary first second left = tt
+leaves origin (Some bytes) None captures summary first second left = tt
+leaves origin (Some bytes) (Some others) captures summary first second left = rw (first, second) left

@@ -37,10 +37,10 @@ module _ {A F W V : Type 0} {S : sink.Ghosts W} {T : sink.Ghosts V} (origin : Or
     pub settled : IsSettled after
     pub few : length inputs < 2 ^ 64
 
-  pub record RunPassesWell (passed : RunSummary) : Type 0 where
+  pub record RunPassesWell (summary : RunSummary) : Type 0 where
     pub whole : RunPassesTo None
-    pub bindings : passed.bindings.items ≡ (ran_by origin whole.inputs).bindings
-    pub leaves : GivesState origin whole.inputs passed
+    pub bindings : summary.bindings.items ≡ (ran_by origin whole.inputs).bindings
+    pub leaves : GivesState origin whole.inputs summary
 
   -- An output failed, and the outcomes that left are the first outcomes of the run.
   pub record RunPassesEarly (fault : Fault) : Type 0 where
@@ -59,7 +59,7 @@ module _ {A F W V : Type 0} {S : sink.Ghosts W} {T : sink.Ghosts V} (origin : Or
     pub took : SinkTakes before went after ⊎ ((fault : Fault) × FailsAfter before went fault after)
 
   abbrev pub PassesBy : Result RunSummary (PassFault F Fault) → Type 0
-  PassesBy (Ok passed) = RunPassesWell passed
+  PassesBy (Ok summary) = RunPassesWell summary
   PassesBy (Err (pass_faults.Arrival fault)) = RunPassesTo (Some fault)
   PassesBy (Err (pass_faults.Departure fault)) =
       (IsOfOutput fault × RunPassesEarly fault) ⊎ (IsLogFault fault × RunPassesHalted)
@@ -70,7 +70,7 @@ module _ {R Q W V : Type 0} {G : source.Ghosts R} {H : source.Ghosts Q} {S : sin
     (left : StreamMerger R Q G H) (after : OutcomeWriter W V S T) where
   -- The run succeeded, with these totals for the report.
   pub record PassesAll (totals : ReportData) : Type 0 where
-    pub well : RunPassesWell origin HandsOutInputs MergeEndsWith from before left after totals.passed
+    pub well : RunPassesWell origin HandsOutInputs MergeEndsWith from before left after totals.summary
     pub counts : totals.counts ≡ after.counts
     pub cut_inside : totals.cuts.inside ≡ cut_of left.inside
     pub cut_outside : totals.cuts.outside ≡ cut_of left.outside
@@ -117,7 +117,7 @@ module _ {P A F K : Type 0} (tells : Passage → P) (origin : OriginModel) (hand
     pub failed : fails old (legs_told tells origin first) fault new
 
   abbrev pub EntersBy : Result RunSummary (PassFault F Fault) → Type 0
-  EntersBy (Ok passed) = EntersTo None
+  EntersBy (Ok summary) = EntersTo None
   EntersBy (Err (pass_faults.Arrival fault)) = EntersTo (Some fault)
   EntersBy (Err (pass_faults.Departure fault)) = (IsOfOutput fault × EntersFirst) ⊎ FailsFirst fault
   EntersBy (Err (pass_faults.Run fault)) = EntersFirst ⊎ ((fault : Fault) × FailsFirst fault)

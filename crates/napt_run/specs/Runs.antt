@@ -24,5 +24,5 @@ pub record IsToldOf (origin : OriginModel) (inside outside : Option (List ℕ)) 
   pub inputs : List Arrival
   pub all : IfHeld inside outside (λ all. all ≡ record { arrivals = inputs; end = Ok totals.cuts })
   pub counts : AreCountsOf (ran_by origin inputs).outcomes totals.counts
-  pub bindings : totals.passed.bindings.items ≡ (ran_by origin inputs).bindings
-  pub leaves : GivesState origin inputs totals.passed
+  pub bindings : totals.summary.bindings.items ≡ (ran_by origin inputs).bindings
+  pub leaves : GivesState origin inputs totals.summary

@@ -10,8 +10,8 @@ use Rattle.napt_run.specs.{Outputs.OutputGrows, Runs.text_after, declared.{outco
 -- The tally has the counts of the report over these inputs, and gives the state after them.
 pub record IsTallyOf (origin : OriginModel) (inputs : List Arrival) (tally : ReportTally) : Type 0 where
   pub counts : AreCountsOf (ran_by origin inputs).outcomes tally.counts
-  pub bindings : tally.passed.bindings.items ≡ (ran_by origin inputs).bindings
-  pub leaves : GivesState origin inputs tally.passed
+  pub bindings : tally.summary.bindings.items ≡ (ran_by origin inputs).bindings
+  pub leaves : GivesState origin inputs tally.summary
 
 -- Both outputs have the records of these inputs, after the text that was there, and the tally is that of the inputs.
 pub record WritesAll {W V : Type 0} {S : Ghosts W} {T : Ghosts V} (front : List ℕ) (origin : OriginModel)

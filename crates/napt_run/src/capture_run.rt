@@ -19,14 +19,16 @@ use std::thread::Threads;
 #[derive(Drop)]
 pub struct ReportData {
     pub(crate) counts: OutcomeCounts,
-    pub(crate) passed: RunSummary,
+    pub(crate) summary: RunSummary,
     pub(crate) cuts: CutFlags,
 }
 
-impl<
-    T: Threads + Wait + Copy + Send + 'static,
-    G: Gate + Send + Sync + Drop + 'static,
-> RunSetting<'_, '_, T, G> {
+impl<T: Threads + Wait + Copy + Send + 'static, G: Gate + Send + Sync + Drop + 'static> RunSetting<
+    '_,
+    '_,
+    T,
+    G,
+> {
     /// Runs until the inputs end or something fails.
     pub(crate) fn run_all<A: InputSource, W: Sink, V: Sink, K: StreamLog>(
         self,
@@ -64,9 +66,9 @@ impl<
         ensures same { IsSameSinkPlace both.old both.new }
     {
         match self.run_all(inputs, both) {
-            Ok(passed) => Ok(ReportData {
+            Ok(summary) => Ok(ReportData {
                 counts: both.leaving.counts,
-                passed,
+                summary,
                 cuts: inputs.cuts(),
             }),
             Err(PassFault::Run(fault)) => Err(Fault::Run(fault)),

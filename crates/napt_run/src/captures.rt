@@ -37,7 +37,7 @@ struct CaptureOutputs {
     to_outside: BufferedText,
     to_inside: BufferedText,
     report: String,
-    passed: RunSummary,
+    summary: RunSummary,
 }
 
 /// Reads the capture of a side.
@@ -89,13 +89,17 @@ fn make_outputs<T: Threads + Wait + Copy + Send + 'static, G: Gate + Send + Sync
     let inputs = RecordMerger::new(inside.records, outside.records);
     let mut to_outside = Watched::new(BufferedText::new(alloc)?);
     let mut to_inside = Watched::new(BufferedText::new(alloc)?);
-    let ReportTally { counts, passed } = setting.run_into(inputs, &mut to_outside, &mut to_inside)?;
-    let report = report_of(alloc, &counts, &passed.bindings, inside.cut, outside.cut)?;
+    let ReportTally { counts, summary } = setting.run_into(
+        inputs,
+        &mut to_outside,
+        &mut to_inside,
+    )?;
+    let report = report_of(alloc, &counts, &summary.bindings, inside.cut, outside.cut)?;
     Ok(CaptureOutputs {
         to_outside: to_outside.into_inner(),
         to_inside: to_inside.into_inner(),
         report,
-        passed,
+        summary,
     })
 }
 
@@ -181,7 +185,7 @@ pub fn run_captures<
     ensures fault { IfErr result (WholeFaultPost R.Source Q.Source G.is_open devices.old) }
     ensures reads { WholeReadsPost R.Source Q.Source devices.old (stream_ended result) devices.new }
 {
-    let passed = run_whole(
+    let summary = run_whole(
         rt,
         alloc,
         start,
@@ -193,7 +197,7 @@ pub fn run_captures<
         gate,
     )?;
     Ok(RunEnd {
-        passed,
+        summary,
         log: OpenLog::none(alloc),
     })
 }
@@ -266,5 +270,5 @@ fn run_whole<
     write_side(Side::Outside, &outputs.to_outside, to_outside)?;
     write_side(Side::Inside, &outputs.to_inside, to_inside)?;
     write_report(report, &outputs.report)?;
-    Ok(outputs.passed)
+    Ok(outputs.summary)
 }

@@ -18,7 +18,7 @@ pub(crate) fn write_report<U: Sink>(
 ) -> Result<(), Fault>
     ensures written { (outcomes : List Outcome) → AreCountsOf outcomes totals.now.counts →
         GetsReport (report_of totals.now.cuts.inside totals.now.cuts.outside outcomes
-        totals.now.passed.bindings.items) result (U.contents output.old) (U.contents output.new) }
+        totals.now.summary.bindings.items) result (U.contents output.old) (U.contents output.new) }
     ensures fault { IfErr result IsReportFault }
     ensures flushed { OnOk result (U.is_flushed output.new) }
     ensures count { U.failed output.new ≡ U.failed output.old
@@ -26,10 +26,10 @@ pub(crate) fn write_report<U: Sink>(
 {
     let ReportData {
         counts,
-        passed,
+        summary,
         cuts,
     } = totals;
-    let Ok(text) = report_of(alloc, counts, &passed.bindings, cuts.inside, cuts.outside) else {
+    let Ok(text) = report_of(alloc, counts, &summary.bindings, cuts.inside, cuts.outside) else {
         return Err(Fault::Run(RunFault::Memory));
     };
     match write_text(output, text.as_bytes()) {

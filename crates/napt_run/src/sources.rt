@@ -22,10 +22,12 @@ struct BothReaders {
     outside: RecordReader,
 }
 
-impl<
-    T: Threads + Wait + Copy + Send + 'static,
-    G: Gate + Send + Sync + Drop + 'static,
-> RunSetting<'_, '_, T, G> {
+impl<T: Threads + Wait + Copy + Send + 'static, G: Gate + Send + Sync + Drop + 'static> RunSetting<
+    '_,
+    '_,
+    T,
+    G,
+> {
     /// Reads the headers of the captures, and runs over them.
     pub(crate) fn run_over<R: Source, Q: Source, W: Sink, V: Sink, K: StreamLog>(
         self,

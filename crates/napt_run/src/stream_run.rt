@@ -5,8 +5,8 @@ ghost use Rattle.napt_run.specs.Streams.{HasRead, IsOfRun, stream_ended};
 
 use crate::capture_run::ReportData;
 use crate::logged_outcome_writer::LoggedOutcomeWriter;
-use crate::output::Output;
 use crate::outcome_writer::OutcomeWriter;
+use crate::output::Output;
 use crate::start::RunSetting;
 use crate::stream_log::StreamLog;
 use napt_account::OpenLog;
@@ -16,10 +16,12 @@ use napt_records::{Fault, Which};
 use std::sync::Wait;
 use std::thread::Threads;
 
-impl<
-    T: Threads + Wait + Copy + Send + 'static,
-    G: Gate + Send + Sync + Drop + 'static,
-> RunSetting<'_, '_, T, G> {
+impl<T: Threads + Wait + Copy + Send + 'static, G: Gate + Send + Sync + Drop + 'static> RunSetting<
+    '_,
+    '_,
+    T,
+    G,
+> {
     /// Runs over the captures and writes both outputs, and the log if there is one. Returns the
     /// data of the report, and the accounts of the log that are saved.
     pub(crate) fn stream<R: Source, Q: Source, W: Sink, V: Sink, K: StreamLog>(

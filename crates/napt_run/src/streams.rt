@@ -90,7 +90,7 @@ pub fn run_streams<
     let (totals, log) = ran;
     write_report(alloc, &mut devices.report, &totals)?;
     Ok(RunEnd {
-        passed: totals.passed,
+        summary: totals.summary,
         log,
     })
 }

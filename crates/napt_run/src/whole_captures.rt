@@ -6,8 +6,8 @@ ghost use Rattle.napt_records.specs.{Counts.AreCountsOf, Output.IsTimely};
 ghost use Rattle.napt_run.specs.{Origins.origin_of, Streams.capture_text, WholeCaptures.{IsTallyOf, WritesAll}};
 
 use crate::logged_outcome_writer::LoggedOutcomeWriter;
-use crate::output::Output;
 use crate::outcome_writer::OutcomeWriter;
+use crate::output::Output;
 use crate::start::RunSetting;
 use crate::stream_log::NoLog;
 use napt_capture::Sink;
@@ -23,13 +23,15 @@ use std::thread::Threads;
 #[derive(Drop)]
 pub(crate) struct ReportTally {
     pub(crate) counts: OutcomeCounts,
-    pub(crate) passed: RunSummary,
+    pub(crate) summary: RunSummary,
 }
 
-impl<
-    T: Threads + Wait + Copy + Send + 'static,
-    G: Gate + Send + Sync + Drop + 'static,
-> RunSetting<'_, '_, T, G> {
+impl<T: Threads + Wait + Copy + Send + 'static, G: Gate + Send + Sync + Drop + 'static> RunSetting<
+    '_,
+    '_,
+    T,
+    G,
+> {
     /// Runs over the inputs, and writes both captures. If an output fails, the fault is `Memory`.
     pub(crate) fn run_into<W: Sink, V: Sink>(
         self,
@@ -97,9 +99,9 @@ impl<
         ensures fault { IfErr result (IsFaultUnder G.is_open) }
     {
         match self.run_all(&mut inputs, both) {
-            Ok(passed) => Ok(ReportTally {
+            Ok(summary) => Ok(ReportTally {
                 counts: both.leaving.counts,
-                passed,
+                summary,
             }),
             Err(PassFault::Run(fault)) => Err(fault),
             Err(PassFault::Arrival(none)) => match none {},

@@ -4,7 +4,7 @@ use Rattle.std.{specs.Option.{option_map, is_some}, proofs.lemmas.Bool.{leb-true
 use Rattle.napt_wire.specs.declared.Protocol.{Protocol}
 use Rattle.napt_config.specs.{Rules.AreTimers, declared.settings.Timers.Timers}
 use Rattle.napt_rules.specs.declared.{AssignmentRules.AssignmentRules, InboundRules.InboundRules, OutboundPacket.OutboundPacket, InboundPacket.InboundPacket}
-use Rattle.napt_rules.specs.Prelude.{Binding, Each, change_first, same_protocol, has_number, is_live, with_live_flows, purge, hold_ago, live_and_held, is_of_source, is_of_live_source, binding_after_out, live_binding_after_out, other_bindings, new_binding, granted_again, out_taken, is_of_live_destination, live_binding_after_in, in_taken, row, AreBindingsApart}
+use Rattle.napt_rules.specs.Prelude.{Binding, Each, change_first, same_protocol, has_number, is_live, with_live_flows, purge, hold_ago, live_and_held, is_of_source, is_of_live_source, binding_after_out, live_binding_after_out, other_bindings, new_binding, held_or_new_number, out_taken, is_of_live_destination, live_binding_after_in, in_taken, row, AreBindingsApart}
 use Rattle.napt_rules.proofs.Life.{lived}
 use Rattle.napt_laws.proofs.{Lists.{find_passes, find_none, any_none, each_weaker, each_true}, UniqueSearches.{Once, find_pushed, find_passed_over}}
 use Rattle.napt_laws.proofs.{Purges.purge_purge, SeenElements.{ago_before, ago_later, purge_taken}, StepCases.{of_out, of_in}, StepRows.{purge_keeps, rows_change}}
@@ -213,9 +213,9 @@ module _ (timers : Timers) (t : AreTimers timers) (address : ℕ) (all : List Bi
       (λ b. refl) (λ b p. fresh_seen timers packet.now (live_binding_after_in timers inbound packet b)
       (received_is_fresh timers t inbound packet b (and_parts _ (is_live timers packet.now b) p).1)))
 
-  module _ (granting : AssignmentRules) (packet : OutboundPacket) (apart : AreBindingsApart (map row all)) where
+  module _ (assignment : AssignmentRules) (packet : OutboundPacket) (apart : AreBindingsApart (map row all)) where
     source_apart : (m : ℕ) (found : Option Binding) → find (is_of_source address packet) all ≡ found →
-        granted_again granting all address packet found ≡ Ok m →
+        held_or_new_number assignment all address packet found ≡ Ok m →
         at (binding_after_out packet (new_binding address packet m)) ≡ false →
         Each (λ b. is_of_source address packet b ≡ true → at b ≡ false) all
     source_apart m None is e lacks =
@@ -233,11 +233,11 @@ module _ (timers : Timers) (t : AreTimers timers) (address : ℕ) (all : List Bi
         (once_inside address packet.protocol packet.inside all apart) is
         (alike ∙ lacks)
 
-    pub out_stays : AreBindingsApart (map row (out_taken timers granting address packet all).list) →
-        Stays packet.now (out_taken timers granting address packet all).list
+    pub out_stays : AreBindingsApart (map row (out_taken timers assignment address packet all).list) →
+        Stays packet.now (out_taken timers assignment address packet all).list
     out_stays =
         of_out (λ (left : List Binding). AreBindingsApart (map row left) → Stays packet.now left) timers address all
-        (λ left none. refl) granting packet
+        (λ left none. refl) assignment packet
         (λ left. changed_stays packet.now (is_of_live_source timers address packet)
         (live_binding_after_out timers packet) (λ b. refl)
         (λ b p. fresh_seen timers packet.now (live_binding_after_out timers packet b)

@@ -69,7 +69,8 @@ none_big [] small = refl
 none_big (r ∷ rows) small =
     let first : r.external.number < 65536 = All-head HasPortNumber r rows small in
     let fits : is_big r ≡ false = grind (arith, nat_tests) in
-    ap (λ v. cond v (r ∷ filter is_big rows) (filter is_big rows)) fits ∙ none_big rows (All-tail HasPortNumber r rows small)
+    ap (λ v. cond v (r ∷ filter is_big rows) (filter is_big rows)) fits
+    ∙ none_big rows (All-tail HasPortNumber r rows small)
 
 -- The ranks of ICMP are its numbers, those of TCP and UDP are above them; a larger number has no such rank.
 rank_icmp : (n m : ℕ) (q : Protocol) → n < 65536 → not (nat_lt m 65536) ≡ false → eqb n (protocol_rank q * 65536 + m)

@@ -97,13 +97,13 @@ same_everywhere old new number others here n = elim (eqb n number) as (λ v. eqb
 ] refl
 
 -- The list after one more event.
-pub played_more : (timers : Timers) (granting : AssignmentRules) (inbound : InboundRules) (address : ℕ)
+pub played_more : (timers : Timers) (assignment : AssignmentRules) (inbound : InboundRules) (address : ℕ)
     (events : List (ℕ × TableEvent))
     (event : ℕ × TableEvent) (list : List Binding) →
-    list_after_events timers granting inbound address (events ++ event ∷ []) list
-    ≡ list_after_event timers granting inbound address event.1
-    (list_after_events timers granting inbound address events list)
-played_more timers granting inbound address [] event list = refl
-played_more timers granting inbound address (e ∷ events) event list = played_more timers granting inbound address
+    list_after_events timers assignment inbound address (events ++ event ∷ []) list
+    ≡ list_after_event timers assignment inbound address event.1
+    (list_after_events timers assignment inbound address events list)
+played_more timers assignment inbound address [] event list = refl
+played_more timers assignment inbound address (e ∷ events) event list = played_more timers assignment inbound address
     events event
-    (list_after_event timers granting inbound address e.1 list)
+    (list_after_event timers assignment inbound address e.1 list)

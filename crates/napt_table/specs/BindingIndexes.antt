@@ -8,7 +8,7 @@ use Rattle.napt_table.specs.{declared.bindings.keys.ExternalNumberKey.ExternalNu
 
 pub record BindingIndexModel : Type 0 where
   pub address : ℕ
-  pub granting : AssignmentRules
+  pub assignment : AssignmentRules
   -- The bindings by the keys of their numbers, in no order.
   pub entries : List (ExternalNumberKey × Binding)
   -- The number of further bindings that fit without an allocation.
@@ -60,7 +60,7 @@ HasNoInside all protocol inside = (number : ℕ) (b : Binding) → held_at all p
 
 pub record IsSamePlace (old new : BindingIndexModel) : Type 0 where
   pub address_is : new.address ≡ old.address
-  pub granting_is : new.granting ≡ old.granting
+  pub assignment_is : new.assignment ≡ old.assignment
 
 -- The stored bindings are the same; there may be more room.
 pub record HoldsSame (old new : BindingIndexModel) : Type 0 where

@@ -8,7 +8,7 @@ use Rattle.napt_table.specs.{BindingIndexes.{BindingIndexModel, held_binding, co
 abbrev pub holdings_of : Inside → BindingIndexModel
 holdings_of it = record {
   address = it.address;
-  granting = it.granting;
+  assignment = it.assignment;
   entries = it.by_number.entries;
   room = min (spare it.by_number) (min (spare it.by_inside) (host_room it.hosts));
 }
@@ -27,5 +27,5 @@ pub record IsHeld (it : Inside) : Type 0 where
   pub by_protocol : AreByProtocol it.numbers
   pub used_is : (key : ExternalNumberKey) → key.number < 2 ^ 16 →
       is_in_use it.numbers key ≡ is_some (held_binding (holdings_of it) key)
-  pub counting : are_counted it.hosts ≡ is_some it.granting.quota
+  pub counting : are_counted it.hosts ≡ is_some it.assignment.quota
   pub counted : are_counted it.hosts ≡ true → (host : ℕ) → count_in it.hosts host ≡ count_all (holdings_of it) host

@@ -6,14 +6,14 @@ use Rattle.napt_table.specs.{declared.table.Table.TheInside.Inside, Bindings.Lis
 -- Returns the list of the contracts: the bindings at the start, after all events since then.
 abbrev pub list_of : Inside → List Binding
 list_of table =
-    list_after_events table.bindings.timers table.bindings.held.granting table.inbound table.bindings.held.address
-    table.past.items (map (λ e. e.1) table.begun.items)
+    list_after_events table.bindings.timers table.bindings.held.assignment table.inbound table.bindings.held.address
+    table.events.items (map (λ e. e.1) table.initial.items)
 
 abbrev pub table_model : Inside → TableModel
 table_model table = record {
   address = table.bindings.held.address;
   timers = table.bindings.timers;
-  granting = table.bindings.held.granting;
+  assignment = table.bindings.held.assignment;
   inbound = table.inbound;
   list = list_of table;
   at = table.bindings.at;

@@ -99,20 +99,20 @@ impl Bindings {
         alloc: Global,
         address: u32,
         timers: IdleTimers,
-        granting: AssignmentRules,
+        assignment: AssignmentRules,
         at: u64,
     ) -> Result<Bindings, AllocError>
         ensures timers { IfOk result (λ bindings. bindings.timers ≡ timers) }
         ensures at { IfOk result (λ bindings. bindings.at ≡ at) }
         ensures address { IfOk result (λ bindings. bindings.held.address ≡ address) }
-        ensures granting { IfOk result (λ bindings. bindings.held.granting ≡ granting) }
+        ensures assignment { IfOk result (λ bindings. bindings.held.assignment ≡ assignment) }
         ensures none { IfOk result (λ bindings. (key : Key) →
             held_binding bindings.held key ≡ None) }
     {
         Ok(Bindings {
             timers,
             at,
-            held: BindingIndex::new(alloc, address, granting)?,
+            held: BindingIndex::new(alloc, address, assignment)?,
             due: Due::new(alloc),
         })
     }
@@ -289,7 +289,7 @@ impl Bindings {
     }
 
     /// Returns the bindings that are live or held at `now` (ns), for a saved state, in no order.
-    pub(crate) fn final_bindings(
+    pub(crate) fn state_bindings(
         &self,
         alloc: Global,
         now: u64,
@@ -301,7 +301,7 @@ impl Bindings {
         ensures used { AreUsedUpTo self.now.at self.now.held }
     {
         let ago = self.timers.hold_ago(now);
-        self.held.final_bindings(alloc, self.timers, ago)
+        self.held.state_bindings(alloc, self.timers, ago)
     }
 }
 

@@ -62,10 +62,10 @@ impl<P: LegTrace> Dispatcher<P> {
 
     /// Records an answer of worker `w`. Fails if no such answer is awaited; no worker gives one.
     #[inline(always)]
-    pub(super) fn note(&mut self, w: u32, told: TracedAnswer<P>) -> Result<(), ImpossibleAnswer>
+    pub(super) fn note(&mut self, w: u32, traced: TracedAnswer<P>) -> Result<(), ImpossibleAnswer>
         requires { w < length self.old.queues }
         ensures many { OnOk result (length self.new.queues ≡ length self.old.queues) }
-        ensures noted { OnOk result (NoteAnswerPost P.tells w told self.old self.new) }
+        ensures noted { OnOk result (NoteAnswerPost P.tells w traced self.old self.new) }
     {
         let Some(owed) = self.queues.note_answer(w) else {
             return Err(ImpossibleAnswer);
@@ -73,7 +73,7 @@ impl<P: LegTrace> Dispatcher<P> {
         let TracedAnswer {
             answer: Answer { number, end },
             passage,
-        } = told;
+        } = traced;
         if matches!(end, End::Onward(..)) && matches!(owed.way, Way::Incoming) {
             return Err(ImpossibleAnswer);
         }

@@ -10,8 +10,8 @@ ghost use Rattle.napt_dispatch.specs.DispatcherInvariants.{journal_of, Admits};
 ghost use Rattle.napt_sequential.specs.declared.passage.Passage.TheVariants.{Nothing as NoPassage};
 
 use crate::dispatcher::Dispatcher;
-use crate::dispatcher::pending_leg::PendingLeg;
 use crate::dispatcher::input_progress::InputProgress;
+use crate::dispatcher::pending_leg::PendingLeg;
 use crate::faults::ImpossibleAnswer;
 use napt_config::Config;
 use napt_sequential::{Input, LegTrace, RunFault, places_stand_for_legs, right_answers, way_from};

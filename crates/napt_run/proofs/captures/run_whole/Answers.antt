@@ -176,5 +176,5 @@ returns-clause-answer g c =
 pub returns-clause-left : goal.returns-clause-left
 returns-clause-left g c =
     leaves (origin_of c.args.start) _ _ (record { inside = c.in_ok-inside.inside; outside = c.in_ok-outside.outside })
-    c.in_ok-outputs.outputs.passed c.in_ok-inside.ensures.ok c.in_ok-outside.ensures.ok
+    c.in_ok-outputs.outputs.summary c.in_ok-inside.ensures.ok c.in_ok-outside.ensures.ok
     c.in_ok-outputs.ensures.ok.leaves

@@ -6,4 +6,4 @@ use Rattle.napt_run.proofs.start.RunSetting.pass_all.Goals as goal
 pub returns-in-Ok-clause-ok : goal.returns-in-Ok-clause-ok
 returns-in-Ok-clause-ok g c =
     passes_all (origin_of c.args.self.start) c.args.inputs c.run_all.new.inputs c.args.both.now.leaving
-    c.run_all.new.both.leaving c.in-Ok.passed c.requires.counts c.requires.timely c.in-Ok.ensures.outputs
+    c.run_all.new.both.leaving c.in-Ok.summary c.requires.counts c.requires.timely c.in-Ok.ensures.outputs

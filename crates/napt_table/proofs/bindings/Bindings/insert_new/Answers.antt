@@ -31,7 +31,7 @@ returns-in_default-clause-begins c =
       sym (ap (λ o. ok_or o NoPort) (choice_is s.held.address p (held_at s.held p.protocol) list
           (rows_of (record { timers = s.timers; at = s.at; held = s.held; due = s.due }) p list apart is_taken keeps
           live)
-          s.held.granting.choosing ∙ sym c.in_default.ensures)),
+          s.held.assignment.choosing ∙ sym c.in_default.ensures)),
       record { live = keeps.live; unseen = λ k h at from. refl },
     ))
 
@@ -63,7 +63,7 @@ insert-requires-clause-free c =
     let number = c.in-Some.number in
     let free : held_at s.held p.protocol number ≡ None = none_from (held_at s.held p.protocol number)
     (not-true (is_some (held_at s.held p.protocol number))
-    (passes (λ n. not (is_some (held_at s.held p.protocol n))) (candidates s.held.granting.choosing p.block p.protocol
+    (passes (λ n. not (is_some (held_at s.held p.protocol n))) (candidates s.held.assignment.choosing p.block p.protocol
     p.inside)
     number
     (sym c.in-Some.ensures))) in
@@ -76,7 +76,7 @@ returns-clause-begins c =
     let number = c.in-Some.number in
     let free : held_at s.held p.protocol number ≡ None = none_from (held_at s.held p.protocol number)
     (not-true (is_some (held_at s.held p.protocol number))
-    (passes (λ n. not (is_some (held_at s.held p.protocol n))) (candidates s.held.granting.choosing p.block p.protocol
+    (passes (λ n. not (is_some (held_at s.held p.protocol n))) (candidates s.held.assignment.choosing p.block p.protocol
     p.inside)
     number
     (sym c.in-Some.ensures))) in
@@ -108,7 +108,7 @@ returns-clause-begins c =
     is_live x.timers (hold_ago x.timers p.now) b ≡ true) (sym c.self.view_is) c.requires.live in
     let begins : NewBindingOk p state new (Ok number) = λ list apart is_taken keeps. (
       sym (ap (λ o. ok_or o NoPort) (choice_is s.held.address p (held_at s.held p.protocol) list
-          (rows_of state p list apart is_taken keeps live) s.held.granting.choosing ∙ sym c.in-Some.ensures)),
+          (rows_of state p list apart is_taken keeps live) s.held.assignment.choosing ∙ sym c.in-Some.ensures)),
       record {
         live = made_all s.timers s.held.address p s.held new.held number binding (purge s.timers p.now list) keeps.live
             holds (ap (seen_binding s.timers p.now) free) is;

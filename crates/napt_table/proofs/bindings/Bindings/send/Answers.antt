@@ -15,9 +15,9 @@ returns-in-Some-clause-sends c list apart is_taken keeps left =
     c.are_within_limits.ensures in
     let went : WentThrough old.timers p old.held new.held c.in-Some.number =
     subst (SendKnownPost old.timers p old.held new.held) c.in-Some.is c.in_ok-number.ensures.went in (
-      went_answer old.timers t old.held.granting p old.held new.held c.keep_names.ensures c.in-Some.number went list
+      went_answer old.timers t old.held.assignment p old.held new.held c.keep_names.ensures c.in-Some.number went list
           apart keeps,
-      went_keeps old.timers t old.held.granting p old.held new.held c.keep_names.ensures c.in-Some.number went list
+      went_keeps old.timers t old.held.assignment p old.held new.held c.keep_names.ensures c.in-Some.number went list
           apart keeps left,
     )
 
@@ -99,8 +99,8 @@ returns-then-is_at_quota-clause-sends c list apart is_taken keeps left =
     let absent : HasNoInside gone.held p.protocol p.inside = absent_from gone.held p.protocol p.inside
     c.number_of.result (subst (λ (x : BindingsModel). IsNumberOf x.held p.protocol p.inside c.number_of.result)
     c.self-2.view_is c.number_of.ensures) c.in_default-number_of.is in
-    let over : reaches_quota gone.held.granting.quota (count_all gone.held p.inside.address) ≡ true =
-    subst (λ (x : BindingsModel). reaches_quota x.held.granting.quota (count_all x.held p.inside.address)
+    let over : reaches_quota gone.held.assignment.quota (count_all gone.held p.inside.address) ≡ true =
+    subst (λ (x : BindingsModel). reaches_quota x.held.assignment.quota (count_all x.held p.inside.address)
     ≡ true) c.self-2.view_is
     (sym c.is_at_quota.ensures ∙ c.if-is_at_quota.true) in
     over_sends old mid gone p same c.purge_at.ensures none.none c.keep_names.ensures c.keep_names-2.ensures t list apart
@@ -124,8 +124,8 @@ returns-clause-sends c list apart is_taken keeps left =
     let absent : HasNoInside gone.held p.protocol p.inside = absent_from gone.held p.protocol p.inside
     c.number_of.result (subst (λ (x : BindingsModel). IsNumberOf x.held p.protocol p.inside c.number_of.result)
     c.self-2.view_is c.number_of.ensures) c.in_default-number_of.is in
-    let under : reaches_quota gone.held.granting.quota (count_all gone.held p.inside.address) ≡ false =
-    subst (λ (x : BindingsModel). reaches_quota x.held.granting.quota (count_all x.held p.inside.address)
+    let under : reaches_quota gone.held.assignment.quota (count_all gone.held p.inside.address) ≡ false =
+    subst (λ (x : BindingsModel). reaches_quota x.held.assignment.quota (count_all x.held p.inside.address)
     ≡ false) c.self-2.view_is
     (sym c.is_at_quota.ensures ∙ c.if-is_at_quota.false) in
     begun_sends old mid gone p same c.purge_at.ensures none.none c.keep_names.ensures c.keep_names-2.ensures t list

@@ -17,12 +17,13 @@ known p old new t named (Ok (Some number)) went at = record {
   place = went.one.place;
   at = at;
   sends = λ list apart is_taken keeps left. (
-    went_answer old.timers t old.held.granting p old.held new.held named number went list apart keeps,
-    went_keeps old.timers t old.held.granting p old.held new.held named number went list apart keeps left,
+    went_answer old.timers t old.held.assignment p old.held new.held named number went list apart keeps,
+    went_keeps old.timers t old.held.assignment p old.held new.held named number went list apart keeps left,
   );
-  any_block = λ list apart keeps. went_any_block old.timers t old.held.granting p old.held new.held named number went
+  any_block = λ list apart keeps. went_any_block old.timers t old.held.assignment p old.held new.held named number went
       list apart keeps;
-  finds = λ list apart keeps. ap is_some (found_is old.timers t old.held.granting p old.held new.held named number went
+  finds = λ list apart keeps. ap is_some (found_is old.timers t old.held.assignment p old.held new.held named number
+      went
       list apart keeps);
 }
 

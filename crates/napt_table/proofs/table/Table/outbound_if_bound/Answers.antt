@@ -44,7 +44,7 @@ returns-in-Some-clause-known c block =
           (table_out (table_model t) c.self.invariant.state packet c.requires.number c.requires.block).sound.apart).0
           ∙ ap
           (λ (o : OutboundEffect). o.number) same;
-      left = shown_after t (record t { past = c.and-self-inside.result; bindings = c.send_known.new.self }) packet.now
+      left = shown_after t (record t { events = c.and-self-inside.result; bindings = c.send_known.new.self }) packet.now
           (Sent packet) refl refl c.in_ok-number.ensures.timers k.place k.at c.and-self-inside.ensures
           ∙ ap (λ (o : OutboundEffect). let s : TableModel = record (table_model t) { list = o.list; at = packet.now }
           in s) same;
@@ -65,7 +65,7 @@ returns-in-Some-clause-named c =
     (sym (k.sends list sound.apart (all_taken t c.self.invariant packet.now le)
     (keep_now t c.self.invariant packet.now le)
     (table_out (table_model t) c.self.invariant.state packet c.requires.number c.requires.block).sound.apart).0)
-    (out_named (λ host. t.bindings.held.address) t.bindings.held.address t.bindings.timers t.bindings.held.granting
+    (out_named (λ host. t.bindings.held.address) t.bindings.held.address t.bindings.timers t.bindings.held.assignment
     packet
     c.requires.block
     list sound)

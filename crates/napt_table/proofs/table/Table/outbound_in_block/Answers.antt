@@ -38,7 +38,7 @@ returns-clause-left c =
     let packet = c.args.packet in
     let k = c.in_ok-answer.ensures in
     rw (← c.self.view_is) (shown_after c.self.inside
-    (record c.self.inside { past = c.and-self-inside.result; bindings = c.send.new.self }) packet.now
+    (record c.self.inside { events = c.and-self-inside.result; bindings = c.send.new.self }) packet.now
     (Sent packet) refl refl k.timers k.place k.at c.and-self-inside.ensures)
 
 pub returns-clause-named : goal.returns-clause-named
@@ -51,7 +51,7 @@ returns-clause-named c =
     rw (c.in_ok-answer.ensures.sends (all t c.self.invariant packet.now le) sound.apart
     (all_taken t c.self.invariant packet.now le) (keep_now t c.self.invariant packet.now le)
     (table_out (table_model t) c.self.invariant.state packet c.requires.number c.requires.block).sound.apart).0
-    (out_named (λ host. t.bindings.held.address) t.bindings.held.address t.bindings.timers t.bindings.held.granting
+    (out_named (λ host. t.bindings.held.address) t.bindings.held.address t.bindings.timers t.bindings.held.assignment
     packet
     c.requires.block
     (all t c.self.invariant packet.now le) sound)

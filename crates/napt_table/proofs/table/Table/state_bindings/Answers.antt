@@ -13,7 +13,7 @@ returns c =
     subst (λ (s : TableModel). AreBindingsLeft s.timers c.args.now (live_and_held s.timers c.args.now s.list)
     c.sort_by_key.new.self.items) c.self.view_is
     (left_is t c.self.invariant c.args.now le c.keep_names.ensures c.in_ok-made.ensures.unique
-    c.final_bindings.ensures.used
+    c.state_bindings.ensures.used
     c.in_ok-made.made.items c.sort_by_key.new.self.items c.in_ok-made.ensures.bindings c.in_ok-made.ensures.distinct
     c.sort_by_key.ensures.permutation (IsNonDecreasingBy-from_sort (λ (b : Binding). rank b.row) _
     (c.in_ok-sort_by_key.ensures.sorted (λ (b : Binding). rank b.row) keys)))

@@ -18,6 +18,6 @@ invariant_of-self-in-Some c =
       rules = is.rules;
       address = ap (λ (t : TableModel). t.address) left ∙ is.address;
       timers = ap (λ (t : TableModel). t.timers) left ∙ is.timers;
-      granting = ap (λ (t : TableModel). t.granting) left ∙ is.granting;
+      assignment = ap (λ (t : TableModel). t.assignment) left ∙ is.assignment;
       inbound = ap (λ (t : TableModel). t.inbound) left ∙ is.inbound;
     }

@@ -1,8 +1,8 @@
--- final_bindings: the state is the one after the run, in order.
+-- final_state: the state is the one after the run, in order.
 use Rattle.std.proofs.Common.{List, subst}
 use Rattle.napt_sequential.specs.{declared.counted_translator.CountedTranslator.CountedTranslator, CountedTranslators.AreBindingsOfAll}
 use Rattle.napt_sequential.proofs.LeftTranslators.{all_left}
-use Rattle.napt_sequential.proofs.sequential_run.SequentialRun.final_bindings.Goals as goal
+use Rattle.napt_sequential.proofs.sequential_run.SequentialRun.final_state.Goals as goal
 
 pub returns : goal.returns
 returns c = λ rules state inputs stands.

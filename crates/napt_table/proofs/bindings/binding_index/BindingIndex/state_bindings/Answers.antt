@@ -1,9 +1,9 @@
--- `final_bindings`: a round of the loop that adds a live binding preserves the invariant.
+-- `state_bindings`: a round of the loop that adds a live binding preserves the invariant.
 use Rattle.std.{proofs.{Common.{◌≡◌, ◌++◌, ◌∷◌, [], Bool, true, cond, List, map, filter, sym, ◌∙◌, ap}, lemmas.List.append_assoc}, specs.Map.Iter.deref}
 use Rattle.std.proofs.lemmas.{List.Elements.All-push, Map.Iter.rest_more}
 use Rattle.napt_rules.specs.Prelude.{Binding, is_live, with_live_flows}
 use Rattle.napt_binding.specs.Slots.{AreDistinct}
-use Rattle.napt_table.proofs.bindings.binding_index.BindingIndex.final_bindings.Goals as goal
+use Rattle.napt_table.proofs.bindings.binding_index.BindingIndex.state_bindings.Goals as goal
 
 pub loop-binding-preserved-in_ok-push : goal.loop-binding-preserved-in_ok-push
 loop-binding-preserved-in_ok-push c =

@@ -1,8 +1,8 @@
--- final_bindings: the bindings of one more translator are appended.
+-- state_bindings: the bindings of one more translator are appended.
 use Rattle.std.proofs.{Common.{◌≡◌, ◌+◌, List, [], ◌∷◌, ◌++◌, take, sym, ◌∙◌, ap, subst}, lemmas.List.take_more}
 use Rattle.napt_sequential.specs.declared.counted_translator.CountedTranslator.{CountedTranslator}
 use Rattle.napt_sequential.{specs.CountedTranslators.AreBindingsOfAll, proofs.LeftTranslators.one_left}
-use Rattle.napt_sequential.proofs.run.final_bindings.Goals as goal
+use Rattle.napt_sequential.proofs.run.state_bindings.Goals as goal
 
 pub loop-counted-preserved : goal.loop-counted-preserved
 loop-counted-preserved c =

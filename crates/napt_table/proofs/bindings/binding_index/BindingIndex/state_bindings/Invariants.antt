@@ -1,9 +1,9 @@
--- `final_bindings`: the invariant of the loop over the stored bindings.
+-- `state_bindings`: the invariant of the loop over the stored bindings.
 use Rattle.std.proofs.Common.{◌≡◌, ◌++◌, All, map, filter}
 use Rattle.std.specs.Map.{values_of}
 use Rattle.napt_rules.specs.Prelude.{is_live, with_live_flows, purge}
 use Rattle.napt_binding.specs.Slots.{AreDistinct}
-use Rattle.napt_table.proofs.bindings.binding_index.BindingIndex.final_bindings.Given as goal
+use Rattle.napt_table.proofs.bindings.binding_index.BindingIndex.state_bindings.Given as goal
 
 -- The bindings so far, and those of the rest that are live, are the stored ones after a purge.
 abbrev pub invariant-loop-binding : goal.invariant-loop-binding

@@ -1,7 +1,7 @@
 //! The subject of a request for log entries (RFC 6888, section 4; RFC 6269, section 12).
 
 ghost use Rattle.std.specs.Prelude.{◌≡◌};
-ghost use Rattle.napt_account.specs.Questions.{is_meant};
+ghost use Rattle.napt_account.specs.Parties.{is_meant};
 
 use napt_wire::Endpoint;
 

@@ -1,7 +1,7 @@
 -- The subject of a request for log entries, an address or an endpoint (RFC 6888, section 4; RFC 6269, section 12).
 use Rattle.std.specs.Prelude.{ℕ, ◌==◌, Bool, true, ◌&&◌, Option, Some, None}
 use Rattle.napt_wire.specs.declared.Endpoint.{Endpoint}
-use Rattle.napt_account.specs.declared.question.Party.{Party}
+use Rattle.napt_account.specs.declared.party.Party.{Party}
 
 -- Returns whether a number is the requested one, or no number is requested.
 abbrev pub is_party_number : Option ℕ → ℕ → Bool
