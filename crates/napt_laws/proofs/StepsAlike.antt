@@ -123,7 +123,7 @@ module _ (timers : Timers) (a b : List Binding) (one : AreBindingsApart (map row
     out_alike None in_a in_b =
         subst (λ (r : Result ℕ Cause). AreOutAlike timers packet.now
         (out_made a address packet (held_or_new_number assignment a address packet
-            (find (is_of_source address packet) a)))
+        (find (is_of_source address packet) a)))
         (out_made b address packet r)) (again_same a b rows one assignment address packet)
         (made_alike (held_or_new_number assignment a address packet (find (is_of_source address packet) a)))
     out_alike (Some binding) in_a in_b = record {

@@ -77,15 +77,15 @@ module _ (timers : Timers) (assignment : AssignmentRules) (address : ℕ) (packe
       ∙ (ap (out_made (bindings_at address list) address packet)
       (again_local list (find (is_of_source address packet) list))
       ∙ out_made_local list (held_or_new_number assignment list address packet
-          (find (is_of_source address packet) list)))
+      (find (is_of_source address packet) list)))
 
   -- An outgoing packet depends on the bindings of its address alone.
   pub out_local : (list : List Binding) → out_taken timers assignment address packet (bindings_at address list)
       ≡ record {
-    number = (out_taken timers assignment address packet list).number;
-    through = (out_taken timers assignment address packet list).through;
-    list = bindings_at address (out_taken timers assignment address packet list).list;
-  }
+        number = (out_taken timers assignment address packet list).number;
+        through = (out_taken timers assignment address packet list).through;
+        list = bindings_at address (out_taken timers assignment address packet list).list;
+      }
   out_local list =
       ap (out_found timers assignment (bindings_at address list) address packet)
       (seen_local timers packet.now address is_its list)
