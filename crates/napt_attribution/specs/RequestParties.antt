@@ -22,5 +22,5 @@ is_wanted wanted external = contains party_cmp wanted.parties (external.address,
     || contains party_cmp wanted.parties (external.address, Some external.number)
 
 -- The wanted endpoints are those that the requests ask about.
-abbrev pub Wants : List HolderRequest → WantedEndpoints → Type 0
-Wants asked wanted = (external : Endpoint) → is_wanted wanted external ≡ is_asked_about asked external
+abbrev pub AreEndpointsAskedAbout : List HolderRequest → WantedEndpoints → Type 0
+AreEndpointsAskedAbout asked wanted = (external : Endpoint) → is_wanted wanted external ≡ is_asked_about asked external

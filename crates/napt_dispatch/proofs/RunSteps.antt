@@ -5,7 +5,7 @@ use Rattle.napt_wire.specs.declared.{Way.Way, Side.Side}
 use Rattle.napt_config.specs.Rules.{Rules}
 use Rattle.napt_rules.specs.{declared.Leg.Leg, Prelude.{way_from, Arrival, State, effect_from, last_clock}}
 use Rattle.napt_pool.specs.{declared.pool.Pool.Pool, Pools.{accepted_items, taken_answers as taken}}
-use Rattle.napt_sequential.{specs.{Inputs.InputsCame, declared.{fault.RunFault.RunFault, passage.Passage.Passage}}, proofs.{JoinedSteps.input_there, TracedLegs.outside_alone}}
+use Rattle.napt_sequential.{specs.{Inputs.InputsCame, declared.{fault.RunFault.RunFault, passage.Passage.Passage}}, proofs.{StepsInOrder.input_there, TracedLegs.outside_alone}}
 use Rattle.napt_sequential.specs.declared.leg_trace.TracedAnswer.{TracedAnswer}
 use Rattle.napt_laws.{specs.SecondLegs.second_legs, proofs.OneMoreInput.clock_more}
 use Rattle.napt_dispatch.specs.{declared.{dispatcher.Dispatcher.Dispatcher, outcome_sink.InputResult.InputResult}, Dispatch.of_worker}

@@ -196,8 +196,9 @@ pub record ProgressIsKnown {P : Type 0} (whole : RunLegs P) (number : ℕ) (prog
   pub first : IfSome (first_in progress) (λ first. slice_get whole.firsts number ≡ Some first)
   pub second : KnowsSecond (second_legs number whole.acts) number progress
 
-abbrev pub AllKnown : {P : Type 0} → RunLegs P → List (InputProgress P) → Type 0
-AllKnown {P} whole progress = (i : ℕ) (p : InputProgress P) → slice_get progress i ≡ Some p → ProgressIsKnown whole i p
+abbrev pub ProgressesAreKnown : {P : Type 0} → RunLegs P → List (InputProgress P) → Type 0
+ProgressesAreKnown {P} whole progress = (i : ℕ) (p : InputProgress P) → slice_get progress i ≡ Some p →
+    ProgressIsKnown whole i p
 
 -- These results left the window. The arrival times and marks did not change, and the progress still agrees with a run.
 pub record OutcomesAreHandedOver {P : Type 0} (went : List (ℕ × InputResult P)) (window later : RunProgressModel P) :
@@ -205,4 +206,5 @@ pub record OutcomesAreHandedOver {P : Type 0} (went : List (ℕ × InputResult P
   pub left_is : later.left ≡ window.left ++ went
   pub times_stay : times_in later ≡ times_in window
   pub marks_stay : marks_in later ≡ marks_in window
-  pub known : (whole : RunLegs P) → AllKnown whole (progress_in window) → AllKnown whole (progress_in later)
+  pub known : (whole : RunLegs P) → ProgressesAreKnown whole (progress_in window) →
+      ProgressesAreKnown whole (progress_in later)

@@ -67,8 +67,8 @@ pub record HoldPost (more : List PendingLeg) (q later : WorkerQueueModel) : Type
   pub held_is : all_held later ≡ all_held q ++ more
 
 -- More entries are held for each worker, after all others.
-abbrev pub AllHold : (ℕ → List PendingLeg) → List WorkerQueueModel → List WorkerQueueModel → Type 0
-AllHold more queues later = (v : ℕ) → HoldPost (more v) (queue_of queues v) (queue_of later v)
+abbrev pub QueuesHoldMore : (ℕ → List PendingLeg) → List WorkerQueueModel → List WorkerQueueModel → Type 0
+QueuesHoldMore more queues later = (v : ℕ) → HoldPost (more v) (queue_of queues v) (queue_of later v)
 
 -- Returns the entries for worker w, and none for any other worker.
 abbrev pub only_at : ℕ → List PendingLeg → ℕ → List PendingLeg

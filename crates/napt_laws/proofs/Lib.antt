@@ -58,5 +58,5 @@ pub mod SavedStates
 pub mod LegInduction
 pub mod DispatchLaws
 pub mod OneInput
-pub mod Places
+pub mod SecondLegsByNumber
 pub mod Holders

@@ -2,7 +2,7 @@
 
 ghost use Rattle.std.specs.{Prelude.{◌≡◌, IfErr, IfOk, is_some, option_map}, Io.Buffered.{reader_remaining, writer_contents}};
 ghost use Rattle.either.specs.Either.{either, is_left, left};
-ghost use Rattle.napt_program.specs.Devices.{AreOver, device_bytes_left, bytes_written, log_written};
+ghost use Rattle.napt_program.specs.Devices.{AreDevicesOfFiles, device_bytes_left, bytes_written, log_written};
 
 use crate::files::RunFiles;
 use crate::log_file::LogOutput;
@@ -47,7 +47,7 @@ pub fn buffered<S: Read + Drop, T: Write + Drop, F: Read + Write + Drop>(
     held: usize,
 ) -> Result<RunDevices<S, T, F>, Stop>
     ensures over { IfOk result
-        (AreOver S.remaining T.contents F.remaining F.contents files) }
+        (AreDevicesOfFiles S.remaining T.contents F.remaining F.contents files) }
     ensures refused { IfErr result (λ stop. stop ≡ MEMORY) }
 {
     Ok(RunDevices {

@@ -6,7 +6,7 @@ use Rattle.napt_capture.specs.declared.{fault.CaptureFault.CaptureFault, capture
 use Rattle.napt_capture.specs.{Capture.{capture_of_bytes, format_in}, Reading.{LeavesBytes, IsReadResult, IsReadFault}}
 use Rattle.napt_records.{specs.{RecordMerging.{MergedInputs, at_fault, inputs_until}, declared.Fault.{Fault, TheVariants.{Capture, Run, Write}}}, proofs.ReaderRests.StopsBy-says}
 use Rattle.napt_run.specs.{Files.{files_until, unless_bad, unless_refused}, Runs.IfHeld, Streams.IsHeaderFault}
-use Rattle.napt_run.proofs.{AfterHeaders.{Refuses, refuses}, Ends.IfHeld-by, Files.spelled}
+use Rattle.napt_run.proofs.{AfterHeaders.{Refuses, refuses}, BytesAtEnd.IfHeld-by, Files.spelled}
 
 -- Reading a header of these bytes had this answer.
 abbrev pub Heads : Option (List ℕ) → Option (List ℕ) → Result CaptureFormat CaptureFault → Type 0

@@ -6,7 +6,7 @@ use Rattle.napt_log_text.specs.Times.{TimeText}
 use Rattle.napt_account.{specs.{Effects.log_after, Log.{after_input}, LogBuilders.{IsBuilderFault, LogBuilderModel}, LogParts.{LogDelta, part_between}}, proofs.ContinuedLogs.fold_joined}
 use Rattle.napt_records.specs.declared.{Fault.{Fault, TheVariants.{Capture, Run, Write}}, Which.TheVariants.{Log}}
 use Rattle.napt_sequential.specs.declared.passage.Trace.{Trace}
-use Rattle.napt_run.specs.{OutcomeWriterLaws.{breaks_more, grows_more, grows_none}, OutcomeWriters.named, Outputs.{Breaks, OutputGrows}, LogOrigins.LoggedOrigin, RunningLogLaws.time_joined, RunningLogs.{Adds, EntersNot, EntersWith, FailsBy, LogGoesOnFrom, LogIsAt, known_logs, last_time, rows_in, last_trace_time}}
+use Rattle.napt_run.specs.{OutcomeWriterLaws.{breaks_more, grows_more, grows_none}, OutcomeWriters.named, Outputs.{OutputBreaks, OutputGrows}, LogOrigins.LoggedOrigin, RunningLogLaws.time_joined, RunningLogs.{LogAdds, EntersNot, EntersWith, FailsBy, LogGoesOnFrom, LogIsAt, known_logs, last_time, rows_in, last_trace_time}}
 use Rattle.napt_run.specs.declared.{output.Output.Output, log_writer.LogWriter.LogWriter}
 
 -- THE TIME OF THE LAST INPUT
@@ -86,8 +86,8 @@ module _ {L : Type 0} {S : Ghosts L} (from : LoggedOrigin) (before : List Trace)
   pub write_adds : (text : TimeText) (mid last : Output L S) (r : Result (Unit {0}) WriteFault) →
       LogIsAt from before old →
       OutputGrows old.output text mid → OnOk r (OutputGrows mid [] last) → OnOk r (S.is_flushed last.device.now) →
-      IfErr r (λ fault. mid.is_broken ≡ false → Breaks mid [] fault last) →
-      Adds from before text old.output (named Log r) (record old { output = last })
+      IfErr r (λ fault. mid.is_broken ≡ false → OutputBreaks mid [] fault last) →
+      LogAdds from before text old.output (named Log r) (record old { output = last })
   write_adds text mid last (Ok done) at wrote grown flushed broke = record {
     on = record {
       at = record {
@@ -103,5 +103,5 @@ module _ {L : Type 0} {S : Ghosts L} (from : LoggedOrigin) (before : List Trace)
     flushed = flushed;
   }
   write_adds text mid last (Err fault) at wrote grown flushed broke =
-      subst (λ (l : TimeText). Breaks old.output l fault last) (append-nil text)
+      subst (λ (l : TimeText). OutputBreaks old.output l fault last) (append-nil text)
       (breaks_more old.output mid last text [] fault wrote (broke (wrote.sound at.sound)))

@@ -15,12 +15,12 @@ use Rattle.napt_records.specs.{NewStreams.IsMergerNew, StreamMergers.{MergeEndsW
 use Rattle.napt_records.specs.declared.stream_merger.{StreamMerger.StreamMerger, SideFault.SideFault}
 use Rattle.napt_rules.specs.Prelude.{Arrival}
 use Rattle.napt_sequential.specs.declared.{outcome.StepResult.StepResult, passage.{Passage.Passage, Trace.Trace}}
-use Rattle.napt_sequential.proofs.JoinedSteps.{steps_long, steps_outcomes, steps_traces}
+use Rattle.napt_sequential.proofs.StepsInOrder.{steps_long, steps_outcomes, steps_traces}
 use Rattle.napt_run.specs.{OutcomeWriters.{FailsToBegin, SinkTakes, TimedOutcome}, LogRuns.{EntersFront, LogFailsOver, Legs, LogsTo, legs_told}}
 use Rattle.napt_run.specs.LoggedOutcomeWriters.{AreSettled, FailsEither, FailsLog, FailsOutput, IsSameSinkPlace, TakesBoth, legs_in, outcomes_in}
 use Rattle.napt_run.specs.CaptureRuns.{EntersBy, EntersFirst, EntersOr, EntersTo, FailsAfter, FailsFirst, PassesBy, PassesOr, RunPassesHalted, RunPassesTo}
 use Rattle.napt_run.specs.{Posts.IsBeforeReport, Runs.{IfHeld, run_left_of}, declared.{capture_run.ReportData.ReportData, outcome_writer.OutcomeWriter.OutcomeWriter, logged_outcome_writer.LoggedOutcomeWriter.LoggedOutcomeWriter}}
-use Rattle.napt_run.proofs.{AfterHeaders.{Refuses, fault_of, front, refused_held, taken_of, whole_is}, Ends.none_held, OutcomePrefixes.outcomes_of, TraceFronts.{TraceFront, trace_front}}
+use Rattle.napt_run.proofs.{AfterHeaders.{Refuses, fault_of, front, refused_held, taken_of, whole_is}, BytesAtEnd.none_held, OutcomePrefixes.outcomes_of, TracePrefixes.{TraceFront, trace_front}}
 
 -- WHAT LEAVES
 

@@ -12,7 +12,7 @@ use Rattle.napt_records.proofs.MergeSteps.{merge_ends, merges_whole}
 use Rattle.napt_rules.specs.Prelude.{Arrival}
 use Rattle.napt_run.specs.{Captures.{RunTexts, arrivals_of, both_by, texts_from, texts_by, texts_made}, Files.{files_until, unless_bad, unless_refused}}
 use Rattle.napt_records.specs.declared.Which.TheVariants.{Outside, Inside}
-use Rattle.napt_run.proofs.Ends.{all_of}
+use Rattle.napt_run.proofs.BytesAtEnd.{all_of}
 use Rattle.napt_run.specs.{StreamLaws.{OutputsAreTheSame, ReportsAreTheSame}, Streams.capture_text, declared.captures.CaptureFiles.CaptureFiles}
 
 -- The bytes of a file that reads as these contents.

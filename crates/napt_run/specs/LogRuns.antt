@@ -8,7 +8,7 @@ use Rattle.napt_laws.specs.Dispatching.{IsFrontOf}
 use Rattle.napt_records.specs.declared.{Fault.{Fault, TheVariants.{Capture, Run, Write}}, Which.TheVariants.{Outside, Inside, Report, Log}, stream_merger.CutFlags.CutFlags}
 use Rattle.napt_rules.specs.Prelude.{Arrival}
 use Rattle.napt_sequential.specs.{Traces.traces_of, declared.passage.{Passage.Passage, Trace.Trace}}
-use Rattle.napt_run.specs.{Runs.IfHeld, Streams.{AreTaken, IsStreamFaultOf}, declared.capture_run.ReportData.ReportData}
+use Rattle.napt_run.specs.{Runs.IfHeld, Streams.{AreInputsBeforeFault, IsStreamFaultOf}, declared.capture_run.ReportData.ReportData}
 
 -- The time of an input's legs, and the traces of the first and the second.
 abbrev pub Legs : Type 0 → Type 0
@@ -41,7 +41,7 @@ module _ {P K : Type 0} (tells : Passage → P) (origin : OriginModel) (enters :
   -- The inputs before a fault of a capture were recorded, and the log is flushed.
   pub record EntersToFault (side : Side) (fault : CaptureFault) : Type 0 where
     pub inputs : List Arrival
-    pub taken : IfHeld inside outside (λ all. AreTaken side fault all inputs)
+    pub taken : IfHeld inside outside (λ all. AreInputsBeforeFault side fault all inputs)
     pub is_fault : IfHeld inside outside (IsStreamFaultOf side fault)
     pub entered : enters old (legs_told tells origin inputs) new
     pub settled : is_settled new

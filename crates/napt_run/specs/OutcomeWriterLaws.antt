@@ -8,7 +8,7 @@ use Rattle.napt_wire.specs.declared.Side.TheVariants as sides
 use Rattle.napt_capture.specs.{declared.{device.Sink.Ghosts, fault.WriteFault.WriteFault}, Contents.RecordModel, Text.record_text}
 use Rattle.napt_rules.specs.declared.Outcome.{Outcome}
 use Rattle.napt_records.specs.{Output.{packet_to, record_at, IsTime}, Counts.AreCountsOf}
-use Rattle.napt_run.specs.{Outputs.{Breaks, OutputGrows}, OutcomeWriters.{TimedOutcome, records_text, AreTimes, SinkTakes}, declared.{output.Output.Output, outcome_writer.OutcomeWriter.OutcomeWriter}}
+use Rattle.napt_run.specs.{Outputs.{OutputBreaks, OutputGrows}, OutcomeWriters.{TimedOutcome, records_text, AreTimes, SinkTakes}, declared.{output.Output.Output, outcome_writer.OutcomeWriter.OutcomeWriter}}
 
 -- TEXTS AND TIMES
 
@@ -62,7 +62,7 @@ module _ {W : Type 0} {S : Ghosts W} where
 module _ {W : Type 0} {S : Ghosts W} where
   unfoldable pub breaks_more : (x y z : Output W S) (first second : List ℕ) (fault : WriteFault) →
       OutputGrows x first y →
-      Breaks y second fault z → Breaks x (first ++ second) fault z
+      OutputBreaks y second fault z → OutputBreaks x (first ++ second) fault z
   breaks_more x y z first second fault one two = record {
     same = two.same ∙ one.same;
     count = length first + two.count;

@@ -6,7 +6,7 @@ use Rattle.napt_capture.specs.{Text.{file_header, record_text}, declared.{device
 use Rattle.napt_rules.specs.declared.Outcome.{Outcome}
 use Rattle.napt_records.specs.{Output.{packet_to, record_at, IsTime}, Counts.AreCountsOf, declared.{Fault.{Fault, TheVariants.Write}, Which.Which}}
 use Rattle.napt_records.specs.declared.Which.TheVariants.{Outside, Inside}
-use Rattle.napt_run.specs.{Outputs.{OutputGrows, Breaks}, declared.outcome_writer.OutcomeWriter.OutcomeWriter}
+use Rattle.napt_run.specs.{Outputs.{OutputGrows, OutputBreaks}, declared.outcome_writer.OutcomeWriter.OutcomeWriter}
 
 -- An outcome, with the arrival time of its input.
 abbrev pub TimedOutcome : Type 0
@@ -35,11 +35,11 @@ module _ {W V : Type 0} {S : Ghosts W} {T : Ghosts V} where
   -- An output failed while these outcomes left, and the other output contains none of them, or all.
   abbrev pub FailsBy : OutcomeWriter W V S T → List TimedOutcome → Fault → OutcomeWriter W V S T → Type 0
   FailsBy old all (Write Outside fault) new =
-      Breaks old.to_outside (records_text sides.Outside all) fault new.to_outside
+      OutputBreaks old.to_outside (records_text sides.Outside all) fault new.to_outside
       × OutputGrows old.to_inside [] new.to_inside
   FailsBy old all (Write Inside fault) new =
       OutputGrows old.to_outside (records_text sides.Outside all) new.to_outside
-      × Breaks old.to_inside (records_text sides.Inside all) fault new.to_inside
+      × OutputBreaks old.to_inside (records_text sides.Inside all) fault new.to_inside
   FailsBy old all other new = ⊥
 
   abbrev pub SinkFails : OutcomeWriter W V S T → List TimedOutcome → Fault → OutcomeWriter W V S T → Type 0
@@ -54,9 +54,9 @@ module _ {W V : Type 0} {S : Ghosts W} {T : Ghosts V} where
   -- Writing a header failed; the header of the output to the outside is written first.
   abbrev pub FailsToBegin : OutcomeWriter W V S T → Fault → OutcomeWriter W V S T → Type 0
   FailsToBegin old (Write Outside fault) new =
-      Breaks old.to_outside file_header fault new.to_outside × (new.to_inside ≡ old.to_inside)
+      OutputBreaks old.to_outside file_header fault new.to_outside × (new.to_inside ≡ old.to_inside)
   FailsToBegin old (Write Inside fault) new =
-      OutputGrows old.to_outside file_header new.to_outside × Breaks old.to_inside file_header fault new.to_inside
+      OutputGrows old.to_outside file_header new.to_outside × OutputBreaks old.to_inside file_header fault new.to_inside
   FailsToBegin old other new = ⊥
 
 -- All that left is flushed.
@@ -76,8 +76,9 @@ named which (Ok done) = Ok done
 named which (Err fault) = Err (Write which fault)
 
 -- The captures before anything is written.
-pub record IsNew {W V : Type 0} {S : Ghosts W} {T : Ghosts V} (leaving : OutcomeWriter W V S T) : Type 0 where
-  pub sound : AreOutputsSound leaving
-  pub none_outside : leaving.to_outside.written ≡ 0
-  pub none_inside : leaving.to_inside.written ≡ 0
-  pub counts : AreCountsOf [] leaving.counts
+pub record IsNewOutcomeWriter {W V : Type 0} {S : Ghosts W} {T : Ghosts V} (leaving : OutcomeWriter W V S T) : Type 0
+  where
+    pub sound : AreOutputsSound leaving
+    pub none_outside : leaving.to_outside.written ≡ 0
+    pub none_inside : leaving.to_inside.written ≡ 0
+    pub counts : AreCountsOf [] leaving.counts

@@ -28,8 +28,8 @@ side_of Report = sides.Inside
 side_of Log = sides.Inside
 
 -- These are the inputs before a fault of a side, or some first inputs if its device or memory failed.
-abbrev pub AreTaken : Side → CaptureFault → MergedInputs → List Arrival → Type 0
-AreTaken side fault all inputs =
+abbrev pub AreInputsBeforeFault : Side → CaptureFault → MergedInputs → List Arrival → Type 0
+AreInputsBeforeFault side fault all inputs =
     IsFrontOf inputs all.arrivals
     × IsReadFault fault (all ≡ record { arrivals = inputs; end = Err (record { side = side; fault = fault }) })
 

@@ -41,7 +41,7 @@ struct CaptureOutputs {
 }
 
 /// Reads the capture of a side.
-#[tactic(auto, using(crate::proofs::Received::read_known, crate::proofs::Received::unread, crate::proofs::Received::own_readings))]
+#[tactic(auto, using(crate::proofs::DeviceClauses::read_known, crate::proofs::DeviceClauses::unread, crate::proofs::DeviceClauses::own_readings))]
 fn read_side<R: Source>(alloc: Global, side: Side, source: &mut R) -> Result<Capture, Fault>
     ensures ok { IfOk result (IsReadFrom (R.remaining source.old)) }
     ensures err { IfErr result (CaptureIsUnread side (R.remaining source.old)) }

@@ -44,7 +44,7 @@ pub struct LogWriter<'a, 'b, L: Sink> {
 }
 
 impl<'a, 'b, L: Sink> LogWriter<'a, 'b, L> {
-    ghost use Rattle.napt_run.specs.RunningLogs.{Adds, Closes, EntersNot, EntersWith, FlushPost, IsAfterFault, LogIsAt, left_with, opening_before};
+    ghost use Rattle.napt_run.specs.RunningLogs.{LogAdds, LogCloses, EntersNot, EntersWith, FlushPost, IsAfterFault, LogIsAt, left_with, opening_before};
 
     /// Begins the log of a run from a state, to be written to a device, and writes nothing yet.
     /// Fails only if memory is refused.
@@ -94,7 +94,7 @@ impl<'a, 'b, L: Sink> LogWriter<'a, 'b, L> {
     /// Writes a text, and flushes it.
     fn write(&mut self, text: &str) -> Result<(), Fault>
         ensures text { (from : LoggedOrigin) (before : List Did) → LogIsAt from before self.old →
-            Adds from before text.now self.old.output result self.new }
+            LogAdds from before text.now self.old.output result self.new }
         ensures fault { IfErr result (IsTextFault true) }
         ensures flushed { OnOk result (L.is_flushed self.new.output.device.now) }
     {
@@ -160,7 +160,7 @@ impl<'a, 'b, L: Sink> LogWriter<'a, 'b, L> {
     /// Writes and flushes the rows of the bindings live at the end, if no run continues it.
     fn finish(&mut self) -> Result<OpenLog, Fault>
         ensures text { (from : LoggedOrigin) (all : List Did) → LogIsAt from all self.old →
-            Closes from all (ending_with from all) self.old.output result self.new }
+            LogCloses from all (ending_with from all) self.old.output result self.new }
         ensures left { (from : LoggedOrigin) (all : List Did) → LogIsAt from all self.old →
             IfOk result (λ left. left ≡ left_with from all) }
         ensures fault { IfErr result (IsTextFault true) }
@@ -192,7 +192,7 @@ fn named(answer: Result<(), WriteFault>) -> Result<(), Fault>
 }
 
 impl<L: Sink> StreamLog for LogWriter<'_, '_, L> {
-    ghost use Rattle.napt_run.specs.{Logs.LogPost, LogLaws.log_unreported, RunningLogs.{Enters, LogFails, Opens, running_log_traces}};
+    ghost use Rattle.napt_run.specs.{Logs.LogPost, LogLaws.log_unreported, RunningLogs.{Enters, LogFails, LogOpens, running_log_traces}};
     ghost use Rattle.napt_run.specs.RunningLogLaws.{enters_more, enters_none, fails_more};
 
     type Told = Passage;
@@ -201,7 +201,7 @@ impl<L: Sink> StreamLog for LogWriter<'_, '_, L> {
 
     ghost is_ready = { λ origin it. IsReady origin it };
 
-    ghost opens = { λ old new. Opens old new };
+    ghost opens = { λ old new. LogOpens old new };
 
     ghost enters = { λ old all new. Enters old (running_log_traces all) new };
 

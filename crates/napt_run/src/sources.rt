@@ -1,6 +1,6 @@
 //! The captures that a run reads.
 ghost use Rattle.std.specs.Prelude.{◌≡◌, ◌+◌, List, Option, ℕ, IfErr, IfOk};
-ghost use Rattle.napt_run.specs.{Captures.failed_readings, OutcomeWriters.{IsNew, IsSettled, SinkBegins}, Origins.origin_of, Posts.RunsTo, LoggedOutcomeWriters.IsSameSinkPlace, LogRuns.LogsTo, declared.outcome_writer.OutcomeWriter.OutcomeWriter as KnownLeaving};
+ghost use Rattle.napt_run.specs.{Captures.failed_readings, OutcomeWriters.{IsNewOutcomeWriter, IsSettled, SinkBegins}, Origins.origin_of, Posts.RunsTo, LoggedOutcomeWriters.IsSameSinkPlace, LogRuns.LogsTo, declared.outcome_writer.OutcomeWriter.OutcomeWriter as KnownLeaving};
 ghost use Rattle.napt_run.specs.Streams.{HasRead, IsAfterHeader, IsHeaderFault, IsOfRun};
 
 use crate::capture_run::ReportData;
@@ -36,7 +36,8 @@ impl<T: Threads + Wait + Copy + Send + 'static, G: Gate + Send + Sync + Drop + '
         both: &mut LoggedOutcomeWriter<'_, '_, '_, W, V, K>,
     ) -> Result<ReportData, Fault>
         requires log { K.is_settled both.old.log.now }
-        ensures runs { (begun : KnownLeaving W V W.Sink V.Sink) → IsNew begun → SinkBegins begun both.old.leaving →
+        ensures runs { (begun : KnownLeaving W V W.Sink V.Sink) →
+            IsNewOutcomeWriter begun → SinkBegins begun both.old.leaving →
             IsSettled both.old.leaving → RunsTo (origin_of self.entry.start) (R.remaining inside.old)
             (Q.remaining outside.old) begun both.new.leaving result }
         ensures readings { (¬ IsOfRun result) → HasRead R.failed Q.failed
@@ -65,7 +66,7 @@ impl<T: Threads + Wait + Copy + Send + 'static, G: Gate + Send + Sync + Drop + '
     ) -> Result<ReportData, Fault>
         ensures runs { (bytes others : Option (List ℕ)) (begun : KnownLeaving W V W.Sink V.Sink) →
             IsAfterHeader R.Source records.inside bytes inside.old →
-            IsAfterHeader Q.Source records.outside others outside.old → IsNew begun →
+            IsAfterHeader Q.Source records.outside others outside.old → IsNewOutcomeWriter begun →
             SinkBegins begun both.old.leaving →
             RunsTo (origin_of self.entry.start) bytes others begun both.new.leaving result }
         ensures readings { (¬ IsOfRun result) → HasRead R.failed Q.failed

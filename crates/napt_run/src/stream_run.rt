@@ -1,6 +1,6 @@
 //! A run from devices to devices, headers included.
 ghost use Rattle.std.specs.Prelude.{◌≡◌, IfErr, IfOk};
-ghost use Rattle.napt_run.specs.{OutcomeWriters.IsNew, Origins.origin_of, Posts.{CapturePost, FaultPost, IsBeforeReport, RunsTo, SinkPost, capture_to, log_by}, LoggedOutcomeWriters.IsSameSinkPlace, LogRuns.LogsTo, Runs.IsToldOf};
+ghost use Rattle.napt_run.specs.{OutcomeWriters.IsNewOutcomeWriter, Origins.origin_of, Posts.{CapturePost, FaultPost, IsBeforeReport, RunsTo, SinkPost, capture_to, log_by}, LoggedOutcomeWriters.IsSameSinkPlace, LogRuns.LogsTo, Runs.IsToldOf};
 ghost use Rattle.napt_run.specs.Streams.{HasRead, IsOfRun, stream_ended};
 
 use crate::capture_run::ReportData;
@@ -111,7 +111,7 @@ impl<T: Threads + Wait + Copy + Send + 'static, G: Gate + Send + Sync + Drop + '
         outside: &mut Q,
         both: &mut LoggedOutcomeWriter<'_, '_, '_, W, V, K>,
     ) -> Result<ReportData, Fault>
-        requires new { IsNew both.old.leaving }
+        requires new { IsNewOutcomeWriter both.old.leaving }
         requires log { K.is_settled both.old.log.now }
         ensures runs { RunsTo (origin_of self.entry.start) (R.remaining inside.old)
             (Q.remaining outside.old) both.old.leaving both.new.leaving result }

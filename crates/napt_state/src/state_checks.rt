@@ -4,7 +4,7 @@ ghost use Rattle.napt_rules.specs.{Bindings.Binding as Bound, Opening.opening};
 ghost use Rattle.napt_rules.specs.Life as life;
 ghost use Rattle.napt_rules.specs.Misfits as taking;
 ghost use Rattle.napt_state.specs.EndedMisfits as ending;
-ghost use Rattle.napt_state.specs.StateReaders.{AreOf};
+ghost use Rattle.napt_state.specs.StateReaders.{AreEndpointsOf};
 
 use crate::endpoints::Endpoints;
 use crate::liveness::{is_live, is_standing};
@@ -18,7 +18,7 @@ use std::collections::HashSet;
 
 /// Returns the endpoints of the configuration's redirects.
 fn redirect_endpoints(alloc: Global, config: &Config) -> Result<Endpoints, AllocError>
-    ensures { IfOk result (AreOf (opening config.now)) }
+    ensures { IfOk result (AreEndpointsOf (opening config.now)) }
 {
     let redirects = config.redirects();
     let mut endpoints = Endpoints::new(alloc);
@@ -113,8 +113,8 @@ fn misfit_of(
     redirects: &Endpoints,
     behind: &Endpoints,
 ) -> Result<Option<Misfit>, AllocError>
-    ensures { (rest : List Bound) → AreOf (opening config.now) redirects.now →
-        AreOf rest behind.now →
+    ensures { (rest : List Bound) → AreEndpointsOf (opening config.now) redirects.now →
+        AreEndpointsOf rest behind.now →
         IfOk result (λ misfit. misfit ≡ taking.misfit_of config.now clock
         (life.with_live_flows config.now.timers (life.hold_ago config.now.timers clock) binding.now)
         rest) }
@@ -260,8 +260,8 @@ fn why_ended(
     redirects: &Endpoints,
     behind: &Endpoints,
 ) -> Result<Option<Misfit>, AllocError>
-    ensures { (rest : List Bound) → AreOf (opening config.now) redirects.now →
-        AreOf rest behind.now →
+    ensures { (rest : List Bound) → AreEndpointsOf (opening config.now) redirects.now →
+        AreEndpointsOf rest behind.now →
         IfOk result (λ why. why ≡ ending.why_ended config.now clock binding.now rest) }
 {
     if goes_on(binding, config, hold_ago(config, clock)) {

@@ -6,7 +6,7 @@ use Rattle.napt_config.specs.{Rules.AreTimers, declared.settings.{Timers.Timers,
 use Rattle.napt_rules.specs.declared.{AssignmentRules.AssignmentRules, OutboundPacket.OutboundPacket, Row.Row}
 use Rattle.napt_rules.specs.Prelude.{Binding, change_first, is_live, with_live_flows, purge, hold_ago, live_and_held, choice, count_for, reaches_quota, has_number, is_of_source, binding_after_out, new_binding, OutboundEffect, out_made, held_or_new_number, out_found, out_taken, row, AreBindingsApart}
 use Rattle.napt_table.specs.{declared.bindings.keys.ExternalNumberKey.ExternalNumberKey, Keys.{key_eq, external_key}, HeldLists.{seen_binding, ShowsHeld}}
-use Rattle.napt_table.specs.BindingIndexes.{BindingIndexModel, held_binding, held_at, count_all, HasInside, IsNumberOf, IsNamed, HasNoInside, HoldsSame, KeepsSeen, WentThrough, HasNone}
+use Rattle.napt_table.specs.BindingIndexes.{BindingIndexModel, held_binding, held_at, count_all, HasInside, IsNumberOf, IsNamed, HasNoInside, HoldsSame, KeepsSeen, WentThrough, HasNoLiveBinding}
 use Rattle.napt_table.specs.Bindings.{BindingsModel, ListShowsStored, ListAgrees, KeepsUnseen, BindingsUnchanged, IsPurged, shown_made, NewBindingOk, RenewedBindingOk}
 use Rattle.napt_table.proofs.{Hosts.count_is_held, SeenBindings.{seen_is, seen_seen, found_seen}, Keys.{by_key, at_key, key_number, past_key}}
 use Rattle.napt_table.proofs.{Steps.{by_protocol, sent_others}, OutboundSteps.{found, parts, known_shows, not_found, made_shows}, HeldThroughTime.{live_apart, keeps_on, out_stays}}
@@ -133,7 +133,8 @@ module _ (timers : Timers) (t : AreTimers timers) (assignment : AssignmentRules)
 
 -- A PACKET WHOSE INSIDE ENDPOINT HAS NO LIVE BINDING
 
-pub none_live : (timers : Timers) (packet : OutboundPacket) (old new : BindingIndexModel) → IsNamed old → HasNone timers packet old new →
+pub none_live : (timers : Timers) (packet : OutboundPacket) (old new : BindingIndexModel) → IsNamed old →
+    HasNoLiveBinding timers packet old new →
     (list : List Binding) → AreBindingsApart (map row list) → ListAgrees timers packet.now old.address old list →
     find (is_of_source old.address packet) (purge timers packet.now list) ≡ None
 none_live timers packet old new named none list apart keeps =

@@ -89,7 +89,7 @@ pub record WentThrough (timers : Timers) (packet : OutboundPacket) (old new : Bi
         ≡ Some (binding_after_out packet binding)
 
 -- No live binding is that of the packet's inside endpoint, and no stored binding changed.
-pub record HasNone (timers : Timers) (packet : OutboundPacket) (old new : BindingIndexModel) : Type 0 where
+pub record HasNoLiveBinding (timers : Timers) (packet : OutboundPacket) (old new : BindingIndexModel) : Type 0 where
   pub same : HoldsSame old new
   pub none : (number : ℕ) (b : Binding) → seen_binding timers packet.now (held_at old packet.protocol number) ≡ Some b →
       b.row.inside ≢ packet.inside
@@ -97,4 +97,4 @@ pub record HasNone (timers : Timers) (packet : OutboundPacket) (old new : Bindin
 -- A packet went out through the live binding of its inside endpoint, if there is one, and the answer is its number.
 abbrev pub SendKnownPost : Timers → OutboundPacket → BindingIndexModel → BindingIndexModel → Option ℕ → Type 0
 SendKnownPost timers packet old new (Some number) = WentThrough timers packet old new number
-SendKnownPost timers packet old new None = HasNone timers packet old new
+SendKnownPost timers packet old new None = HasNoLiveBinding timers packet old new

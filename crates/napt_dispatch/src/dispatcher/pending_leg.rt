@@ -1,7 +1,7 @@
 //! Entries of the workers' queues, and how answers change the progress of the inputs.
 
 ghost use Rattle.std.specs.Prelude.{◌≡◌, ◌↔◌, ◌^◌, ◌<◌, true, false, [], length, IsOk, OnOk};
-ghost use Rattle.napt_dispatch.specs.{RunProgresses.progress_in, DispatcherInvariants.{NoteAnswerPost, Resolves, queue_waits, DispatcherIsDone}};
+ghost use Rattle.napt_dispatch.specs.{RunProgresses.progress_in, DispatcherInvariants.{NoteAnswerPost, ResolvesFirstPlace, queue_waits, DispatcherIsDone}};
 
 use crate::dispatcher::Dispatcher;
 use crate::dispatcher::input_progress::InputProgress;
@@ -52,7 +52,7 @@ impl<P: LegTrace> Dispatcher<P> {
     pub(super) fn second_leg(&mut self, front: QueueHead) -> Option<Leg>
         requires { queue_waits (progress_in self.old.progress) front ≡ false }
         ensures same { self.new.queues ≡ self.old.queues }
-        ensures resolves { Resolves front self.old.progress result self.new.progress }
+        ensures resolves { ResolvesFirstPlace front self.old.progress result self.new.progress }
     {
         match front {
             QueueHead::Nothing | QueueHead::FirstLeg => None,

@@ -3,7 +3,7 @@ use Rattle.std.proofs.Common.{◌≡◌, ◌-◌, ◌∙◌, ℕ, List, [], ◌�
 use Rattle.std.proofs.Math.ListN.{drop_of_length-le}
 use Rattle.napt_rules.specs.{Bindings.{Binding}, Misfits.{misfit_of, misfit_or, misfit_in}, declared.{Misfit.Misfit}}
 use Rattle.napt_rules.specs.Life.{is_live, with_live_flows, hold_ago}
-use Rattle.napt_state.specs.StateReaders.{AreOf}
+use Rattle.napt_state.specs.StateReaders.{AreEndpointsOf}
 use Rattle.napt_state.proofs.{TakenBindings.are_more, StandingBindings.{going_on, going_before, dynamic_going}}
 use Rattle.napt_state.proofs.state_checks.first_misfit_in.Goals as goal
 
@@ -16,7 +16,7 @@ loop-left-init c =
     record {
       within = omega arith;
       redirects = c.in_ok-redirects.ensures;
-      behind = subst (λ (l : List Binding). AreOf l c.new-behind.result) (sym none) c.new-behind.ensures;
+      behind = subst (λ (l : List Binding). AreEndpointsOf l c.new-behind.result) (sym none) c.new-behind.ensures;
       found = ap (misfit_in c.args.config.now c.args.clock) (sym none);
     }
 
@@ -40,7 +40,7 @@ loop-left-preserved-in-Continue-branch-3 c =
     record {
       within = omega (arith, c.loop-left.invariant.within);
       redirects = c.loop-left.invariant.redirects;
-      behind = subst (λ (l : List Binding). AreOf l c.insert.new.self) (sym place)
+      behind = subst (λ (l : List Binding). AreEndpointsOf l c.insert.new.self) (sym place)
           (are_more rest live c.binding.inside.row c.loop-left.behind c.insert.new.self
           (ap (λ (b : Binding). b.row) c.binding.view_is) c.loop-left.invariant.behind c.in_ok-insert.ensures);
       found = c.misfit_or-found.ensures
@@ -65,7 +65,8 @@ loop-left-preserved c =
     record {
       within = omega (arith, c.loop-left.invariant.within);
       redirects = c.loop-left.invariant.redirects;
-      behind = subst (λ (l : List Binding). AreOf l c.loop-left.behind) (sym place) c.loop-left.invariant.behind;
+      behind = subst (λ (l : List Binding). AreEndpointsOf l c.loop-left.behind) (sym place)
+          c.loop-left.invariant.behind;
       found = c.loop-left.invariant.found ∙ sym (ap (misfit_in rules c.args.clock) place);
     }
 

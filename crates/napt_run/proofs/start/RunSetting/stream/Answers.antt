@@ -1,7 +1,7 @@
 -- stream: each output has its part of its text, and the log was closed, or flushed after a fault.
 use Rattle.std.proofs.{Common.{List, ℕ, Option, inl, inr, refl}, lemmas.Result.err_from_is_err_and}
 use Rattle.napt_records.specs.declared.Which.TheVariants.{Outside, Inside}
-use Rattle.napt_run.{specs.Origins.{OriginModel, origin_of}, proofs.{OutputsAndLogOfRun.before_report, Ends.{capture_ended, inside_is, of_text, outside_is}}}
+use Rattle.napt_run.{specs.Origins.{OriginModel, origin_of}, proofs.{OutputsAndLogOfRun.before_report, BytesAtEnd.{capture_ended, inside_is, of_text, outside_is}}}
 use Rattle.napt_run.proofs.start.RunSetting.stream.Goals as goal
 
 -- The log could not be opened.

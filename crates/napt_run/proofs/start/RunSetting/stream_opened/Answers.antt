@@ -1,12 +1,12 @@
 -- stream_opened: each output has its part of its text, and the log its rows.
 use Rattle.std.proofs.Common.{sym, ◌∙◌, ap, rules, subst}
-use Rattle.napt_run.{specs.OutcomeWriters.IsNew, proofs.Ends.of_device}
+use Rattle.napt_run.{specs.OutcomeWriters.IsNewOutcomeWriter, proofs.BytesAtEnd.of_device}
 use Rattle.napt_run.proofs.start.RunSetting.stream_opened.Goals as goal
 
 pub begin_and_run-told-requires-clause-new : goal.begin_and_run-told-requires-clause-new
 begin_and_run-told-requires-clause-new g c =
     let into = c.into-leaving.ensures in
-    let is_new = subst IsNew (sym c.over-both.ensures.leaving) (record {
+    let is_new = subst IsNewOutcomeWriter (sym c.over-both.ensures.leaving) (record {
       sound = (
         ap (λ o. o.is_broken) into.to_outside ∙ c.over-ours.ensures.sound,
         ap (λ o. o.is_broken) into.to_inside ∙ c.over-theirs.ensures.sound,

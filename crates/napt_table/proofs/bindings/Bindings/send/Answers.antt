@@ -2,7 +2,7 @@
 use Rattle.std.{proofs.Common.{◌≡◌, ℕ, true, false, cond, Option, sym, subst, ◌∙◌}, specs.Option.is_some}
 use Rattle.napt_config.specs.Rules.{AreTimers}
 use Rattle.napt_rules.specs.Prelude.{reaches_quota}
-use Rattle.napt_table.specs.{BindingIndexes.{count_all, HasNoInside, IsNumberOf, HasInside, WentThrough, HasNone, SendKnownPost}, Bindings.{BindingsModel, BindingsUnchanged}}
+use Rattle.napt_table.specs.{BindingIndexes.{count_all, HasNoInside, IsNumberOf, HasInside, WentThrough, HasNoLiveBinding, SendKnownPost}, Bindings.{BindingsModel, BindingsUnchanged}}
 use Rattle.napt_table.proofs.AssignedNumbers.{stands_then, went_answer, went_keeps, absent_from, gone_unseen, over_sends, begun_sends, renewed_sends}
 use Rattle.napt_table.proofs.bindings.Bindings.send.Goals as goal
 
@@ -37,7 +37,7 @@ renew-requires-clause-unseen c =
     let old = c.args.self.now in
     let mid = c.prepare.new.self in
     let gone = c.purge_at.new.self in
-    let none : HasNone old.timers p old.held c.send_held.new.self.held =
+    let none : HasNoLiveBinding old.timers p old.held c.send_held.new.self.held =
     subst (SendKnownPost old.timers p old.held c.send_held.new.self.held) c.in_default.is c.in_ok-number.ensures.went in
     let at : c.send_held.new.self.at ≡ old.at = subst (λ (o : Option ℕ). c.send_held.new.self.at
     ≡ cond (is_some o) p.now old.at) c.in_default.is c.in_ok-number.ensures.at in
@@ -56,7 +56,7 @@ returns-in-Some-number_of-clause-sends c list apart is_taken keeps left =
     let old = c.args.self.now in
     let mid = c.prepare.new.self in
     let gone = c.purge_at.new.self in
-    let none : HasNone old.timers p old.held c.send_held.new.self.held =
+    let none : HasNoLiveBinding old.timers p old.held c.send_held.new.self.held =
     subst (SendKnownPost old.timers p old.held c.send_held.new.self.held) c.in_default.is c.in_ok-number.ensures.went in
     let at : c.send_held.new.self.at ≡ old.at = subst (λ (o : Option ℕ). c.send_held.new.self.at
     ≡ cond (is_some o) p.now old.at) c.in_default.is c.in_ok-number.ensures.at in
@@ -87,7 +87,7 @@ returns-then-is_at_quota-clause-sends c list apart is_taken keeps left =
     let old = c.args.self.now in
     let mid = c.prepare.new.self in
     let gone = c.purge_at.new.self in
-    let none : HasNone old.timers p old.held c.send_held.new.self.held =
+    let none : HasNoLiveBinding old.timers p old.held c.send_held.new.self.held =
     subst (SendKnownPost old.timers p old.held c.send_held.new.self.held) c.in_default.is c.in_ok-number.ensures.went in
     let at : c.send_held.new.self.at ≡ old.at = subst (λ (o : Option ℕ). c.send_held.new.self.at
     ≡ cond (is_some o) p.now old.at) c.in_default.is c.in_ok-number.ensures.at in
@@ -112,7 +112,7 @@ returns-clause-sends c list apart is_taken keeps left =
     let old = c.args.self.now in
     let mid = c.prepare.new.self in
     let gone = c.purge_at.new.self in
-    let none : HasNone old.timers p old.held c.send_held.new.self.held =
+    let none : HasNoLiveBinding old.timers p old.held c.send_held.new.self.held =
     subst (SendKnownPost old.timers p old.held c.send_held.new.self.held) c.in_default.is c.in_ok-number.ensures.went in
     let at : c.send_held.new.self.at ≡ old.at = subst (λ (o : Option ℕ). c.send_held.new.self.at
     ≡ cond (is_some o) p.now old.at) c.in_default.is c.in_ok-number.ensures.at in

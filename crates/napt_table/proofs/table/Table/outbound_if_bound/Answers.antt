@@ -2,7 +2,7 @@
 use Rattle.std.{proofs.Common.{◌≤◌, ◌∙◌, ℕ, Option, Result, Ok, true, false, ap, refl, sym, subst}, specs.Prelude.{IfOk, IfSome}}
 use Rattle.napt_wire.specs.declared.Cause.{Cause}
 use Rattle.napt_rules.specs.Prelude.{OutboundEffect, IsNumber}
-use Rattle.napt_table.specs.{declared.table_event.TableEvent.TheVariants.Sent, Bindings.{Finds, SendsKnown}, TableModels.table_model, Tables.TableModel}
+use Rattle.napt_table.specs.{declared.table_event.TableEvent.TheVariants.Sent, Bindings.{FindsLiveBinding, SendsKnown}, TableModels.table_model, Tables.TableModel}
 use Rattle.napt_table.proofs.{TableSteps.{all, all_sound, all_taken, keep_now, found_now, shown_after, keeps_after, keeps_same}, Tables.table_out}
 use Rattle.napt_laws.proofs.RowNumbers.{out_named}
 use Rattle.napt_table.proofs.table.Table.outbound_if_bound.Goals as goal
@@ -89,7 +89,8 @@ returns-in-None-clause-found c =
     let packet = c.args.packet in
     let le : t.bindings.at ≤ packet.now =
     subst (λ (s : TableModel). s.at ≤ packet.now) (sym c.self.view_is) c.requires.later in
-    let none : Finds false packet t.bindings = (c.send_known.ensures.unknown (c.in_ok-number.was ∙ ap Ok c.in-None.is)).1
+    let none : FindsLiveBinding false packet t.bindings =
+    (c.send_known.ensures.unknown (c.in_ok-number.was ∙ ap Ok c.in-None.is)).1
     in
     rw (← c.self.view_is) (sym (found_now t c.self.invariant packet.now le packet.protocol packet.inside false
     (none (all t c.self.invariant packet.now le) (all_sound t c.self.invariant packet.now le).apart

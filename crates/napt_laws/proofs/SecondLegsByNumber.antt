@@ -4,7 +4,7 @@ use Rattle.std.proofs.lemmas.List.{map-append, Elements.filter-append}
 use Rattle.napt_rules.specs.Prelude.{BindingUse, Binding, Each, way_from, served_at, LegEffect, act, Arrival, admission, LegAct, RunEffect, with_second_leg, last_clock, State, effect_from, acts_at, legs_at, Way, Outgoing, destination, IsPacket, Rules}
 use Rattle.napt_rules.specs.declared.{Leg.Leg, End.{End, TheVariants.{ToOutside, ToInside, Onward, Dropped}}}
 use Rattle.napt_laws.{proofs.Lists.{each_weaker, each_append}, specs.Dispatching.{IsFrontOf, OnwardIsForeseen}}
-use Rattle.napt_laws.specs.SecondLegs.{first_act, acts_of, acts_of_number, all_but_first, second_legs, second_of, IsSeconded, AnswersFillPlaces, PlacesStandForLegs}
+use Rattle.napt_laws.specs.SecondLegs.{first_act, acts_of, acts_of_number, all_but_first, second_legs, second_of, HasItsSecondLeg, AnswersFillPlaces, PlacesStandForLegs}
 use Rattle.napt_laws.proofs.{LegInduction.each_leg, OneInput.{acts_begin, grown}}
 
 -- The legs of an address in two lists of acts are those of the first and then those of the second.
@@ -50,7 +50,7 @@ follow_seconds rules address leg through list (Onward place packet) = ((refl, λ
 
 -- The same for acts whose numbers begin at a number.
 abbrev SecondsFrom : ℕ → List LegAct → LegAct → Type 0
-SecondsFrom number acts a = (number ≤ a.leg.number) × IsSeconded acts a
+SecondsFrom number acts a = (number ≤ a.leg.number) × HasItsSecondLeg acts a
 
 module _ (number : ℕ) (firsts rests : List LegAct) (here : Each (SecondsHere number firsts) firsts)
     (later : Each (SecondsFrom (number + 1) rests) rests) where
@@ -94,7 +94,7 @@ module _ (number : ℕ) (firsts rests : List LegAct) (here : Each (SecondsHere n
 pub answers_fill : AnswersFillPlaces
 answers_fill rules state inputs =
     let course : RunEffect = effect_from rules state inputs in
-    each_weaker (SecondsFrom 0 course.acts) (IsSeconded course.acts) (λ a h. h.1) course.acts
+    each_weaker (SecondsFrom 0 course.acts) (HasItsSecondLeg course.acts) (λ a h. h.1) course.acts
     (each_leg rules (λ number course. SecondsHere number course.acts) (λ number course. SecondsFrom number course.acts)
     (follow_seconds rules) (λ number first rest one. seconds_more number first.acts rest.acts) 0 state.clock inputs
     state.list)
@@ -184,8 +184,8 @@ module _ (rules : Rules) (state : State) (done rest : List Arrival) (input : Arr
       sym front.1 ∙ (ap (λ (xs : List LegAct). xs ++ front.0)
       (acts_grow ∙ ap (λ (xs : List LegAct). before.acts ++ xs) head.1) ∙ append_assoc before.acts
       (first_act rules at_first leg_of before.list ∷ head.0) front.0) in
-      at_seam (IsSeconded whole) before.acts (first_act rules at_first leg_of before.list) (head.0 ++ front.0)
-      (subst (Each (IsSeconded whole)) is (answers_fill rules state ((done ++ input ∷ []) ++ rest))) way
+      at_seam (HasItsSecondLeg whole) before.acts (first_act rules at_first leg_of before.list) (head.0 ++ front.0)
+      (subst (Each (HasItsSecondLeg whole)) is (answers_fill rules state ((done ++ input ∷ []) ++ rest))) way
 
   pub place_stands : OnwardIsForeseen → IsPacket packet → way_from input.side ≡ Outgoing → (address : ℕ) →
       legs_at address (effect_from rules state (done ++ input ∷ [])).acts

@@ -7,17 +7,17 @@ use Rattle.napt_wire.specs.declared.Side.{Side}
 use Rattle.napt_capture.specs.declared.{device.Sink.Ghosts, fault.{CaptureFault.CaptureFault, WriteFault.WriteFault}}
 use Rattle.napt_dispatch.specs.Dispatch.{IsFaultUnder}
 use Rattle.napt_laws.specs.Dispatching.{IsFrontOf}
-use Rattle.napt_account.specs.{Effects.{IsNext, log_after}, Log.{LogModel, log_on}, LogParts.{in_order_of_end, kept_at}, ResumedLogRuns.left_of}
+use Rattle.napt_account.specs.{Effects.{AreNextEffects, log_after}, Log.{LogModel, log_on}, LogParts.{in_order_of_end, kept_at}, ResumedLogRuns.left_of}
 use Rattle.napt_log_text.specs.{Logs.{living_rows, rows_from}, Times.TimeText}
 use Rattle.napt_records.specs.{RecordMerging.MergedInputs, declared.{Fault.{Fault, TheVariants.{Capture, Run, Write}}, Which.TheVariants.{Outside, Inside, Report, Log}, stream_merger.CutFlags.CutFlags}}
 use Rattle.napt_rules.specs.Prelude.{Arrival, Binding, RunEffect, Rules, last_clock, step}
-use Rattle.napt_sequential.{specs.{Traces.traces_from, declared.{fault.RunFault.{RunFault, TheVariants.{Memory, TooMany, Pool}}, passage.{Passage.Passage, Trace.Trace}}}, proofs.JoinedSteps.traces_long}
-use Rattle.napt_run.specs.{LogLaws.held, OutcomeWriterLaws.{breaks_more, grows_more}, Outputs.{Breaks, OutputGrows}, Origins.OriginModel}
+use Rattle.napt_sequential.{specs.{Traces.traces_from, declared.{fault.RunFault.{RunFault, TheVariants.{Memory, TooMany, Pool}}, passage.{Passage.Passage, Trace.Trace}}}, proofs.StepsInOrder.traces_long}
+use Rattle.napt_run.specs.{LogLaws.held, OutcomeWriterLaws.{breaks_more, grows_more}, Outputs.{OutputBreaks, OutputGrows}, Origins.OriginModel}
 use Rattle.napt_run.specs.{LogRuns.{EntersAll, EntersFront, LogFailsOver, Legs, LogsTo, legs_told, traces_by}, LogOrigins.{LoggedOrigin, ending, text_so_far, texts_of, whole_text}, Logs.{LogPost}}
-use Rattle.napt_run.specs.{Posts.{AtMostOneMore, ExtentPost, FailedPost, FaultPost, OutputEnds, may_have_ended, text_if}, Runs.IfHeld, Streams.{AreTaken, IsSettledBy}}
-use Rattle.napt_run.specs.RunningLogs.{Adds, Closes, Enters, FlushPost, IsReady, LogFails, FailsBy, LogGoesOnFrom, FailsMore, IsAfterFault, LogHalts, LogIsAt, Opens, ending_with, left_with, rows_in, running_log_of, running_log_traces, last_trace_time}
+use Rattle.napt_run.specs.{Posts.{AtMostOneMore, ExtentPost, FailedPost, FaultPost, OutputEnds, may_have_ended, text_if}, Runs.IfHeld, Streams.{AreInputsBeforeFault, IsSettledBy}}
+use Rattle.napt_run.specs.RunningLogs.{LogAdds, LogCloses, Enters, FlushPost, IsReady, LogFails, FailsBy, LogGoesOnFrom, FailsMore, IsAfterFault, LogHalts, LogIsAt, LogOpens, ending_with, left_with, rows_in, running_log_of, running_log_traces, last_trace_time}
 use Rattle.napt_run.specs.declared.{output.Output.Output, log_writer.LogWriter.LogWriter}
-use Rattle.napt_run.proofs.{Ends.{broken, ends, grown_if, none_held, take_whole}, TraceFronts.{NextInput, next_input}}
+use Rattle.napt_run.proofs.{BytesAtEnd.{broken, ends, grown_if, none_held, take_whole}, TracePrefixes.{NextInput, next_input}}
 
 -- TEXTS
 
@@ -165,16 +165,16 @@ module _ {L : Type 0} {S : Ghosts L} (origin : OriginModel) (inside outside : Op
       (λ settled. absurd (never settled))
 
   front_taken : (side : Side) (fault : CaptureFault) (inputs : List Arrival) →
-      IfHeld inside outside (λ all. AreTaken side fault all inputs) →
+      IfHeld inside outside (λ all. AreInputsBeforeFault side fault all inputs) →
       IfHeld inside outside (λ all. IsFrontOf inputs all.arrivals)
-  front_taken side fault inputs taken = held (λ all. AreTaken side fault all inputs)
+  front_taken side fault inputs taken = held (λ all. AreInputsBeforeFault side fault all inputs)
       (λ all. IsFrontOf inputs all.arrivals)
       inside outside (λ all t. t.0) taken
 
   extent_taken : (side : Side) (fault : CaptureFault) (inputs : List Arrival) (size : ℕ) →
-      IfHeld inside outside (λ all. AreTaken side fault all inputs) →
+      IfHeld inside outside (λ all. AreInputsBeforeFault side fault all inputs) →
       IfHeld inside outside (λ all. ExtentPost Log (Err (Capture side fault)) all inputs size size)
-  extent_taken side fault inputs size taken = held (λ all. AreTaken side fault all inputs)
+  extent_taken side fault inputs size taken = held (λ all. AreInputsBeforeFault side fault all inputs)
       (λ all. ExtentPost Log (Err (Capture side fault)) all inputs size size) inside outside (λ all t. (t.1, refl))
       taken
 
@@ -187,7 +187,7 @@ module _ {L : Type 0} {S : Ghosts L} (origin : OriginModel) (inside outside : Op
   -- Writing the rows failed.
   rows_broken : (inputs : List Arrival) (fault : WriteFault) (last : LogWriter L S) →
       IfHeld inside outside (λ all. IsFrontOf inputs all.arrivals) →
-      Breaks old.output (text_so_far From inputs) fault last.output →
+      OutputBreaks old.output (text_so_far From inputs) fault last.output →
       LogPost origin inside outside (Err (Write Log fault)) old last
   rows_broken inputs fault last front p =
       let cut = cut_if From true inputs p.count p.within in
@@ -203,17 +203,17 @@ module _ {L : Type 0} {S : Ghosts L} (origin : OriginModel) (inside outside : Op
       }
 
   -- The log could not be opened.
-  unopened : (last : LogWriter L S) (fault : Fault) → Adds From [] From.opening old.output (Err fault) last →
+  unopened : (last : LogWriter L S) (fault : Fault) → LogAdds From [] From.opening old.output (Err fault) last →
       LogPost origin inside outside (Err fault) old last
   unopened last (Write Log fault) p = rows_broken [] fault last (none_held inside outside)
-      (subst (λ (l : TimeText). Breaks old.output l fault last.output) (none_so_far From) p)
+      (subst (λ (l : TimeText). OutputBreaks old.output l fault last.output) (none_so_far From) p)
   unopened last (Write Outside fault) p = absurd p
   unopened last (Write Inside fault) p = absurd p
   unopened last (Write Report fault) p = absurd p
   unopened last (Capture side fault) p = absurd p
   unopened last (Run fault) p = absurd p
 
-  module _ (mid after : LogWriter L S) (opens : Opens old mid) where
+  module _ (mid after : LogWriter L S) (opens : LogOpens old mid) where
     abbrev EntersLegs : LogWriter L S → List (Legs Passage) → LogWriter L S → Type 0
     EntersLegs x all y = Enters x (running_log_traces all) y
 
@@ -268,9 +268,9 @@ module _ {L : Type 0} {S : Ghosts L} (origin : OriginModel) (inside outside : Op
         (traces_told origin inputs) (fails From [] begun.at)
 
     broken_over : (inputs : List Arrival) (fault : WriteFault) →
-        Breaks mid.output (rows_in From [] (traces_by origin inputs)) fault after.output →
-        Breaks old.output (text_so_far From inputs) fault after.output
-    broken_over inputs fault p = subst (λ (l : TimeText). Breaks old.output l fault after.output)
+        OutputBreaks mid.output (rows_in From [] (traces_by origin inputs)) fault after.output →
+        OutputBreaks old.output (text_so_far From inputs) fault after.output
+    broken_over inputs fault p = subst (λ (l : TimeText). OutputBreaks old.output l fault after.output)
         (ap (λ (l : TimeText). From.opening ++ l) (ready.laws.rows From.each inputs) ∙ so_far_is From inputs)
         (breaks_more old.output mid.output after.output _ _ fault begun.wrote p)
 
@@ -338,12 +338,12 @@ module _ {L : Type 0} {S : Ghosts L} (origin : OriginModel) (inside outside : Op
 
     -- A trace of a run always comes next.
     never_refused : (inputs : List Arrival) (first : List Trace) (next : Trace) → NextInput origin inputs first next →
-        (¬ IsNext (last_trace_time origin.state.clock first) (log_after From.log first) next) → ⊥
+        (¬ AreNextEffects (last_trace_time origin.state.clock first) (log_after From.log first) next) → ⊥
     never_refused inputs first next n never =
-        never (subst (λ (ts : List Trace). IsNext (last_trace_time origin.state.clock ts) (log_after From.log ts) next)
-        (sym n.first_is) (subst (λ (l : LogModel). IsNext (last_trace_time origin.state.clock
+        never (subst (λ (ts : List Trace). AreNextEffects (last_trace_time origin.state.clock ts) (log_after From.log ts) next)
+        (sym n.first_is) (subst (λ (l : LogModel). AreNextEffects (last_trace_time origin.state.clock
         (traces_by origin n.before)) l next) (sym (ready.laws.is_log n.before))
-        (subst (λ (t : ℕ). IsNext t (log_on origin.rules origin.state From.log n.before) next)
+        (subst (λ (t : ℕ). AreNextEffects t (log_on origin.rules origin.state From.log n.before) next)
         (sym (time_is origin n.before)) (ready.laws.come n.before n.input next n.grown))))
 
     module _ (open_gate : Bool) where
@@ -464,7 +464,7 @@ module _ {L : Type 0} {S : Ghosts L} (origin : OriginModel) (inside outside : Op
       ending_at = ap (λ (kept : LogModel). if From.goes_on then [] else living_rows From.origin.rules
           (in_order_of_end kept.entries)) left_is
 
-      pub closed : (left : Result LogModel Fault) → Closes From (traces_by origin s.inputs)
+      pub closed : (left : Result LogModel Fault) → LogCloses From (traces_by origin s.inputs)
           (ending_with From (traces_by origin s.inputs)) after.output left last →
           IfOk left (λ log. log ≡ left_with From (traces_by origin s.inputs)) →
           LogPost origin inside outside left old last
@@ -486,10 +486,10 @@ module _ {L : Type 0} {S : Ghosts L} (origin : OriginModel) (inside outside : Op
                 s.all;
           }
       closed (Err (Write Log fault)) p is =
-          let all : Breaks old.output (whole_text From s.inputs) fault last.output =
-          subst (λ (l : TimeText). Breaks old.output l fault last.output) (text_is From s.inputs)
+          let all : OutputBreaks old.output (whole_text From s.inputs) fault last.output =
+          subst (λ (l : TimeText). OutputBreaks old.output l fault last.output) (text_is From s.inputs)
           (breaks_more old.output after.output last.output _ _ fault (wrote s.inputs s.entered)
-          (subst (λ (l : TimeText). Breaks after.output l fault last.output) ending_at p)) in
+          (subst (λ (l : TimeText). OutputBreaks after.output l fault last.output) ending_at p)) in
           record {
             written = broken (texts_of From) Log inside outside (Err (Write Log fault)) old.output last.output s.inputs
                 _
@@ -531,13 +531,13 @@ module _ {L : Type 0} {S : Ghosts L} (origin : OriginModel) (inside outside : Op
 -- Otherwise it could be written.
 pub opens_by : {L : Type 0} {S : Ghosts L} (old new : LogWriter L S) (result : Result (Unit {0}) Fault) →
     ((from : LoggedOrigin) → LogIsAt from [] old →
-    Adds from [] (string_bytes old.opening) old.output result new) → OnOk result (Opens old new)
+    LogAdds from [] (string_bytes old.opening) old.output result new) → OnOk result (LogOpens old new)
 opens_by old new (Ok done) adds = adds
 opens_by old new (Err fault) adds = tt
 
 pub unopened_by : {L : Type 0} {S : Ghosts L} (origin : OriginModel) (inside outside : Option (List ℕ))
     (old : LogWriter L S) (ready : IsReady origin old) (last : LogWriter L S) (result : Result (Unit {0}) Fault) →
-    Adds (running_log_of origin old) [] (string_bytes old.opening) old.output result last →
+    LogAdds (running_log_of origin old) [] (string_bytes old.opening) old.output result last →
     IfErr result (λ fault. LogPost origin inside outside (Err fault) old last)
 unopened_by origin inside outside old ready last (Ok done) adds = tt
 unopened_by origin inside outside old ready last (Err fault) adds =

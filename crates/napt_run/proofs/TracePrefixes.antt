@@ -3,7 +3,7 @@ use Rattle.std.proofs.Common.{◌≡◌, ℕ, ◌+◌, max, List, [], ◌∷◌,
 use Rattle.std.proofs.lemmas.List.{length-map, length-take-le, map-append, take-append-drop}
 use Rattle.napt_run.specs.Origins.{OriginModel}
 use Rattle.napt_rules.specs.Prelude.{Arrival, effect_from, last_clock, step}
-use Rattle.napt_sequential.{specs.{Traces.trace_of, declared.passage.Trace.Trace}, proofs.{JoinedSteps.{traces_begin, traces_long}, StepTraceSteps.traces_grow}}
+use Rattle.napt_sequential.{specs.{Traces.trace_of, declared.passage.Trace.Trace}, proofs.{StepsInOrder.{traces_begin, traces_long}, StepTraceSteps.traces_grow}}
 use Rattle.napt_run.{specs.LogRuns.traces_by, proofs.OutcomePrefixes.same_front}
 
 module _ {X : Type 0} (of : Trace → X) (origin : OriginModel) where

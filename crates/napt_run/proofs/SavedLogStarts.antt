@@ -7,7 +7,7 @@ use Rattle.napt_account.specs.{Log.LogModel, LogBuilders.LogBuilderModel, LogSta
 use Rattle.napt_log_text.specs.{Logs.{LogOrigin, first_part, first_text, log_so_far, log_text, rows_from}, Times.TimeText}
 use Rattle.napt_capture.specs.declared.device.Sink.{Ghosts}
 use Rattle.napt_run.specs.LogOrigins.{IsResumedFrom, LogTexts, LoggedOrigin, ending, log_origin, origin_saved, text_so_far, texts_anew, texts_from, texts_of, whole_text}
-use Rattle.napt_run.specs.{Origins.{OriginModel, origin_of}, RunningLogs.{AreLaws, IsReady}, declared.{start.Start.Start, log_writer.LogWriter.LogWriter}}
+use Rattle.napt_run.specs.{Origins.{OriginModel, origin_of}, RunningLogs.{LogLawsHold, IsReady}, declared.{start.Start.Start, log_writer.LogWriter.LogWriter}}
 use Rattle.napt_run.specs.declared.log_start.{LogStart.LogStart, ResumedLog.ResumedLog}
 
 -- BEFORE ANY INPUT
@@ -72,7 +72,7 @@ module _ (start : Start) (log_start : LogStart) (taken : ResumedLog)
   log_of = ap (λ (l : LogBuilderModel). l.log) is_taken.known
 
   pub ready : {L : Type 0} {S : Ghosts L} →
-      ((log : LogModel) → IsLogOf start.config.now (origin_of start).state log → AreLaws (origin_of start) log) →
+      ((log : LogModel) → IsLogOf start.config.now (origin_of start).state log → LogLawsHold (origin_of start) log) →
       (it : LogWriter L S) → it.log ≡ taken.log → it.output.is_broken ≡ false → it.output.written ≡ 0 →
       IsReady (origin_of start) it
   ready laws it is sound written =

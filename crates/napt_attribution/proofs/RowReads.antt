@@ -4,7 +4,7 @@ use Rattle.std.specs.{Io.KnownBytes.prepend_known, List.flat_map, Result.IsErr}
 use Rattle.napt_config.specs.Rules.{Rules}
 use Rattle.napt_rules.specs.Prelude.{Each}
 use Rattle.napt_log_text.specs.{LogReaders.LogUnlessUnread, LogRows.IsEvent, Rows.csv_row, declared.{event.LogEvent.LogEvent, log_reader.LogFileFault.LogFileFault, log_row.LogRow.LogRow}}
-use Rattle.napt_attribution.specs.{SavedLogs.{FollowAll, Follows, RowsTrackEvents, entries_in}, declared.{requests.HolderRequest.HolderRequest, saved_rows.SavedRows.SavedRows}}
+use Rattle.napt_attribution.specs.{SavedLogs.{FollowAll, EventFollows, RowsTrackEvents, entries_in}, declared.{requests.HolderRequest.HolderRequest, saved_rows.SavedRows.SavedRows}}
 
 -- If the read failed, so does any call that needs it.
 pub unless : {A B E : Type 0} (read : Result A LogFileFault) (fact : Type 0) (result : Result B E) (P : B → Type 0) →
@@ -28,7 +28,7 @@ module _ (rules : Rules) (asked : List HolderRequest) (events : List LogEvent) (
     (more : Bool)
     (row : (es : List LogEvent) (e : LogEvent) (rest : List ℕ) → IsEvent e → left ≡ Some (csv_row rules e ++ rest) →
     RowsTrackEvents asked old es →
-    (more ≡ true) × Follows (entries_in es) e × RowsTrackEvents asked new (es ++ e ∷ []) ×
+    (more ≡ true) × EventFollows (entries_in es) e × RowsTrackEvents asked new (es ++ e ∷ []) ×
     (later ≡ Some rest))
     (end : left ≡ Some [] → (more ≡ false) × (new ≡ old)) where
   go_on : (done rest : List LogEvent) → done ++ rest ≡ events → Each IsEvent rest → left ≡

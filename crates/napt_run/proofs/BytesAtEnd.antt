@@ -6,7 +6,7 @@ use Rattle.napt_laws.specs.Dispatching.{IsFrontOf}
 use Rattle.napt_records.specs.{RecordMerging.MergedInputs, declared.{Fault.{Fault, TheVariants.{Capture, Run, Write}}, Which.{Which, TheVariants.{Outside, Inside, Report, Log}}}}
 use Rattle.napt_rules.specs.Prelude.{Arrival}
 use Rattle.napt_sequential.specs.declared.fault.RunFault.TheVariants.{Memory, TooMany, Pool}
-use Rattle.napt_run.specs.{Files.files_until, LogLaws.after_success, LogOrigins.LogTexts, Origins.OriginModel, Outputs.{Breaks, OutputGrows}}
+use Rattle.napt_run.specs.{Files.files_until, LogLaws.after_success, LogOrigins.LogTexts, Origins.OriginModel, Outputs.{OutputBreaks, OutputGrows}}
 use Rattle.napt_run.specs.{Posts.{AtMostOneMore, CapturePost, ExtentPost, FailedPost, FailedWrites, FaultPost, IsBeforeReport, IsBegun, IsEndFault, IsTextFault, OutputEnds, OutputPost, SinkPost, WriteExtent, capture_to, output_text_by, text_if}, OutcomeWriters.records_text, Runs.{IfHeld, run_left_of}}
 use Rattle.napt_run.{specs.{Streams.{IsOfRun, IsReportFault, IsSettledBy, capture_text, side_of}, declared.output.Output.Output}, proofs.OutcomePrefixes.capture_is}
 
@@ -94,7 +94,7 @@ module _ {D : Type 0} {S : Ghosts D} (texts : LogTexts) (which : Which) (inside 
   grown p extent = grown_if p (IfHeld-all (Extent (length text)) inside outside extent)
 
   -- Otherwise some first bytes of it were written, and a call failed.
-  pub broken : (fault : WriteFault) (p : Breaks old text fault new) → ((all : MergedInputs) → Extent p.count all) →
+  pub broken : (fault : WriteFault) (p : OutputBreaks old text fault new) → ((all : MergedInputs) → Extent p.count all) →
       (S.failed new.device.now ≡ S.failed old.device.now + 1 → Failed) → (IsSettledBy result → ⊥) →
       OutputEnds texts which inside outside result old new
   broken fault p extent failed never =

@@ -10,7 +10,7 @@ use Rattle.napt_wire.specs.declared.Side.TheVariants as sides
 use Rattle.napt_rules.specs.{Prelude.{Arrival}, declared.Outcome.Outcome}
 use Rattle.napt_run.specs.{Captures.{failed_readings, failed_writings}, LogLaws.held, Posts.IsBeforeReport, Runs.{IfHeld, IsToldOf}}
 use Rattle.napt_run.specs.Streams.{GetsReport, HasRead, IsOfRun, IsReportFault, LeavesInTheEnd, ReportGetsFrom, Reports, ReportsAll}
-use Rattle.napt_run.{specs.declared.capture_run.ReportData.ReportData, proofs.Ends.IfHeld-all}
+use Rattle.napt_run.{specs.declared.capture_run.ReportData.ReportData, proofs.BytesAtEnd.IfHeld-all}
 use Rattle.napt_sequential.specs.declared.fault.RunFault.TheVariants as faults
 
 -- THE REPORT
