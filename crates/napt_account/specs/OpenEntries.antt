@@ -62,8 +62,8 @@ entry_is_at None time = false
 entry_is_at (Some at) time = at == time
 
 -- Returns all entries, in no particular order.
-abbrev pub kept : OpenEntries → List LogEntry
-kept all = map (λ (o : OpenEntry). o.numbered) (hash.values all.by_external)
+abbrev pub all_entries : OpenEntries → List LogEntry
+all_entries all = map (λ (o : OpenEntry). o.numbered) (hash.values all.by_external)
 
 -- Returns the number of entries that are to be checked by a time, in ns.
 abbrev pub due_within : ℕ → OpenEntries → ℕ

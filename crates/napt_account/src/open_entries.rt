@@ -7,7 +7,7 @@ ghost use Rattle.napt_binding.specs.Ends.{is_before};
 ghost use Rattle.napt_account.specs.{BindingTallies.{leg_use, open_of, use_found}, Effects.CanCome, Log.{after_leg, with_entry, with_use}, LogParts.{IsNumbered, NumbersAscend, kept_at, ends_within, in_order_of_end, is_open, living_at}};
 ghost use Rattle.napt_account.specs.OpenEntries as keys;
 
-use crate::binding_tally::{BindingTally, LogNote, NO_USE, found};
+use crate::binding_tally::{BindingTally, LogNote, NO_USE, found_note};
 use crate::log::{Entry, LogEntry, is_before};
 use crate::open_log::OpenLog;
 use napt_sequential::Passage;
@@ -292,7 +292,11 @@ impl OpenEntries {
         let Some(open) = self.by_external.get_mut(&key) else {
             return Ok(NO_USE);
         };
-        let used = BindingTally::through(way, found(&open.numbered.entry), open.numbered.number);
+        let used = BindingTally::through(
+            way,
+            found_note(&open.numbered.entry),
+            open.numbered.number,
+        );
         let was = open.due;
         let due = due_by(was, timed.end);
         open.due = due;
@@ -385,7 +389,7 @@ impl OpenEntries {
 
     /// Returns a copy of the entries, in no particular order.
     fn copied(&self, alloc: Global) -> Result<Vec<LogEntry>, AllocError>
-        ensures kept { IfOk result (λ all. all.items ≡ keys.kept self.now) }
+        ensures kept { IfOk result (λ all. all.items ≡ keys.all_entries self.now) }
         ensures unique { IsUnique external_eq self.now.by_external }
     {
         self.by_external

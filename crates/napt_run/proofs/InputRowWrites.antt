@@ -6,7 +6,7 @@ use Rattle.napt_log_text.specs.Times.{TimeText}
 use Rattle.napt_account.{specs.{Effects.log_after, Log.{after_input}, LogBuilders.{IsBuilderFault, LogBuilderModel}, LogParts.{LogDelta, part_between}}, proofs.ContinuedLogs.fold_joined}
 use Rattle.napt_records.specs.declared.{Fault.{Fault, TheVariants.{Capture, Run, Write}}, Which.TheVariants.{Log}}
 use Rattle.napt_sequential.specs.declared.passage.Trace.{Trace}
-use Rattle.napt_run.specs.{OutcomeWriterLaws.{breaks_more, grows_more, grows_none}, OutcomeWriters.named, Outputs.{OutputBreaks, OutputGrows}, LogOrigins.LoggedOrigin, RunningLogLaws.time_joined, RunningLogs.{LogAdds, EntersNot, EntersWith, FailsBy, LogGoesOnFrom, LogIsAt, known_logs, last_time, rows_in, last_trace_time}}
+use Rattle.napt_run.specs.{OutcomeWriterLaws.{breaks_more, grows_more, grows_none}, OutcomeWriters.result_of_output, Outputs.{OutputBreaks, OutputGrows}, LogOrigins.LoggedOrigin, RunningLogLaws.time_joined, RunningLogs.{LogAdds, EntersNot, EntersWith, FailsBy, LogGoesOnFrom, LogIsAt, known_logs, last_time, rows_in, last_trace_time}}
 use Rattle.napt_run.specs.declared.{output.Output.Output, log_writer.LogWriter.LogWriter}
 
 -- THE TIME OF THE LAST INPUT
@@ -87,7 +87,7 @@ module _ {L : Type 0} {S : Ghosts L} (from : LoggedOrigin) (before : List Trace)
       LogIsAt from before old →
       OutputGrows old.output text mid → OnOk r (OutputGrows mid [] last) → OnOk r (S.is_flushed last.device.now) →
       IfErr r (λ fault. mid.is_broken ≡ false → OutputBreaks mid [] fault last) →
-      LogAdds from before text old.output (named Log r) (record old { output = last })
+      LogAdds from before text old.output (result_of_output Log r) (record old { output = last })
   write_adds text mid last (Ok done) at wrote grown flushed broke = record {
     on = record {
       at = record {

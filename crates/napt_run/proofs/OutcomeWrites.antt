@@ -4,7 +4,7 @@ use Rattle.std.proofs.Common.{◌≡◌, ℕ, ◌-◌, ◌^◌, ◌<◌, List, [
 use Rattle.napt_capture.specs.{Text.{entry_of_packet, record_text}, declared.{device.Sink.Ghosts, fault.WriteFault.WriteFault}}
 use Rattle.napt_rules.specs.declared.Outcome.{Outcome, TheVariants.{ToOutside, ToInside}}
 use Rattle.napt_records.specs.{Counts.AreCountsOf, Output.IsTime, declared.{report.OutcomeCounts.OutcomeCounts, Which.TheVariants.{Outside, Inside}}}
-use Rattle.napt_run.specs.{Outputs.{OutputGrows, OutputBreaks}, OutcomeWriters.{AreTimes, SinkTakes, SinkFails, named}, declared.{output.Output.Output, outcome_writer.OutcomeWriter.OutcomeWriter}}
+use Rattle.napt_run.specs.{Outputs.{OutputGrows, OutputBreaks}, OutcomeWriters.{AreTimes, SinkTakes, SinkFails, result_of_output}, declared.{output.Output.Output, outcome_writer.OutcomeWriter.OutcomeWriter}}
 
 time_of_one : (time : ℕ) (outcome : Outcome) → AreTimes ((time, outcome) ∷ []) → IsTime time
 time_of_one time outcome all = All-head (λ timed. IsTime timed.0) (time, outcome) [] all
@@ -34,7 +34,7 @@ module _ {W V : Type 0} {S : Ghosts W} {T : Ghosts V} (time : ℕ) (packet : Lis
       (IsTime time → IfErr r (λ fault. old.to_outside.is_broken ≡ false →
       OutputBreaks old.to_outside (record_text (entry_of_packet time packet)) fault output)) →
       Counted old.counts (ToOutside packet) counts →
-      MatchResult (named Outside r) (λ _. SinkTakes old ((time, ToOutside packet) ∷ [])
+      MatchResult (result_of_output Outside r) (λ _. SinkTakes old ((time, ToOutside packet) ∷ [])
       (record old { to_outside = output; counts = counts }))
       (λ fault. SinkFails old ((time, ToOutside packet) ∷ []) fault
       (record old { to_outside = output; counts = counts }))
@@ -47,7 +47,7 @@ module _ {W V : Type 0} {S : Ghosts W} {T : Ghosts V} (time : ℕ) (packet : Lis
       (IsTime time → IfErr r (λ fault. old.to_inside.is_broken ≡ false →
       OutputBreaks old.to_inside (record_text (entry_of_packet time packet)) fault output)) →
       Counted old.counts (ToInside packet) counts →
-      MatchResult (named Inside r) (λ _. SinkTakes old ((time, ToInside packet) ∷ [])
+      MatchResult (result_of_output Inside r) (λ _. SinkTakes old ((time, ToInside packet) ∷ [])
       (record old { to_inside = output; counts = counts })) (λ fault. SinkFails old ((time, ToInside packet) ∷ []) fault
       (record old { to_inside = output; counts = counts }))
   leaves_inside output counts r ok err counted =

@@ -71,9 +71,9 @@ IsOfOutput (Write Inside fault) = ⊤
 IsOfOutput other = ⊥
 
 -- Returns the result of a call of an output, with the name of the output.
-abbrev pub named : Which → Result (Unit {0}) WriteFault → Result (Unit {0}) Fault
-named which (Ok done) = Ok done
-named which (Err fault) = Err (Write which fault)
+abbrev pub result_of_output : Which → Result (Unit {0}) WriteFault → Result (Unit {0}) Fault
+result_of_output which (Ok done) = Ok done
+result_of_output which (Err fault) = Err (Write which fault)
 
 -- The captures before anything is written.
 pub record IsNewOutcomeWriter {W V : Type 0} {S : Ghosts W} {T : Ghosts V} (leaving : OutcomeWriter W V S T) : Type 0

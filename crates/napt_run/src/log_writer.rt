@@ -4,7 +4,7 @@ ghost use Rattle.std.specs.Prelude.{◌≡◌, [], List, true, IfErr, IfOk, Matc
 ghost use Rattle.napt_rules.specs.Prelude.{TakesState};
 ghost use Rattle.napt_account.specs.{LogBuilders.part_in, LogStarts.is_saved_log_state};
 ghost use Rattle.napt_sequential.specs.declared.passage.Trace.{Trace as Did};
-ghost use Rattle.napt_run.specs.{LogOrigins.{LoggedOrigin, log_origin, texts_from, texts_of}, LogRuns.IsLogFault, Origins.origin_of, OutcomeWriters.named, Posts.IsTextFault, RunningLogs.{IsReady, ending_with, running_log_of}};
+ghost use Rattle.napt_run.specs.{LogOrigins.{LoggedOrigin, log_origin, texts_from, texts_of}, LogRuns.IsLogFault, Origins.origin_of, OutcomeWriters.result_of_output, Posts.IsTextFault, RunningLogs.{IsReady, ending_with, running_log_of}};
 ghost use Rattle.napt_records.specs.declared.Which.TheVariants.{Log};
 
 use crate::log_start::{LogStart, ResumedLog, log_laws, resume_log};
@@ -99,7 +99,7 @@ impl<'a, 'b, L: Sink> LogWriter<'a, 'b, L> {
         ensures flushed { OnOk result (L.is_flushed self.new.output.device.now) }
     {
         match self.output.write_text(text.as_bytes()) {
-            Ok(()) => named(self.output.flush()),
+            Ok(()) => log_result(self.output.flush()),
             Err(fault) => Err(Fault::Write(Which::Log, fault)),
         }
     }
@@ -182,8 +182,8 @@ fn is_quiet(part: &InputPart) -> bool
 
 /// Returns an answer of the output as an answer of the log.
 #[inline(always)]
-fn named(answer: Result<(), WriteFault>) -> Result<(), Fault>
-    ensures { result ≡ named Log answer }
+fn log_result(answer: Result<(), WriteFault>) -> Result<(), Fault>
+    ensures { result ≡ result_of_output Log answer }
 {
     match answer {
         Ok(()) => Ok(()),

@@ -1,6 +1,6 @@
 //! The captures that a run writes while packets come.
 ghost use Rattle.std.specs.Prelude.{◌≡◌, ◌^◌, ◌<◌, length};
-ghost use Rattle.napt_run.specs.OutcomeWriters.{named};
+ghost use Rattle.napt_run.specs.OutcomeWriters.{result_of_output};
 
 use crate::output::Output;
 use napt_capture::{Sink, WriteFault};
@@ -17,8 +17,8 @@ pub(crate) struct OutcomeWriter<'a, 'b, W: Sink, V: Sink> {
 }
 
 /// Returns an output's answer, and adds the output's name to a fault.
-fn named(which: Which, answer: Result<(), WriteFault>) -> Result<(), Fault>
-    ensures { result ≡ named which answer }
+fn result_of_output(which: Which, answer: Result<(), WriteFault>) -> Result<(), Fault>
+    ensures { result ≡ result_of_output which answer }
 {
     match answer {
         Ok(()) => Ok(()),
@@ -92,13 +92,13 @@ impl<'a, 'b, W: Sink, V: Sink> OutcomeWriter<'a, 'b, W, V> {
         self.counts.count(outcome);
         match outcome {
             Outcome::ToOutside(packet) => {
-                named(
+                result_of_output(
                     Which::Outside,
                     self.to_outside.write_record(time, bytes_of(packet)),
                 )
             }
             Outcome::ToInside(packet) => {
-                named(
+                result_of_output(
                     Which::Inside,
                     self.to_inside.write_record(time, bytes_of(packet)),
                 )
@@ -114,7 +114,7 @@ impl<'a, 'b, W: Sink, V: Sink> OutcomeWriter<'a, 'b, W, V> {
             (λ fault. SinkFails self.old [] fault self.new) }
     {
         match self.to_outside.flush() {
-            Ok(()) => named(Which::Inside, self.to_inside.flush()),
+            Ok(()) => result_of_output(Which::Inside, self.to_inside.flush()),
             Err(fault) => Err(Fault::Write(Which::Outside, fault)),
         }
     }
