@@ -167,12 +167,12 @@ pub record AnswersTo {P : Type 0} (none : P) (window : RunProgressModel P) (numb
 
 -- An answer of worker w was recorded as the progress of its input, with the record of its leg.
 pub record NoteAnswerPost {P : Type 0} (tells : Passage →
-    P) (w : ℕ) (told : TracedAnswer P) (d later : Dispatcher P) : Type 0 where
+    P) (w : ℕ) (traced : TracedAnswer P) (d later : Dispatcher P) : Type 0 where
   pub owed : AwaitedLeg
   pub answers : AnswersAt w owed d.queues later.queues
   pub passages : P × P
-  pub awaited : AnswersTo (tells Nothing) d.progress told.answer.number owed.way told.passage passages
-  pub written : ProgressIsWritten told.answer.number (Answered owed told.answer.end passages.0 passages.1) d.progress
+  pub awaited : AnswersTo (tells Nothing) d.progress traced.answer.number owed.way traced.passage passages
+  pub written : ProgressIsWritten traced.answer.number (Answered owed traced.answer.end passages.0 passages.1) d.progress
       later.progress
 
 -- The second leg of an open input was removed, or the input has none. In both cases its placeholder's mark is cleared.
