@@ -172,8 +172,8 @@ pub record NoteAnswerPost {P : Type 0} (tells : Passage →
   pub answers : AnswersAt w owed d.queues later.queues
   pub passages : P × P
   pub awaited : AnswersTo (tells Nothing) d.progress traced.answer.number owed.way traced.passage passages
-  pub written : ProgressIsWritten traced.answer.number (Answered owed traced.answer.end passages.0 passages.1) d.progress
-      later.progress
+  pub written : ProgressIsWritten traced.answer.number (Answered owed traced.answer.end passages.0 passages.1)
+      d.progress later.progress
 
 -- The second leg of an open input was removed, or the input has none. In both cases its placeholder's mark is cleared.
 abbrev pub IsSecondOf : {P : Type 0} → ℕ → OpenInput P → OpenInput P → Option Leg → Type 0
