@@ -94,7 +94,8 @@ module _ {D : Type 0} {S : Ghosts D} (texts : LogTexts) (which : Which) (inside 
   grown p extent = grown_if p (IfHeld-all (Extent (length text)) inside outside extent)
 
   -- Otherwise some first bytes of it were written, and a call failed.
-  pub broken : (fault : WriteFault) (p : OutputBreaks old text fault new) → ((all : MergedInputs) → Extent p.count all) →
+  pub broken : (fault : WriteFault) (p : OutputBreaks old text fault new) →
+      ((all : MergedInputs) → Extent p.count all) →
       (S.failed new.device.now ≡ S.failed old.device.now + 1 → Failed) → (IsSettledBy result → ⊥) →
       OutputEnds texts which inside outside result old new
   broken fault p extent failed never =

@@ -340,7 +340,8 @@ module _ {L : Type 0} {S : Ghosts L} (origin : OriginModel) (inside outside : Op
     never_refused : (inputs : List Arrival) (first : List Trace) (next : Trace) → NextInput origin inputs first next →
         (¬ AreNextEffects (last_trace_time origin.state.clock first) (log_after From.log first) next) → ⊥
     never_refused inputs first next n never =
-        never (subst (λ (ts : List Trace). AreNextEffects (last_trace_time origin.state.clock ts) (log_after From.log ts) next)
+        never (subst (λ (ts : List Trace). AreNextEffects (last_trace_time origin.state.clock ts)
+        (log_after From.log ts) next)
         (sym n.first_is) (subst (λ (l : LogModel). AreNextEffects (last_trace_time origin.state.clock
         (traces_by origin n.before)) l next) (sym (ready.laws.is_log n.before))
         (subst (λ (t : ℕ). AreNextEffects t (log_on origin.rules origin.state From.log n.before) next)
