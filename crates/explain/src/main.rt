@@ -24,7 +24,7 @@ use crate::manual::{INSTALLED, OWN};
 use crate::options::{ExplainOptions, OutputForm, options_of};
 use crate::pairs::print_pairs;
 use crate::reading::{answer, configuration, open_captures, read_given, requests_of, saved_at};
-use crate::run_setting::RunSetting;
+use crate::run_setting::ExplainRun;
 use clap::Error;
 use clap::error::ErrorKind;
 use napt_attribution::{answer_by_blocks, print_blocks};
@@ -174,5 +174,5 @@ fn run_on_captures<R: Files + Input + Print + Eprint + AllocGlobal>(
     let given = read_given(rt, streams, options, config)?;
     let starts = given.starts(rt, options)?;
     let files = open_captures(rt, options)?;
-    RunSetting::new(streams, options, &given, &starts).read(rt, files)
+    ExplainRun::new(streams, options, &given, &starts).read(rt, files)
 }

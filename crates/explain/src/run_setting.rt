@@ -19,22 +19,22 @@ use std::rt::Files;
 
 /// The options of a run, with its configurations and its starts.
 #[derive(Clone, Copy)]
-pub struct RunSetting<'a> {
+pub struct ExplainRun<'a> {
     streams: StandardStreams,
     options: &'a ExplainOptions<'a>,
     given: &'a GivenLog,
     starts: &'a RunStarts<'a>,
 }
 
-impl<'a> RunSetting<'a> {
+impl<'a> ExplainRun<'a> {
     /// Returns the setting of a run that the command line requests.
     pub fn new(
         streams: StandardStreams,
         options: &'a ExplainOptions<'a>,
         given: &'a GivenLog,
         starts: &'a RunStarts<'a>,
-    ) -> RunSetting<'a> {
-        RunSetting {
+    ) -> ExplainRun<'a> {
+        ExplainRun {
             streams,
             options,
             given,

@@ -96,7 +96,7 @@ fn run<R: ProgramHost>(
     };
     let end = run_over(rt, call, options, start, devices)?;
     let (end, outputs) = end;
-    let saved = saved_state(rt.alloc(), &config, end.passed, save.is_some())?;
+    let saved = saved_state(rt.alloc(), &config, end.summary, save.is_some())?;
     if let (Some(save), Some(saved)) = (save, saved) {
         outputs.sync()?;
         save.finish(rt, rt.alloc(), &saved)?;
@@ -109,15 +109,15 @@ fn run<R: ProgramHost>(
 fn saved_state(
     alloc: Global,
     config: &Config,
-    passed: RunSummary,
+    summary: RunSummary,
     is_saved: bool,
 ) -> Result<Option<StateFileContents>, Stop>
     ensures saved { IfOk result (λ made. is_some made ≡ is_saved) }
-    ensures left { (state : State) → LeavesState config.now state passed →
+    ensures left { (state : State) → LeavesState config.now state summary →
         IfOk result (λ made. IfSome made (IsSavedState config.now state)) }
     ensures stop { IfErr result (λ stop. stop ≡ MEMORY) }
 {
-    match passed.into_state_if(is_saved, alloc)? {
+    match summary.into_state_if(is_saved, alloc)? {
         Some(state) => Ok(Some(StateFileContents::from_state(alloc, config, state, None)?)),
         None => Ok(None),
     }

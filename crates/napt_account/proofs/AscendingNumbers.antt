@@ -6,44 +6,45 @@ use Rattle.napt_wire.specs.declared.Way.TheVariants.{Outgoing, Incoming}
 use Rattle.napt_rules.specs.Prelude.{LegAct, Each, Timers}
 use Rattle.napt_laws.proofs.Lists.{each_weaker}
 use Rattle.napt_sequential.specs.declared.passage.Passage.{Passage, TheVariants.{Nothing, Made, Out, In, Dropped}}
-use Rattle.napt_account.specs.{declared.log.{Entry.Entry, LogEntry.LogEntry}, Log.{LogModel, after_leg, after_record, made_by, numbered_from, use_entry}, OpenEntries.Has, LogParts.{IsNumbered, Rises}}
+use Rattle.napt_account.specs.{declared.log.{Entry.Entry, LogEntry.LogEntry}, Log.{LogModel, after_leg, after_record, made_by, numbered_from, use_entry}, OpenEntries.Has, LogParts.{IsNumbered, NumbersAscend}}
 use Rattle.napt_account.proofs.{ContinuedLogs.numbered_leg, EndOrderings.{Differ, InTurn, same_turn, each_has, has_each}, SortedLists.sorted_turn}
 
-rises_less : (m n : ℕ) → m ≤ n → (ls : List LogEntry) → Rises n ls → Rises m ls
+rises_less : (m n : ℕ) → m ≤ n → (ls : List LogEntry) → NumbersAscend n ls → NumbersAscend m ls
 rises_less m n le [] h = tt
 rises_less m n le (l ∷ ls) h = ((let first = h.0 in omega (arith, first, le)), h.1)
 
-pub rises_above : (n : ℕ) (ls : List LogEntry) → Rises n ls → Each (λ l. n ≤ l.number) ls
+pub rises_above : (n : ℕ) (ls : List LogEntry) → NumbersAscend n ls → Each (λ l. n ≤ l.number) ls
 rises_above n [] h = tt
 rises_above n (l ∷ ls) h =
     (h.0, rises_above n ls (rises_less n (l.number + 1) (let first = h.0 in omega (arith, first)) ls h.1))
 
 -- The entries that pass a test.
-pub rises_filter : (p : LogEntry → Bool) (n : ℕ) (ls : List LogEntry) → Rises n ls → Rises n (filter p ls)
+pub rises_filter : (p : LogEntry → Bool) (n : ℕ) (ls : List LogEntry) → NumbersAscend n ls →
+    NumbersAscend n (filter p ls)
 rises_filter p n [] h = tt
-rises_filter p n (l ∷ ls) h = elim (p l) as (λ v. Rises n (cond v (l ∷ filter p ls) (filter p ls))) [
+rises_filter p n (l ∷ ls) h = elim (p l) as (λ v. NumbersAscend n (cond v (l ∷ filter p ls) (filter p ls))) [
   | true ↦ (h.0, rises_filter p (l.number + 1) ls h.1)
   | false ↦ rises_less n (l.number + 1) (let first = h.0 in omega (arith, first)) (filter p ls)
       (rises_filter p (l.number + 1) ls h.1)
 ]
 
 -- One more entry after all others.
-pub rises_pushed : (n : ℕ) (ls : List LogEntry) (l : LogEntry) → Rises n ls →
-    Each (λ m. m.number + 1 ≤ l.number) ls → n ≤ l.number → Rises n (ls ++ l ∷ [])
+pub rises_pushed : (n : ℕ) (ls : List LogEntry) (l : LogEntry) → NumbersAscend n ls →
+    Each (λ m. m.number + 1 ≤ l.number) ls → n ≤ l.number → NumbersAscend n (ls ++ l ∷ [])
 rises_pushed n [] l h behind first = (first, tt)
 rises_pushed n (m ∷ ls) l h behind first = (h.0, rises_pushed (m.number + 1) ls l h.1 behind.1 behind.0)
 
 -- Changed entries that keep their numbers.
 pub rises_mapped : (f : LogEntry → LogEntry) → ((l : LogEntry) → (f l).number ≡ l.number) → (n : ℕ)
-    (ls : List LogEntry) → Rises n ls → Rises n (map f ls)
+    (ls : List LogEntry) → NumbersAscend n ls → NumbersAscend n (map f ls)
 rises_mapped f same n [] h = tt
 rises_mapped f same n (l ∷ ls) h = (
   subst (λ (k : ℕ). n ≤ k) (sym (same l)) h.0,
-  subst (λ (k : ℕ). Rises (k + 1) (map f ls)) (sym (same l)) (rises_mapped f same (l.number + 1) ls h.1),
+  subst (λ (k : ℕ). NumbersAscend (k + 1) (map f ls)) (sym (same l)) (rises_mapped f same (l.number + 1) ls h.1),
 )
 
 -- No two entries have the same number.
-pub rises_differ : (n : ℕ) (ls : List LogEntry) → Rises n ls → Differ ls
+pub rises_differ : (n : ℕ) (ls : List LogEntry) → NumbersAscend n ls → Differ ls
 rises_differ n [] h = tt
 rises_differ n (l ∷ ls) h = (
   has_each (λ m. l.number ≢ m.number) ls (λ m has same.
@@ -64,8 +65,8 @@ same_number (x ∷ ls) differ l m (inr a) (inr b) same = same_number ls differ.1
 
 -- NUMBERS ASCEND AFTER A LEG
 
-pub rises_leg : (now : ℕ) (p : Passage) (log : LogModel) → IsNumbered log → Rises 1 log.entries →
-    Rises 1 (after_leg now p log).entries
+pub rises_leg : (now : ℕ) (p : Passage) (log : LogModel) → IsNumbered log → NumbersAscend 1 log.entries →
+    NumbersAscend 1 (after_leg now p log).entries
 rises_leg now Nothing log numbered rises = rises
 rises_leg now (Made timed) log numbered rises =
     rises_pushed 1 log.entries (record { number = log.made + 1; entry = made_by now timed }) rises
@@ -78,14 +79,14 @@ rises_leg now (In timed) log numbered rises =
     rises_mapped (use_entry Incoming now timed) (λ l. refl) 1 log.entries rises
 rises_leg now (Dropped loss) log numbered rises = rises
 
-pub rises_all : (timers : Timers) (acts : List LegAct) (log : LogModel) → IsNumbered log → Rises 1 log.entries →
-    Rises 1 (fold (after_record timers) log acts).entries
+pub rises_all : (timers : Timers) (acts : List LegAct) (log : LogModel) → IsNumbered log → NumbersAscend 1 log.entries →
+    NumbersAscend 1 (fold (after_record timers) log acts).entries
 rises_all timers [] log numbered rises = rises
 rises_all timers (a ∷ acts) log numbered rises =
     rises_all timers acts (after_record timers log a) (numbered_leg a.leg.now _ log numbered)
     (rises_leg a.leg.now _ log numbered rises)
 
-pub rises_from : (n : ℕ) (es : List Entry) → Rises n (numbered_from n es)
+pub rises_from : (n : ℕ) (es : List Entry) → NumbersAscend n (numbered_from n es)
 rises_from n [] = tt
 rises_from n (e ∷ es) = (omega arith, rises_from (n + 1) es)
 
@@ -94,7 +95,7 @@ rises_from n (e ∷ es) = (omega arith, rises_from (n + 1) es)
 abbrev before : LogEntry → LogEntry → Bool
 before x y = nat_lt x.number y.number
 
-rising_turn : (n : ℕ) (xs : List LogEntry) → Rises n xs → InTurn before xs
+rising_turn : (n : ℕ) (xs : List LogEntry) → NumbersAscend n xs → InTurn before xs
 rising_turn n [] h = tt
 rising_turn n (x ∷ xs) h = (
   has_each (λ y. before x y ≡ true) xs
@@ -104,13 +105,14 @@ rising_turn n (x ∷ xs) h = (
 )
 
 -- Two ascending lists with the same elements are the same.
-pub rises_same : (n : ℕ) (xs ys : List LogEntry) → Rises n xs → Rises n ys → ((l : LogEntry) → Has xs l → Has ys l) →
+pub rises_same : (n : ℕ) (xs ys : List LogEntry) → NumbersAscend n xs → NumbersAscend n ys →
+    ((l : LogEntry) → Has xs l → Has ys l) →
     ((l : LogEntry) → Has ys l → Has xs l) → xs ≡ ys
 rises_same n xs ys rises other = same_turn before (λ x y h k. grind (arith, nat_tests)) xs ys (rising_turn n xs rises)
     (rising_turn n ys other)
 
 pub sorted_rising : (n : ℕ) (xs zs : List LogEntry) → IsSortedByKey (λ l. l.number) nat_cmp xs → Differ xs →
-    Rises n zs →
+    NumbersAscend n zs →
     ((l : LogEntry) → Has xs l → Has zs l) → ((l : LogEntry) → Has zs l → Has xs l) → xs ≡ zs
 sorted_rising n xs zs sorted differ rises = same_turn before (λ x y h k. grind (arith, nat_tests)) xs zs
     (sorted_turn (λ (l : LogEntry). l.number) nat_cmp before (λ x y. x.number ≢ y.number)

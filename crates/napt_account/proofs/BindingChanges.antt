@@ -1,9 +1,9 @@
 -- The effects of a leg on the bindings: none, a change of the one through which its packet went, or a new one.
 use Rattle.std.proofs.Common.{arith, ◌≡◌, ℕ, Bool, true, false, not, cond, List, [], ◌∷◌, ◌++◌, map, filter, Option, Some, None, Result, Ok, Err, refl, sym, ◌∙◌, ap, subst, true≢false}
 use Rattle.std.{proofs.lemmas.{Grind.common_steps, Bool.{Decides.nat_tests, not-true}}, specs.{Prelude.find, List.list_any}}
-use Rattle.napt_rules.specs.Prelude.{BindingUse, Binding, Each, change_first, has_number, is_live, with_live_flows, purge, hold_ago, live_and_held, permits, inbound_rules, assignment_rules, is_of_source, binding_after_out, other_bindings, new_binding, out_made, granted_again, out_found, is_of_destination, binding_after_in, in_found, outbound_packet, inbound_packet, LegEffect, act_out, act_in, act_by, act, row, Protocol, Cause, Flags, Way, Outgoing, Kind, kind, Rules, AreTimers}
+use Rattle.napt_rules.specs.Prelude.{BindingUse, Binding, Each, change_first, has_number, is_live, with_live_flows, purge, hold_ago, live_and_held, permits, inbound_rules, assignment_rules, is_of_source, binding_after_out, other_bindings, new_binding, out_made, held_or_new_number, out_found, is_of_destination, binding_after_in, in_found, outbound_packet, inbound_packet, LegEffect, act_out, act_in, act_by, act, row, Protocol, Cause, Flags, Way, Outgoing, Kind, kind, Rules, AreTimers}
 use Rattle.napt_rules.specs.declared.{AssignmentRules.AssignmentRules, OutboundPacket.OutboundPacket, InboundPacket.InboundPacket, Row.Row, Leg.Leg}
-use Rattle.napt_laws.proofs.{StepCases.in_passed, Acts.of_act, Lists.{any_none, find_passes, each_weaker, each_pushed, each_kept, each_true}, Endpoints.{has_it, inside_parts}}
+use Rattle.napt_laws.proofs.{StepCases.in_passed, LegCases.of_act, Lists.{any_none, find_passes, each_weaker, each_pushed, each_kept, each_true}, Endpoints.{has_it, inside_parts}}
 use Rattle.napt_laws.proofs.{FreshBindings.{IsFresh, sent_fresh, received_fresh}, HeldNumbers.each_rows, SeenElements.purge_taken, StepRows.{purge_keeps, out_keeps, in_keeps}}
 use Rattle.napt_laws.proofs.{StepsLive.{sent_seen, made_is_seen, made_is_fresh, received_seen}, Quotas.granted_is_chosen, StepsSound.chosen_free}
 
@@ -79,7 +79,7 @@ module _ (t : Binding → Bool) where
           | false ↦ λ none. each_seen q f same rows xs h.1 none
         ] none
 
-module _ (granting : AssignmentRules) (address : ℕ) (packet : OutboundPacket) (list : List Binding) (n : ℕ)
+module _ (assignment : AssignmentRules) (address : ℕ) (packet : OutboundPacket) (list : List Binding) (n : ℕ)
     (differ : AllDiffer (map row list)) where
   abbrev new : Row
   new = row (new_binding address packet n)
@@ -88,10 +88,10 @@ module _ (granting : AssignmentRules) (address : ℕ) (packet : OutboundPacket) 
   IsOther y = is_of_source address packet y ≡ false → Differ (row y) new
 
   granted_differ : (held : Option Binding) → find (is_of_source address packet) list ≡ held →
-      granted_again granting list address packet held ≡ Ok n → Each IsOther list
+      held_or_new_number assignment list address packet held ≡ Ok n → Each IsOther list
   granted_differ None is e =
-      let unused = chosen_free granting.choosing packet.block list packet.protocol address packet.inside n
-      (granted_is_chosen granting list address packet n e) in
+      let unused = chosen_free assignment.choosing packet.block list packet.protocol address packet.inside n
+      (granted_is_chosen assignment list address packet n e) in
       let has : Binding → Bool = λ b. has_number address packet.protocol n b.row in
       each_weaker (λ y. Differ (row y) new) IsOther (λ y d isnt. d) list (each_rows (λ r. Differ r new) list
       (free_differ new list (any_none has list (not-true (list_any has list) unused))))
@@ -154,7 +154,7 @@ module _ (rules : Rules) (t : AreTimers rules.timers) (address : ℕ) (leg : Leg
       abbrev source : Binding → Bool
       source = is_of_source address packet
 
-      new_differs : (n : ℕ) → granted_again (assignment_rules rules) all address packet (find source all) ≡ Ok n →
+      new_differs : (n : ℕ) → held_or_new_number (assignment_rules rules) all address packet (find source all) ≡ Ok n →
           find source (purge rules.timers leg.now all) ≡ None → AllDiffer (map row list) →
           Each (λ r. Differ r (row (new_binding address packet n))) (map row own)
       new_differs n e none differ =
@@ -166,7 +166,7 @@ module _ (rules : Rules) (t : AreTimers rules.timers) (address : ℕ) (leg : Leg
           (find source all) refl e) none)
 
       moves_made : find source (purge rules.timers leg.now all) ≡ None → (number : Result ℕ Cause) →
-          granted_again (assignment_rules rules) all address packet (find source all) ≡ number →
+          held_or_new_number (assignment_rules rules) all address packet (find source all) ≡ number →
           Moves (out_made all address packet number).through (out_made all address packet number).list
       moves_made none (Err cause) e = held_stays
       moves_made none (Ok n) e =
@@ -183,7 +183,8 @@ module _ (rules : Rules) (t : AreTimers rules.timers) (address : ℕ) (leg : Leg
           (sym (sent_seen rules.timers t address packet all ∙ ap (change_first source (binding_after_out packet)) same))
           (found source (binding_after_out packet) b (ap (find source) (sym same) ∙ e) (λ x. refl)
           (λ x f. sent_fresh rules.timers t packet.remote flags leg.now x f.flows))
-      moves_found None e = moves_made e (granted_again (assignment_rules rules) all address packet (find source all))
+      moves_found None e = moves_made e (held_or_new_number (assignment_rules rules) all address packet
+          (find source all))
           refl
 
       goes : Moves (act_out rules address leg list protocol flags).through

@@ -6,7 +6,7 @@ use Rattle.std.{specs.{Map.{lookup, keys_of, values_of}, Ordering.is_lt, HashMap
 use Rattle.std.proofs.lemmas.{Map.Keys.IsDistinct-IsPermutation, Option.same_Some}
 use Rattle.napt_rules.specs.Prelude.{Each}
 use Rattle.napt_account.specs.declared.{log.LogEntry.LogEntry, open_entries.{DueEntry.DueEntry, EntryKey.EntryKey, OpenEntry.OpenEntry, OpenEntries.OpenEntries}}
-use Rattle.napt_account.specs.OpenEntries.{entry_key, end_key_of, end_key, external_eq, end_cmp, open_at, entry_at, is_queued, entry_is_at, kept, Has, IsIndexed, OpenEntriesShow}
+use Rattle.napt_account.specs.OpenEntries.{entry_key, end_key_of, end_key, external_eq, end_cmp, open_at, entry_at, is_queued, entry_is_at, all_entries, Has, IsIndexed, OpenEntriesShow}
 use Rattle.napt_account.specs.{Log.LogModel, LogParts.{is_open, ends_within, ends_first, in_order_of_end}}
 use Rattle.napt_account.proofs.EndOrderings.{Differ, InOrder, differ_filter, each_has, has_each, has_left, has_parts, has_filter, filter_has, first_then, is_order}
 use Rattle.napt_account.proofs.{AscendingNumbers.{rises_differ, rises_filter, same_number, sorted_rising}, SortedLists.{has_back, has_moved, sorted_turn}}
@@ -133,20 +133,20 @@ module _ (now most : ℕ) (log : LogModel) (all : OpenEntries) (shows : OpenEntr
   kept_each : Each (λ f. open_at all f.0 ≡ Some f.1) all.by_external.entries
   kept_each = found_each all.by_external.entries unique
 
-  kept_at : (l : LogEntry) → Has (kept all) l → (x : EntryKey) × (entry_at all x ≡ Some l)
+  kept_at : (l : LogEntry) → Has (all_entries all) l → (x : EntryKey) × (entry_at all x ≡ Some l)
   kept_at = value_at (λ x l. entry_at all x ≡ Some l) all.by_external.entries
       (each_weaker (λ f. open_at all f.0 ≡ Some f.1) (λ f. entry_at all f.0 ≡ Some f.1.numbered)
       (λ f at. open_entry all f.0 f.1 at) all.by_external.entries kept_each)
 
-  kept_there : AreThere all (kept all)
+  kept_there : AreThere all (all_entries all)
   kept_there l h = grind (arith, common_steps, kept_at, under)
 
-  kept_has : (x : EntryKey) (l : LogEntry) → entry_at all x ≡ Some l → Has (kept all) l
+  kept_has : (x : EntryKey) (l : LogEntry) → entry_at all x ≡ Some l → Has (all_entries all) l
   kept_has x l at =
       let o = entry_open all x l at in
-      subst (Has (kept all)) o.2 (found_has (external_eq x) all.by_external.entries o.0 o.1)
+      subst (Has (all_entries all)) o.2 (found_has (external_eq x) all.by_external.entries o.0 o.1)
 
-  kept_alone : Apart (kept all)
+  kept_alone : Apart (all_entries all)
   kept_alone = kept_apart all.by_external.entries unique
       (each_weaker (λ f. open_at all f.0 ≡ Some f.1) (λ f. f.0 ≡ entry_key f.1.numbered.entry.binding)
       (λ f at. (shows.indexed.placed f.0 f.1 at).0) all.by_external.entries kept_each)
@@ -154,26 +154,28 @@ module _ (now most : ℕ) (log : LogModel) (all : OpenEntries) (shows : OpenEntr
   abbrev opens : List LogEntry
   opens = filter (is_open now) log.entries
 
-  kept_open : (l : LogEntry) → Has (kept all) l → Has opens l
+  kept_open : (l : LogEntry) → Has (all_entries all) l → Has opens l
   kept_open l h = let at = kept_at l h in
       has_filter (is_open now) log.entries l (shows.there at.0 l at.1) (shows.unended at.0 l at.1)
 
-  open_kept : (l : LogEntry) → Has opens l → Has (kept all) l
+  open_kept : (l : LogEntry) → Has opens l → Has (all_entries all) l
   open_kept l h = let p = filter_has (is_open now) log.entries l h in
       kept_has (entry_key l.entry.binding) l (shows.has l p.0 p.1)
 
-  pub list_is : (xs : List LogEntry) → IsPermutation (kept all) xs → IsSortedByKey end_key end_cmp xs →
+  pub list_is : (xs : List LogEntry) → IsPermutation (all_entries all) xs → IsSortedByKey end_key end_cmp xs →
       xs ≡ in_order_of_end opens
-  list_is xs moves sorted = sorted_is now most log all shows (kept all) xs moves kept_there kept_alone sorted opens
+  list_is xs moves sorted = sorted_is now most log all shows (all_entries all) xs moves kept_there kept_alone sorted
+      opens
       (differ_filter (is_open now) log.entries (rises_differ 1 log.entries shows.rises)) kept_open open_kept
 
   -- The entries that are left, in order of number.
-  pub left_is : (xs : List LogEntry) → IsPermutation (kept all) xs → IsSortedByKey (λ l. l.number) nat_cmp xs →
+  pub left_is : (xs : List LogEntry) → IsPermutation (all_entries all) xs → IsSortedByKey (λ l. l.number) nat_cmp xs →
       xs ≡ opens
   left_is xs moves sorted = sorted_rising 1 xs opens sorted
-      (moved_differ now most log all shows (kept all) xs moves kept_there kept_alone)
+      (moved_differ now most log all shows (all_entries all) xs moves kept_there kept_alone)
       (rises_filter (is_open now) 1 log.entries shows.rises)
-      (λ l h. kept_open l (has_back (kept all) xs moves l h)) (λ l h. has_moved (kept all) xs moves l (open_kept l h))
+      (λ l h. kept_open l (has_back (all_entries all) xs moves l h))
+      (λ l h. has_moved (all_entries all) xs moves l (open_kept l h))
 
 -- WHAT IS DUE
 

@@ -4,7 +4,7 @@ use Rattle.std.proofs.Common.{◌≡◌, ◌≢◌, ℕ, ◌+◌, ◌≤◌, Boo
 use Rattle.std.specs.{Ordering.nat_cmp, List.{AllByRecursion, IsDistinct, Sorted.{IsPermutation, IsSortedByKey}}}
 use Rattle.std.proofs.lemmas.{List.Sorted.{IsPermutation-sym}, Map.Keys.IsDistinct-IsPermutation}
 use Rattle.napt_rules.specs.Prelude.{Arrival, Each, State, initial_state, effect_from, purge, Rules}
-use Rattle.napt_account.specs.{declared.log.{Entry.Entry, LogEntry.LogEntry}, Log.{first_entry, begun_after, log_of, log_on, numbered_from}, LogParts.{IsNumbered, Rises}}
+use Rattle.napt_account.specs.{declared.log.{Entry.Entry, LogEntry.LogEntry}, Log.{first_entry, begun_after, log_of, log_on, numbered_from}, LogParts.{IsNumbered, NumbersAscend}}
 use Rattle.napt_account.proofs.{EndOrderings.Differ, AscendingNumbers.{rises_all, rises_differ, rises_from, sorted_rising}, SortedLists.{has_back, has_moved}}
 
 -- MOVED, NO TWO HAVE ONE NUMBER
@@ -42,7 +42,7 @@ differ_moved xs ys moves h = of_distinct ys (IsDistinct-IsPermutation same same_
 -- A LOG
 
 -- The entries of a log in any order, sorted by number, are the log's.
-pub sorted_entries : (entries told xs : List LogEntry) → Rises 1 entries → IsPermutation told entries →
+pub sorted_entries : (entries told xs : List LogEntry) → NumbersAscend 1 entries → IsPermutation told entries →
     IsPermutation told xs → IsSortedByKey (λ l. l.number) nat_cmp xs → xs ≡ entries
 sorted_entries entries told xs rises all sorts sorted =
     sorted_rising 1 xs entries sorted
@@ -62,7 +62,7 @@ begun_numbered rules state before =
     let es : List Entry = map (first_entry rules.timers state.clock) (purge rules.timers state.clock state.list) in
     within_from (before + 1) (before + length es) es (omega arith)
 
-pub log_rises : (rules : Rules) (inputs : List Arrival) → Rises 1 (log_of rules inputs).entries
+pub log_rises : (rules : Rules) (inputs : List Arrival) → NumbersAscend 1 (log_of rules inputs).entries
 unfolding log_on
 log_rises rules inputs =
     rises_all rules.timers (effect_from rules (initial_state rules) inputs).acts

@@ -9,7 +9,7 @@ use Rattle.napt_rules.specs.Prelude.{BindingUse, Binding, Each, same_protocol, s
 use Rattle.napt_rules.{specs.declared.{Row.Row, Leg.Leg, OutboundPacket.OutboundPacket, InboundPacket.InboundPacket}, proofs.{Life.lived, Lists.each_filter}}
 use Rattle.napt_laws.specs.HoldTimes.{Holder, HaveSameEnds, have_same_ends, holder_after, holders_after, AreHoldersApart as HoldersApart, HoldersStayApart as AllHoldersApart, HasOne, HolderCoversBinding, IsAccounted, AreBindingsAccounted}
 use Rattle.napt_laws.proofs.{HoldTimes.{taken_accounted, out_keeps_accounts, in_keeps_accounts}, SeenElements.{ago_before, ago_later, purge_taken}}
-use Rattle.napt_laws.proofs.{StepsSound.{purge_stays_sound, out_stays_sound, in_stays_sound}, HeldNumbers.each_rows, Lists.{each_append, each_weaker}, Shuffles.{apart_moved, each_moved, filter_moved}, RunInduction.{IsServed, InTurn, run_turn}}
+use Rattle.napt_laws.proofs.{StepsSound.{purge_stays_sound, out_stays_sound, in_stays_sound}, HeldNumbers.each_rows, Lists.{each_append, each_weaker}, Permutations.{apart_moved, each_moved, filter_moved}, RunInduction.{IsServed, InTurn, run_turn}}
 use Rattle.napt_laws.proofs.Endpoints.{protocol_is, same_itself, end_itself, end_is}
 use Rattle.napt_binding.{specs.Ends.{end_of, is_before, EndsAreFirst}, proofs.FirstEnds.before_sooner}
 use Rattle.napt_account.specs.{declared.log.{Entry.Entry, LogEntry.LogEntry}, Log.{LogModel, after_record, first_entry, shares, counted, entry_through, unnumbered, log_on}, ResumedLogRuns.IsLogOf}

@@ -5,9 +5,9 @@ use Rattle.napt_config.specs.declared.settings.Timers.{Timers}
 use Rattle.napt_binding.{specs.Ends.is_before, proofs.FirstEnds.ends_are_first}
 use Rattle.napt_table.specs.{declared.TimedRow.TimedRow, TimedRows.timed_row}
 use Rattle.napt_rules.specs.{declared.Row.Row, Prelude.{Binding, Each, AlikeStatesGoOn, AreAlike, SavedRunsGoOn, TakenStatesAreSound, LegAct, Arrival, RunEffect, AlikeRunGoesOn, IsPaired, IsSound, Rules, RulesInvariant, State, effect_from, is_live, last_clock, next_state, pair_of, purge, row, step, live_and_held, with_redirects}}
-use Rattle.napt_laws.proofs.{AlikeLists.alike_moved, OneMoreInput.{grows, step_one}, SeenElements.purge_taken, Shuffles.{apart_moved, each_moved}, RunInduction.{InTurn, run_turn}}
+use Rattle.napt_laws.proofs.{AlikeLists.alike_moved, OneMoreInput.{grows, step_one}, SeenElements.purge_taken, Permutations.{apart_moved, each_moved}, RunInduction.{InTurn, run_turn}}
 use Rattle.napt_sequential.{specs.{Traces.{trace_of, traces_of}, declared.passage.Trace.Trace}, proofs.StepTraceSteps.traces_grow}
-use Rattle.napt_account.specs.{declared.log.{Entry.Entry, LogEntry.LogEntry}, Attribution.AreInOrderOf, Effects.{EffectsCome, IsNext}, ResumedLogRuns.{IsLogOf, LogsAreOfTheirStates, left_of, timed_by}, Log.{LogModel, after_record, log_on, unnumbered}, LogParts.{IsNumbered, is_open, kept_at}}
+use Rattle.napt_account.specs.{declared.log.{Entry.Entry, LogEntry.LogEntry}, Attribution.AreInOrderOf, Effects.{EffectsCome, AreNextEffects}, ResumedLogRuns.{IsLogOf, LogsAreOfTheirStates, left_of, timed_by}, Log.{LogModel, after_record, log_on, unnumbered}, LogParts.{IsNumbered, is_open, kept_at}}
 use Rattle.napt_account.proofs.{Effects.{acts_come, step_turn}, Entries.{Tells, apart_differ, hold, hold_of, living, purge_holds, tells_later, told_turn}, ContinuedLogs.{each_kept, filter_again, numbered_all}, Lists.{each_mapped, each_shown, filter_seen, map_twice}, UnnumberedEntries.{plain_acts}, ReorderedLists.reordered}
 
 -- The row and the end in what a table returns of a binding.
@@ -144,7 +144,7 @@ module _ (alike_go_on : AlikeStatesGoOn) (rules : Rules) (keeps : RulesInvariant
       same = ap (λ (acts : List LegAct). trace_of timers now (record (next_of state before input) { acts = acts }))
           (same_next before input) ∙ sym effects_are
 
-      come : IsNext was (log_on rules state log before) effects
+      come : AreNextEffects was (log_on rules state log before) effects
       come =
           let course : RunEffect = next_of other before input in
           let pair = acts_come ends_are_first rules keeps.timers now new course.acts course.list
@@ -152,7 +152,7 @@ module _ (alike_go_on : AlikeStatesGoOn) (rules : Rules) (keeps : RulesInvariant
           (step_turn rules (length before) now input (omega arith) new) (log_on rules state log before)
           (tells_later ends_are_first timers keeps.timers was now (omega arith) new
           (unnumbered (log_on rules state log before)) tells_then) in
-          subst (IsNext was (log_on rules state log before)) same
+          subst (AreNextEffects was (log_on rules state log before)) same
           (record { later = omega arith; first = pair.0; second = pair.1 })
 
     -- THE LOG THAT IS LEFT IS OF THE STATE THAT IS LEFT

@@ -10,7 +10,7 @@ use Rattle.napt_laws.proofs.{Endpoints.{end_is, protocol_is}, Lists.each_weaker}
 use Rattle.napt_binding.{specs.Ends.{end_of, is_before}, proofs.FirstEnds.{end_without_dead, ends_are_first}}
 use Rattle.napt_table.specs.{declared.TimedRow.TimedRow, TimedRows.timed_row}
 use Rattle.napt_account.specs.declared.{account.Account.Account, log.{Entry.Entry, LogEntry.LogEntry}}
-use Rattle.napt_account.specs.{Attribution.has_ends, Log.{LogModel, first_entry, numbered_from, shares, unused_entry}, LogBuilders.IsStart, LogParts.{IsNumbered, Rises, is_open}}
+use Rattle.napt_account.specs.{Attribution.has_ends, Log.{LogModel, first_entry, numbered_from, shares, unused_entry}, LogBuilders.IsStart, LogParts.{IsNumbered, NumbersAscend, is_open}}
 use Rattle.napt_account.specs.{LogStarts.{NumbersDiffer, SavedLogStateModel, are_accounts, are_apart, accounted, continued_entries, empty_state, has_entry, has_redirect, in_order_of_number, StartedLogsAreOfTheirStates, StartedLogsBeginAnew, is_account, is_saved_log_state, log_started, most_saved, new_entries, no_saved_log, placed_by_number, resumed_end, resumed_entries, resumed_entry, unlisted_rows}, OpenEntries.{Has, entry_key, external_eq}, ResumedLogRuns.{IsLogOf, timed_by}}
 use Rattle.napt_account.proofs.EndOrderings.{Along, Differ, differ_filter, each_has, filter_has, has_each, has_filter, has_left, has_parts}
 use Rattle.napt_account.proofs.{Entries.shares_itself, DistinctKeys.{keyed_along, live_keyed, log_keyed, share, share_flip}, Lists.{each_mapped, map_joined, map_twice}, LiveRows.{is_loose, live_all, live_of}, EntryNumbers.{differ_moved, within_from}, OpenEntries.{any_has, external_itself, key_shares}, AscendingNumbers.{rises_from, sorted_rising}}
@@ -33,11 +33,11 @@ order_moves [] = IsPermutation-refl []
 order_moves (l ∷ xs) = IsPermutation-trans _ _ _ (placed_moves l (in_order_of_number xs))
     (IsPermutation-append_right (l ∷ []) (in_order_of_number xs) xs (order_moves xs))
 
-rises_placed : (n : ℕ) (l : LogEntry) (xs : List LogEntry) → Rises n xs → Each (λ y. l.number ≢ y.number) xs →
-    n ≤ l.number → Rises n (placed_by_number l xs)
+rises_placed : (n : ℕ) (l : LogEntry) (xs : List LogEntry) → NumbersAscend n xs → Each (λ y. l.number ≢ y.number) xs →
+    n ≤ l.number → NumbersAscend n (placed_by_number l xs)
 rises_placed n l [] rises differ le = (le, tt)
 rises_placed n l (y ∷ ys) rises differ le = elim (nat_lt l.number y.number) as (λ v. nat_lt l.number y.number ≡ v →
-    Rises n (cond v (l ∷ y ∷ ys) (y ∷ placed_by_number l ys))) [
+    NumbersAscend n (cond v (l ∷ y ∷ ys) (y ∷ placed_by_number l ys))) [
       | true ↦ λ lt. (le, ((grind (arith, nat_tests, lt)), rises.1))
       | false ↦ λ ge. (
         rises.0,
@@ -47,7 +47,7 @@ rises_placed n l (y ∷ ys) rises differ le = elim (nat_lt l.number y.number) as
     ] refl
 
 pub order_rises : (n : ℕ) (xs : List LogEntry) → Differ xs → Each (λ l. n ≤ l.number) xs →
-    Rises n (in_order_of_number xs)
+    NumbersAscend n (in_order_of_number xs)
 order_rises n [] differ above = tt
 order_rises n (l ∷ xs) differ above = rises_placed n l (in_order_of_number xs) (order_rises n xs differ.1 above.1)
     (has_each (λ y. l.number ≢ y.number) (in_order_of_number xs) (λ y there.
@@ -517,8 +517,9 @@ module _ (rules : Rules) (keeps : RulesInvariant rules) (state : State) (takes :
       number_within : (a : Account) → is_account saved.made clock a ≡ true → a.number ≤ saved.made
       number_within a h = grind (arith, common_steps, nat_tests, h)
 
-  rises_joined : (n m : ℕ) (xs ys : List LogEntry) → Rises n xs → Each (λ l. l.number ≤ m) xs → Rises (m + 1) ys →
-      n ≤ m + 1 → Rises n (xs ++ ys)
+  rises_joined : (n m : ℕ) (xs ys : List LogEntry) → NumbersAscend n xs → Each (λ l. l.number ≤ m) xs →
+      NumbersAscend (m + 1) ys →
+      n ≤ m + 1 → NumbersAscend n (xs ++ ys)
   rises_joined n m [] [] h e g le = tt
   rises_joined n m [] (y ∷ ys) h e g le = ((let first = g.0 in omega (arith, first, le)), g.1)
   rises_joined n m (x ∷ xs) ys h e g le = (
@@ -526,7 +527,7 @@ module _ (rules : Rules) (keeps : RulesInvariant rules) (state : State) (takes :
     rises_joined (x.number + 1) m xs ys h.1 e.1 g (let most = e.0 in omega (arith, most)),
   )
 
-  pub all_rise : Rises 1 log.entries
+  pub all_rise : NumbersAscend 1 log.entries
   all_rise = rises_joined 1 saved.made continued new
       (order_rises 1 opens (differ_filter (is_open clock) entries entries_differ)
       (has_each (λ n. 1 ≤ n.number) opens (λ n h. each_has (λ n. 1 ≤ n.number) entries n

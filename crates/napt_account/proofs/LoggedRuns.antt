@@ -4,7 +4,7 @@ use Rattle.std.proofs.Common.{◌≡◌, ◌↔◌, ℕ, ◌+◌, ◌^◌, ◌<�
 use Rattle.napt_rules.specs.Prelude.{Arrival, Rules, State, last_clock}
 use Rattle.napt_laws.proofs.OneMoreInput.{clock_more}
 use Rattle.napt_sequential.specs.{Traces.traces_of, declared.{fault.RunFault.{RunFault, TheVariants.{TooMany, Memory}}, passage.Trace.Trace}}
-use Rattle.napt_account.specs.{Effects.{EffectsAreTheLog, IsNext, log_after}, Log.{LogModel, after_input, log_on}, LogBuilders.{IsBuilderFault, LogBuilderModel, taken_in}, LogParts.part_between, ResumedLogRuns.part_of}
+use Rattle.napt_account.specs.{Effects.{EffectsAreTheLog, AreNextEffects, log_after}, Log.{LogModel, after_input, log_on}, LogBuilders.{IsBuilderFault, LogBuilderModel, taken_in}, LogParts.part_between, ResumedLogRuns.part_of}
 use Rattle.napt_account.proofs.{ContinuedLogs.fold_joined, Lists.map_joined}
 
 module _ (are : EffectsAreTheLog) (rules : Rules) (state : State) (log : LogModel) (before : List Arrival)
@@ -28,8 +28,8 @@ module _ (are : EffectsAreTheLog) (rules : Rules) (state : State) (log : LogMode
 
 -- A log takes more inputs than a run does, and the effects of each input of the run.
 pub log_fault : (builder : LogBuilderModel) (many : ℕ) → builder.taken ≡ many → many + 1 < 2 ^ 32 → (effects : Trace) →
-    IsNext builder.clock builder.log effects → (fault : RunFault) → IsBuilderFault builder effects fault → fault ≡
-    Memory
+    AreNextEffects builder.clock builder.log effects → (fault : RunFault) → IsBuilderFault builder effects fault →
+    fault ≡ Memory
 log_fault builder many is few effects next fault j = grind (arith, common_steps, nat_tests)
 
 pub not_many : {T : Type 0} (inputs : List Arrival) → length inputs + 1 < 2 ^ 32 → (fault : RunFault) → fault ≡ Memory →

@@ -10,8 +10,8 @@ use Rattle.napt_binding.specs.Ends.{is_before}
 use Rattle.napt_table.specs.declared.TimedRow.{TimedRow}
 use Rattle.napt_account.specs.declared.{binding_tally.{BindingTally.BindingTally}, log.{Entry.Entry, LogEntry.LogEntry}, open_entries.{DueEntry.DueEntry, EntryKey.EntryKey, OpenEntry.OpenEntry}}
 use Rattle.napt_account.specs.{declared.open_entries.OpenEntries.OpenEntries, BindingTallies.{noted, no_use, open_of, use_found, tally_used}, Log.{LogModel, counted, shares, entry_is_of, use_entry, with_entry, with_use}}
-use Rattle.napt_account.{specs.LogParts.{IsNumbered, Rises, is_open}, proofs.{Entries.{counted_binding, counted_end, shares_itself}, EndOrderings.{each_has, has_left, has_parts}, AscendingNumbers.{rises_differ, rises_mapped, rises_pushed, same_number}}}
-use Rattle.napt_account.specs.OpenEntries.{entry_key, external_eq, open_at, entry_at, due_at, is_queued, entry_is_at, Has, IsPlaced, IsIndexed, IsIndexedBut, OpenEntriesShow}
+use Rattle.napt_account.{specs.LogParts.{IsNumbered, NumbersAscend, is_open}, proofs.{Entries.{counted_binding, counted_end, shares_itself}, EndOrderings.{each_has, has_left, has_parts}, AscendingNumbers.{rises_differ, rises_mapped, rises_pushed, same_number}}}
+use Rattle.napt_account.specs.OpenEntries.{entry_key, external_eq, open_at, entry_at, due_at, is_queued, entry_is_at, Has, IsPlaced, IsIndexed, IsIndexedExcept, OpenEntriesShow}
 use Rattle.napt_laws.proofs.Lists.{each_weaker}
 
 -- KEYS
@@ -42,15 +42,15 @@ pub under : (all : OpenEntries) → IsIndexed all → (x : EntryKey) (l : LogEnt
     x ≡ entry_key l.entry.binding
 under all indexed x l at = grind (arith, common_steps, entry_open)
 
-pub indexed_but : (all : OpenEntries) → IsIndexed all → (x : EntryKey) → IsIndexedBut x (due_at all x) all
+pub indexed_but : (all : OpenEntries) → IsIndexed all → (x : EntryKey) → IsIndexedExcept x (due_at all x) all
 indexed_but all indexed x = grind (arith, common_steps, nat_tests, external_is)
 
-pub queued_at : (all : OpenEntries) (x : EntryKey) (was : Option ℕ) → IsIndexedBut x was all → (d : DueEntry) →
+pub queued_at : (all : OpenEntries) (x : EntryKey) (was : Option ℕ) → IsIndexedExcept x was all → (d : DueEntry) →
     external_eq x d.key ≡ true → is_queued all d ≡ entry_is_at was d.at
 queued_at all x was indexed d e = indexed.queued d ∙ ap (λ v. entry_is_at (cond v was (due_at all d.key)) d.at) e
 
 -- One endpoint has another entry, or none, and is queued as that entry is.
-module _ (old new : OpenEntries) (x : EntryKey) (was : Option ℕ) (indexed : IsIndexedBut x was old)
+module _ (old new : OpenEntries) (x : EntryKey) (was : Option ℕ) (indexed : IsIndexedExcept x was old)
     (next : Option OpenEntry)
     (opens : (y : EntryKey) → open_at new y ≡ cond (external_eq x y) next (open_at old y))
     (queue : (d : DueEntry) → is_queued new d ≡ cond (external_eq x d.key) (entry_is_at (due_of next) d.at)
@@ -116,7 +116,7 @@ module _ (now most : ℕ) (old new : OpenEntries) (log later : LogModel) (shows 
     (l : LogEntry)
     (made : new.made ≡ later.made)
     (numbered : IsNumbered later)
-    (rises : Rises 1 later.entries)
+    (rises : NumbersAscend 1 later.entries)
     (is : Has later.entries l)
     (opened : is_open now l ≡ true)
     (stays : (m : LogEntry) → m.number ≢ l.number → Has log.entries m → Has later.entries m)
@@ -192,7 +192,7 @@ module _ (now most : ℕ) (old new : OpenEntries) (log : LogModel) (shows : Open
   put_here : (m : LogEntry) → entry_at old (entry_key e.binding) ≡ Some m → m.number ≡ log.made + 1
   put_here m at = grind (arith, common_steps)
 
-  pub put_indexed : IsIndexedBut (entry_key e.binding) None old
+  pub put_indexed : IsIndexedExcept (entry_key e.binding) None old
   put_indexed = grind (arith, common_steps, indexed_but)
 
   pub put_shows : is_before now e.end ≡ true → e.sent ≤ most → e.received ≤ most → new.made ≡ old.made + 1 →
@@ -350,8 +350,8 @@ module _ (way : Way) (now most : ℕ) (old : OpenEntries) (log : LogModel) (show
           let sent : e.sent ≤ was.sent + 1 = subst (λ (f : Entry). f.sent ≤ was.sent + 1) (sym counts) more.0 in
           let received : e.received ≤ was.received + 1 =
           subst (λ (f : Entry). f.received ≤ was.received + 1) (sym counts) more.1 in
-          let but : IsIndexedBut key o.due old =
-          subst (λ (d : Option ℕ). IsIndexedBut key d old) (ap due_of at) (indexed_but old shows.indexed key) in
+          let but : IsIndexedExcept key o.due old =
+          subst (λ (d : Option ℕ). IsIndexedExcept key d old) (ap due_of at) (indexed_but old shows.indexed key) in
           let its : key ≡ entry_key e.binding =
           (shows.indexed.placed key o at).0 ∙ ap entry_key (sym same) in
           let indexed : IsIndexed new = moved old new key o.due but (Some changed) opens

@@ -4,7 +4,7 @@ use Rattle.std.specs.List.{swap, Sorted.IsPermutation}
 use Rattle.std.proofs.lemmas.List.{length-map, map-set, get_or-map, Elements.filter-append}
 use Rattle.std.proofs.lemmas.List.Sorted.{IsPermutation-keeps, IsPermutation-refl, IsPermutation-trans, IsPermutation-swap, IsPermutation-append_left, IsPermutation-filter_both}
 use Rattle.napt_rules.proofs.Lists.{each_filter, filter_all}
-use Rattle.napt_laws.proofs.Shuffles.{each_moved}
+use Rattle.napt_laws.proofs.Permutations.{each_moved}
 
 module _ {X Y : Type 0} (f : X → Y) where
   map_swapped : (xs : List X) (i j : ℕ) → i < length xs → j < length xs → map f (swap xs i j) ≡ swap (map f xs) i j

@@ -4,8 +4,8 @@ use Rattle.std.proofs.Common.{◌≡◌, ℕ, ◌+◌, ◌<◌, ◌≤◌, inl, 
 use Rattle.std.{specs.Prelude.filter, proofs.lemmas.{Bool.true≢false, List.{take_all, take_more}, Option.same_Some}}
 use Rattle.napt_rules.specs.Prelude.{Each}
 use Rattle.napt_account.specs.declared.{log.LogEntry.LogEntry, open_entries.{DueEntry.DueEntry, EntryKey.EntryKey, OpenEntry.OpenEntry, OpenEntries.OpenEntries}}
-use Rattle.napt_account.specs.{Log.LogModel, LogParts.{IsNumbered, Rises, is_open, kept_at}}
-use Rattle.napt_account.specs.OpenEntries.{AreKeyed, Has, entry_key, external_eq, open_at, entry_at, is_queued, IsIndexed, IsIndexedBut, OpenEntriesShow}
+use Rattle.napt_account.specs.{Log.LogModel, LogParts.{IsNumbered, NumbersAscend, is_open, kept_at}}
+use Rattle.napt_account.specs.OpenEntries.{AreKeyed, Has, entry_key, external_eq, open_at, entry_at, is_queued, IsIndexed, IsIndexedExcept, OpenEntriesShow}
 use Rattle.napt_account.proofs.{EndOrderings.{each_has, filter_has, has_left, has_parts}, DistinctKeys.keyed_before}
 use Rattle.napt_account.proofs.OpenEntries.{external_flip, external_itself, indexed_but, open_entry, under}
 
@@ -57,7 +57,7 @@ module _ (ls : List LogEntry) (keyed : AreKeyed (map (λ l. l.entry.binding) ls)
         (ap (external_eq key) (under old has.indexed key o.numbered here)
         ∙ other o.numbered (has.there key o.numbered here))))
 
-    pub but : IsIndexedBut key None old
+    pub but : IsIndexedExcept key None old
     but = let none = free (open_at old key) refl in grind (arith, common_steps, indexed_but)
 
     first_next : take (k + 1) ls ≡ take k ls ++ l ∷ []
@@ -95,7 +95,7 @@ module _ (ls : List LogEntry) (keyed : AreKeyed (map (λ l. l.entry.binding) ls)
 -- If all entries were inserted, they are the open entries of the log.
 pub has_all : (log : LogModel) (keyed : AreKeyed (map (λ l. l.entry.binding) log.entries)) (k : ℕ) (all : OpenEntries) →
     length log.entries ≤ k → HasFirst log.entries keyed log.made k all → (now most : ℕ) →
-    kept_at now log ≡ log → IsNumbered log → Rises 1 log.entries →
+    kept_at now log ≡ log → IsNumbered log → NumbersAscend 1 log.entries →
     Each (λ l. (l.entry.sent ≤ most) × (l.entry.received ≤ most)) log.entries → OpenEntriesShow now most log all
 has_all log keyed k all past has now most kept numbered rises few =
     let whole : take k log.entries ≡ log.entries = take_all k log.entries past in

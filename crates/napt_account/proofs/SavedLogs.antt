@@ -10,7 +10,7 @@ use Rattle.napt_laws.proofs.{Endpoints.{end_itself, same_itself}, Lists.{find_pa
 use Rattle.napt_binding.{specs.Ends.{end_by_protocol, end_of, is_before}, proofs.FirstEnds.end_without_dead}
 use Rattle.napt_table.specs.{declared.TimedRow.TimedRow, TimedRows.timed_row}
 use Rattle.napt_account.specs.declared.{account.Account.Account, log.{LogEntry.LogEntry}}
-use Rattle.napt_account.specs.{Attribution.has_ends, BindingTallies.open_of, Log.{LogModel, entry_is_of, log_on, numbered_from, shares, unused_entry}, LogParts.{Rises, is_open}}
+use Rattle.napt_account.specs.{Attribution.has_ends, BindingTallies.open_of, Log.{LogModel, entry_is_of, log_on, numbered_from, shares, unused_entry}, LogParts.{NumbersAscend, is_open}}
 use Rattle.napt_account.specs.{LogStarts.{SavedLogStateModel, SavedLogsAreTakenUp, account_at, account_of_entry, accounted, continued_entries, entry_ended_at, has_entry, has_redirect, in_order_of_number, log_started, new_entries, resumed_end, resumed_entries, resumed_entry, saved_log_state, started_part, unlisted_rows, with_account}, OpenEntries.{AreKeyed, Has, entry_key, external_eq}, ResumedLogRuns.{IsLogOf, left_of, timed_by}}
 use Rattle.napt_account.proofs.EndOrderings.{Along, Differ, each_has, filter_has, has_each, has_parts}
 use Rattle.napt_account.proofs.{InputEffects.{logs_are_of_their_states, rows_left}, Entries.{apart_differ, rows_purge, shares_itself}, BindingChanges.{AllDiffer, differ_kept}, DistinctKeys.{differ_keyed, keyed_along, keyed_moved, log_keyed, share, share_flip}, Lists.{each_mapped}, LiveRows.{is_loose, live_all, live_of, purge_joined}, OpenEntries.{any_has, external_itself, key_shares}, AscendingNumbers.{rises_above, rises_all, rises_differ, rises_filter, rises_same, same_number}}
@@ -44,7 +44,7 @@ along_with R S f (x ∷ xs) g h = (
 )
 
 module _ (rules : Rules) (keeps : RulesInvariant rules) (saved : State) (left : LogModel)
-    (is : IsLogOf rules (with_redirects rules saved) left) (rises : Rises 1 left.entries)
+    (is : IsLogOf rules (with_redirects rules saved) left) (rises : NumbersAscend 1 left.entries)
     (keyed : AreKeyed (map (λ n. n.entry.binding) left.entries)) (apart : AreKeyed (map row saved.list))
     (rows : IsPermutation (map timed_by left.entries)
     (map (timed_row rules.timers) (purge rules.timers saved.clock saved.list))) where
@@ -335,7 +335,7 @@ module _ (timers : Timers) (now : ℕ) where
       ∙ ap (λ (l : List Binding). part ++ l) (parts_taken parts (λ i p is. each (suc i) p is)))
 
 left_rises : (rules : Rules) (from : State) (log : LogModel) (inputs : List Arrival) → IsLogOf rules from log →
-    Rises 1 log.entries → Rises 1 (left_of rules from log inputs).entries
+    NumbersAscend 1 log.entries → NumbersAscend 1 (left_of rules from log inputs).entries
 unfolding log_on
 left_rises rules from log inputs is rises = rises_filter (is_open (last_clock from.clock inputs)) 1 _
     (rises_all rules.timers (effect_from rules from inputs).acts log is.numbered rises)
@@ -378,7 +378,7 @@ saved_logs_are_taken_up taken_sound alike_go_on saved_go_on ordered rules keeps 
     (keyed_moved (map row (live_and_held timers next.clock saved.list))
     (map row (live_and_held timers next.clock next.list))
     (IsPermutation-sym _ _ (alike.held (hold_ago timers next.clock) (omega arith))) held) in
-    let rise : Rises 1 left.entries = left_rises rules from log inputs is rises in
+    let rise : NumbersAscend 1 left.entries = left_rises rules from log inputs is rises in
     let keyed = log_keyed rules keeps saved takes_saved left of_state in (
       log_again rules keeps saved left of_state rise keyed apart rows,
       nothing_told rules keeps saved left of_state rise keyed apart rows,

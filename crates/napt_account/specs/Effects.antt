@@ -18,7 +18,7 @@ CanCome now log (In timed) = is_before now timed.end ≡ true
 CanCome now log _ = Unit {0}
 
 -- The legs of the next input can have these effects.
-pub record IsNext (was : ℕ) (log : LogModel) (effects : Trace) : Type 0 where
+pub record AreNextEffects (was : ℕ) (log : LogModel) (effects : Trace) : Type 0 where
   pub later : was ≤ effects.now
   pub first : CanCome effects.now log effects.first
   pub second : CanCome effects.now (after_leg effects.now effects.first log) effects.second
@@ -32,7 +32,7 @@ EffectsAreTheLog = (rules : Rules) (state : State) (log : LogModel) (inputs : Li
 abbrev pub EffectsComeFrom : Rules → State → LogModel → Type 0
 EffectsComeFrom rules state log = (before : List Arrival) (input : Arrival) (effects : Trace) →
     traces_of rules state (before ++ input ∷ []) ≡ traces_of rules state before ++ effects ∷ [] →
-    IsNext (last_clock state.clock before) (log_on rules state log before) effects
+    AreNextEffects (last_clock state.clock before) (log_on rules state log before) effects
 
 abbrev pub EffectsCome : Type 0
 EffectsCome = (rules : Rules) → RulesInvariant rules → (state : State) → TakesState rules state → (log : LogModel) →

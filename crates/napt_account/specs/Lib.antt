@@ -11,7 +11,7 @@ pub mod OpenEntries
 pub mod LogParts
 pub mod LogStarts
 pub mod LoggedRuns
-pub mod Questions
+pub mod Parties
 pub mod Redirects
 pub mod WholeLogs
 pub use Rattle.napt_rules.specs.Prelude

@@ -4,7 +4,7 @@ use Rattle.napt_config.specs.Rules.{Rules}
 use Rattle.napt_rules.specs.Prelude.{Each}
 use Rattle.napt_sequential.specs.declared.{fault.RunFault.RunFault, passage.Trace.Trace}
 use Rattle.napt_sequential.specs.declared.fault.RunFault.TheVariants as reasons
-use Rattle.napt_account.specs.{declared.{log_builder.InputPart.InputPart, open_entries.OpenEntries.OpenEntries}, Effects.{IsNext, log_after}, Log.LogModel, OpenEntries.{AreKeyed, OpenEntriesShow}, LogParts.{IsNumbered, LogDelta, Rises, kept_at}}
+use Rattle.napt_account.specs.{declared.{log_builder.InputPart.InputPart, open_entries.OpenEntries.OpenEntries}, Effects.{AreNextEffects, log_after}, Log.LogModel, OpenEntries.{AreKeyed, OpenEntriesShow}, LogParts.{IsNumbered, LogDelta, NumbersAscend, kept_at}}
 
 pub record LogBuilderModel : Type 0 where
   pub rules : Rules
@@ -22,7 +22,7 @@ pub record LogBuilderModel : Type 0 where
 pub record IsStart (now : ℕ) (log : LogModel) : Type 0 where
   pub kept : kept_at now log ≡ log
   pub numbered : IsNumbered log
-  pub rises : Rises 1 log.entries
+  pub rises : NumbersAscend 1 log.entries
   pub keyed : AreKeyed (map (λ n. n.entry.binding) log.entries)
   pub made : log.made ≤ 2 ^ 62
   pub packets : Each (λ n. (n.entry.sent ≤ 2 ^ 61) × (n.entry.received ≤ 2 ^ 61)) log.entries
@@ -54,4 +54,4 @@ abbrev pub IsBuilderFault : LogBuilderModel → Trace → RunFault → Type 0
 IsBuilderFault model effects reasons.TooMany = 2 ^ 62 ≤ model.taken + 1
 IsBuilderFault model effects reasons.Memory = model.taken + 1 < 2 ^ 62
 IsBuilderFault model effects (reasons.Pool fault) =
-    (model.taken + 1 < 2 ^ 62) × (¬ IsNext model.clock model.log effects)
+    (model.taken + 1 < 2 ^ 62) × (¬ AreNextEffects model.clock model.log effects)

@@ -66,6 +66,6 @@ abbrev pub IsNumbered : LogModel → Type 0
 IsNumbered log = Each (λ numbered. numbered.number ≤ log.made) log.entries
 
 -- The numbers of the entries ascend, and are at least the given one.
-abbrev pub Rises : ℕ → List LogEntry → Type 0
-Rises number [] = Unit {0}
-Rises number (numbered ∷ more) = (number ≤ numbered.number) × Rises (numbered.number + 1) more
+abbrev pub NumbersAscend : ℕ → List LogEntry → Type 0
+NumbersAscend number [] = Unit {0}
+NumbersAscend number (numbered ∷ more) = (number ≤ numbered.number) × NumbersAscend (numbered.number + 1) more

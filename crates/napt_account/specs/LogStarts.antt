@@ -9,7 +9,7 @@ use Rattle.napt_rules.specs.{Prelude.{Arrival, Binding, Each, IsStateInOrder, St
 use Rattle.napt_binding.specs.Ends.{end_of}
 use Rattle.napt_table.specs.{declared.TimedRow.TimedRow, TimedRows.timed_row}
 use Rattle.napt_account.specs.declared.{account.Account.Account, log.{LogEntry.LogEntry}}
-use Rattle.napt_account.specs.{Attribution.has_ends, BindingTallies.open_of, Log.{LogModel, begun_after, numbered_from, shares, unused_entry}, LogParts.{LogDelta, Rises, is_open}, OpenEntries.{entry_key, external_eq}, ResumedLogRuns.{IsLogOf, left_of}}
+use Rattle.napt_account.specs.{Attribution.has_ends, BindingTallies.open_of, Log.{LogModel, begun_after, numbered_from, shares, unused_entry}, LogParts.{LogDelta, NumbersAscend, is_open}, OpenEntries.{entry_key, external_eq}, ResumedLogRuns.{IsLogOf, left_of}}
 
 -- The part of a log that a state contains.
 pub record SavedLogStateModel : Type 0 where
@@ -194,7 +194,7 @@ abbrev pub StartedLogsAreOfTheirStates : Type 0
 StartedLogsAreOfTheirStates = (rules : Rules) → RulesInvariant rules → (state : State) → TakesState rules state →
     (saved : SavedLogStateModel) → is_saved_log_state state saved ≡ true →
     IsLogOf rules (with_redirects rules state) (log_started rules state saved)
-    × Rises 1 (log_started rules state saved).entries
+    × NumbersAscend 1 (log_started rules state saved).entries
 
 -- The log of a new run has its redirects.
 abbrev pub StartedLogsBeginAnew : Type 0
@@ -204,7 +204,7 @@ StartedLogsBeginAnew = (rules : Rules) →
 -- The open log at the end of a run is that with which the next run of the same configuration starts; nothing is added.
 abbrev pub SavedLogsAreTakenUp : Type 0
 SavedLogsAreTakenUp = (rules : Rules) → RulesInvariant rules → (state : State) → TakesState rules state →
-    (log : LogModel) → IsLogOf rules (with_redirects rules state) log → Rises 1 log.entries →
+    (log : LogModel) → IsLogOf rules (with_redirects rules state) log → NumbersAscend 1 log.entries →
     (inputs : List Arrival) (saved : State) →
     IsStateInOrder rules (next_state rules (with_redirects rules state) inputs) saved →
     (let left : LogModel = left_of rules (with_redirects rules state) log inputs in

@@ -9,7 +9,7 @@ use Rattle.napt_wire.specs.contracts.Protocol.{the_type}
 use Rattle.napt_wire.specs.contracts.ProtocolOrd.TheImpl as protocols
 use Rattle.napt_rules.specs.declared.Row.{Row}
 use Rattle.napt_account.specs.declared.{log.LogEntry.LogEntry, open_entries.{DueEntry.DueEntry, EndKey.EndKey, EntryKey.EntryKey, OpenEntry.OpenEntry}}
-use Rattle.napt_account.specs.{declared.open_entries.OpenEntries.OpenEntries, Log.LogModel, LogParts.{IsNumbered, Rises, is_open}}
+use Rattle.napt_account.specs.{declared.open_entries.OpenEntries.OpenEntries, Log.LogModel, LogParts.{IsNumbered, NumbersAscend, is_open}}
 
 -- KEYS
 
@@ -62,8 +62,8 @@ entry_is_at None time = false
 entry_is_at (Some at) time = at == time
 
 -- Returns all entries, in no particular order.
-abbrev pub kept : OpenEntries → List LogEntry
-kept all = map (λ (o : OpenEntry). o.numbered) (hash.values all.by_external)
+abbrev pub all_entries : OpenEntries → List LogEntry
+all_entries all = map (λ (o : OpenEntry). o.numbered) (hash.values all.by_external)
 
 -- Returns the number of entries that are to be checked by a time, in ns.
 abbrev pub due_within : ℕ → OpenEntries → ℕ
@@ -80,7 +80,7 @@ pub record IsIndexed (all : OpenEntries) : Type 0 where
   pub queued : (due : DueEntry) → is_queued all due ≡ entry_is_at (due_at all due.key) due.at
 
 -- The same holds except for one endpoint, which the queue has at another time, in ns.
-pub record IsIndexedBut (key : EntryKey) (at : Option ℕ) (all : OpenEntries) : Type 0 where
+pub record IsIndexedExcept (key : EntryKey) (at : Option ℕ) (all : OpenEntries) : Type 0 where
   pub placed : (x : EntryKey) (o : OpenEntry) → open_at all x ≡ Some o → IsPlaced x o
   pub queued : (due : DueEntry) → is_queued all due
       ≡ entry_is_at (cond (external_eq key due.key) at (due_at all due.key)) due.at
@@ -99,7 +99,7 @@ pub record OpenEntriesShow (now most : ℕ) (log : LogModel) (all : OpenEntries)
   pub indexed : IsIndexed all
   pub made : all.made ≡ log.made
   pub numbered : IsNumbered log
-  pub rises : Rises 1 log.entries
+  pub rises : NumbersAscend 1 log.entries
   pub has : (n : LogEntry) → Has log.entries n → is_open now n ≡ true →
       entry_at all (entry_key n.entry.binding) ≡ Some n
   pub there : (x : EntryKey) (n : LogEntry) → entry_at all x ≡ Some n → Has log.entries n

@@ -38,7 +38,7 @@ pub(crate) const NO_USE: BindingTally = BindingTally {
 };
 
 /// Returns the note for a packet whose binding existed before it.
-pub(crate) fn found(entry: &Entry) -> LogNote
+pub(crate) fn found_note(entry: &Entry) -> LogNote
     ensures { result ≡ uses.noted entry.now }
 {
     if entry.binding.fixed {

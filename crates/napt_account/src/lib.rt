@@ -13,7 +13,7 @@ mod log_start;
 mod logged_run;
 mod open_entries;
 mod open_log;
-mod question;
+mod party;
 
 pub use crate::account::{Account, SavedLogState};
 pub use crate::binding_tally::{BindingTally, LogNote};
@@ -26,4 +26,4 @@ pub use crate::log_builder::{InputPart, LogBuilder};
 pub use crate::log_start::{LogFromState, started_logs_go_on};
 pub use crate::logged_run::{LogStep, LoggedRun, RunFromState};
 pub use crate::open_log::OpenLog;
-pub use crate::question::Party;
+pub use crate::party::Party;

@@ -16,7 +16,7 @@ use std::alloc::{AllocError, Global};
 use std::marker::Model;
 
 /// The largest number of inputs of a log, 2^62 - 1, so that its counts fit 64 bits.
-const MOST_INPUTS: u64 = 4_611_686_018_427_387_903;
+const MOST_LOGGED_INPUTS: u64 = 4_611_686_018_427_387_903;
 
 /// A log under a configuration, built from the effects of a run's inputs, one after another.
 /// Contracts see the whole log, but only the entries that have not ended are in memory.
@@ -166,7 +166,7 @@ impl<'a> LogBuilder<'a> {
         }
         // This is reset at the end, if nothing fails.
         self.is_stopped = true;
-        if self.taken >= MOST_INPUTS {
+        if self.taken >= MOST_LOGGED_INPUTS {
             return Err(RunFault::TooMany);
         }
         if effects.now < self.clock {

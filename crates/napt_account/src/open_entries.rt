@@ -4,10 +4,10 @@ ghost use Rattle.std.specs.Prelude.{◌≡◌, ◌+◌, ◌<◌, ◌≤◌, ◌^
 ghost use Rattle.std.specs.{List.Sorted.{IsPermutation, IsSortedByKey}, Option.is_some};
 ghost use Rattle.napt_rules.specs.Prelude.{Each};
 ghost use Rattle.napt_binding.specs.Ends.{is_before};
-ghost use Rattle.napt_account.specs.{BindingTallies.{leg_use, open_of, use_found}, Effects.CanCome, Log.{after_leg, with_entry, with_use}, LogParts.{IsNumbered, Rises, kept_at, ends_within, in_order_of_end, is_open, living_at}};
+ghost use Rattle.napt_account.specs.{BindingTallies.{leg_use, open_of, use_found}, Effects.CanCome, Log.{after_leg, with_entry, with_use}, LogParts.{IsNumbered, NumbersAscend, kept_at, ends_within, in_order_of_end, is_open, living_at}};
 ghost use Rattle.napt_account.specs.OpenEntries as keys;
 
-use crate::binding_tally::{BindingTally, LogNote, NO_USE, found};
+use crate::binding_tally::{BindingTally, LogNote, NO_USE, found_note};
 use crate::log::{Entry, LogEntry, is_before};
 use crate::open_log::OpenLog;
 use napt_sequential::Passage;
@@ -117,7 +117,7 @@ pub(crate) fn sort_by_end(entries: &mut Vec<LogEntry>)
 
 impl OpenEntries {
     ghost use Rattle.std.specs.HashMap.{IsUnique};
-    ghost use Rattle.napt_account.specs.OpenEntries.{open_at, entry_at, due_at, is_queued, entry_is_at, due_within, external_eq, IsIndexed, IsIndexedBut, OpenEntriesShow};
+    ghost use Rattle.napt_account.specs.OpenEntries.{open_at, entry_at, due_at, is_queued, entry_is_at, due_within, external_eq, IsIndexed, IsIndexedExcept, OpenEntriesShow};
     ghost use Rattle.napt_account.specs.Log.{LogModel};
     ghost use Rattle.napt_account.specs.declared.log.LogEntry.{LogEntry as Numbered};
     ghost use Rattle.napt_account.specs.declared.open_entries.DueEntry.{DueEntry as Place};
@@ -139,7 +139,7 @@ impl OpenEntries {
     /// Returns the open entries of an open log.
     pub(crate) fn from_entries(alloc: Global, log: &OpenLog) -> Result<OpenEntries, AllocError>
         ensures { (now most : ℕ) → kept_at now log.now ≡ log.now → IsNumbered log.now →
-            Rises 1 log.now.entries →
+            NumbersAscend 1 log.now.entries →
             Each (λ n. (n.entry.sent ≤ most) × (n.entry.received ≤ most)) log.now.entries →
             keys.AreKeyed (map (λ n. n.entry.binding) log.now.entries) →
             IfOk result (OpenEntriesShow now most log.now) }
@@ -186,7 +186,7 @@ impl OpenEntries {
         ensures entry { OnOk result ((x : Endpoint) → entry_at self.new x
             ≡ cond (external_eq (keys.entry_key numbered.entry.binding) x) (Some numbered)
             (entry_at self.old x)) }
-        ensures indexed { IsIndexedBut (keys.entry_key numbered.entry.binding) was self.old →
+        ensures indexed { IsIndexedExcept (keys.entry_key numbered.entry.binding) was self.old →
             OnOk result (IsIndexed self.new) }
         ensures within { (now : ℕ) → is_open now numbered ≡ true → was ≡ None →
             OnOk result (due_within now self.new ≡ due_within now self.old) }
@@ -292,7 +292,11 @@ impl OpenEntries {
         let Some(open) = self.by_external.get_mut(&key) else {
             return Ok(NO_USE);
         };
-        let used = BindingTally::through(way, found(&open.numbered.entry), open.numbered.number);
+        let used = BindingTally::through(
+            way,
+            found_note(&open.numbered.entry),
+            open.numbered.number,
+        );
         let was = open.due;
         let due = due_by(was, timed.end);
         open.due = due;
@@ -309,7 +313,7 @@ impl OpenEntries {
         ensures within { IfSome result (λ key.
             due_within now self.new + 1 ≡ due_within now self.old) }
         ensures indexed { IsIndexed self.old →
-            IfSome result (λ key. IsIndexedBut key None self.new) }
+            IfSome result (λ key. IsIndexedExcept key None self.new) }
         ensures none { IsIndexed self.old → IfNone result (IsIndexed self.new ×
             ((x : Endpoint) (l : Numbered) → entry_at self.new x ≡ Some l →
             is_open now l ≡ true)) }
@@ -331,10 +335,10 @@ impl OpenEntries {
     #[inline(never)]
     fn end_or_queue(&mut self, key: EntryKey, now: u64) -> Result<Option<LogEntry>, AllocError>
         ensures made { self.new.made ≡ self.old.made }
-        ensures indexed { IsIndexedBut key None self.old → OnOk result (IsIndexed self.new) }
+        ensures indexed { IsIndexedExcept key None self.old → OnOk result (IsIndexed self.new) }
         ensures taken { IfOk result (λ taken. IfSome taken (λ l.
             (entry_at self.old key ≡ Some l) × (is_open now l ≡ false))) }
-        ensures left { IsIndexedBut key None self.old → IfOk result (λ taken. (x : Endpoint) →
+        ensures left { IsIndexedExcept key None self.old → IfOk result (λ taken. (x : Endpoint) →
             entry_at self.new x ≡ cond (is_some taken && external_eq key x) None
             (entry_at self.old x)) }
         ensures within { OnOk result (due_within now self.new ≡ due_within now self.old) }
@@ -385,7 +389,7 @@ impl OpenEntries {
 
     /// Returns a copy of the entries, in no particular order.
     fn copied(&self, alloc: Global) -> Result<Vec<LogEntry>, AllocError>
-        ensures kept { IfOk result (λ all. all.items ≡ keys.kept self.now) }
+        ensures kept { IfOk result (λ all. all.items ≡ keys.all_entries self.now) }
         ensures unique { IsUnique external_eq self.now.by_external }
     {
         self.by_external

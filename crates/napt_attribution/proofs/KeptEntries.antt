@@ -3,25 +3,26 @@ use Rattle.std.proofs.{Common.{◌≡◌, ◌≢◌, ℕ, ◌+◌, ◌<◌, ◌�
 use Rattle.std.proofs.lemmas.Map.{Lookups.exact_unsigned, Made.update_all_distinct, Keys.IsDistinct-from_sorted}
 use Rattle.std.specs.{BTreeMap.{BTreeMap, InsertsAll, IsOrdered, get, is_at}, Cmp.{eq_by_cmp_equiv, nat_cmp_total}, Prelude.T, FinMap.Entries.{below_all, is_sorted, same_entries}, List.{AllByRecursion, Sorted.IsStrictlySortedBy}, Map.{lookup, keys_of, values_of}, Option.{is_some, option_and_then, option_map, option_or}, Ordering.{eq_by_cmp, is_lt, nat_cmp}, declared.cmp.Ordering.{Ordering, TheVariants.Less}}
 use Rattle.napt_rules.specs.Prelude.{Each}
-use Rattle.napt_account.specs.{declared.log.{Entry.Entry, LogEntry.LogEntry}, LogParts.Rises}
+use Rattle.napt_account.specs.{declared.log.{Entry.Entry, LogEntry.LogEntry}, LogParts.NumbersAscend}
 use Rattle.napt_account.proofs.AscendingNumbers.{rises_above, rises_filter, rises_mapped}
 use Rattle.napt_attribution.specs.{RequestParties.{is_asked_about, is_wanted}, SavedLogs.{TracksEntries, asked_entries, entry_of, entry_with_end, has_no_end, is_ended_and_asked, entry_if}, declared.{requests.HolderRequest.HolderRequest, kept_entries.KeptEntries.KeptEntries, wanted_endpoints.WantedEndpoints.WantedEndpoints}}
 
 -- ONE MORE
 
-last_above : (n : ℕ) (ls : List LogEntry) (l : LogEntry) → Rises n (ls ++ l ∷ []) → n ≤ l.number
+last_above : (n : ℕ) (ls : List LogEntry) (l : LogEntry) → NumbersAscend n (ls ++ l ∷ []) → n ≤ l.number
 last_above n [] l h = h.0
 last_above n (m ∷ ls) l h =
     let first = h.0 in let rest = last_above (m.number + 1) ls l h.1 in omega (arith, first, rest)
 
-pub new_number : (n : ℕ) (ls : List LogEntry) (l : LogEntry) → Rises n (ls ++ l ∷ []) → entry_of ls l.number ≡ None
+pub new_number : (n : ℕ) (ls : List LogEntry) (l : LogEntry) → NumbersAscend n (ls ++ l ∷ []) →
+    entry_of ls l.number ≡ None
 new_number n [] l h = refl
 new_number n (m ∷ ls) l h =
     let behind = last_above (m.number + 1) ls l h.1 in
     let rest = new_number (m.number + 1) ls l h.1 in
     grind (arith, nat_tests, behind, rest)
 
-pub entry_of_pushed : (n : ℕ) (ls : List LogEntry) (l : LogEntry) → Rises n (ls ++ l ∷ []) → (number : ℕ) →
+pub entry_of_pushed : (n : ℕ) (ls : List LogEntry) (l : LogEntry) → NumbersAscend n (ls ++ l ∷ []) → (number : ℕ) →
     entry_of (ls ++ l ∷ []) number ≡ cond (l.number == number) (Some l.entry) (entry_of ls number)
 entry_of_pushed n [] l h number = refl
 entry_of_pushed n (m ∷ ls) l h number =
@@ -45,8 +46,8 @@ entry_of_ended ended end [] number = nothing (ended == number)
 entry_of_ended ended end (l ∷ ls) number = let rest = entry_of_ended ended end ls number in
     grind (arith, nat_tests, rest)
 
-ended_rise : (ended : ℕ) (end : Option ℕ) (n : ℕ) (ls : List LogEntry) → Rises n ls →
-    Rises n (map (entry_with_end ended end) ls)
+ended_rise : (ended : ℕ) (end : Option ℕ) (n : ℕ) (ls : List LogEntry) → NumbersAscend n ls →
+    NumbersAscend n (map (entry_with_end ended end) ls)
 ended_rise ended end = rises_mapped (entry_with_end ended end) (λ l. grind arith)
 
 -- WHAT PASSES A TEST
@@ -121,7 +122,7 @@ module _ (asked : List HolderRequest) where
     of_maps unended ended = record { wanted = wanted; unended = unended; ended = ended }
 
     pub inserted : (unended later ended : BTreeMap ℕ Entry) (entries : List LogEntry) (l : LogEntry) →
-        TracksEntries asked (of_maps unended ended) entries → l.entry.end ≡ None → Rises 1 (entries ++ l ∷ []) →
+        TracksEntries asked (of_maps unended ended) entries → l.entry.end ≡ None → NumbersAscend 1 (entries ++ l ∷ []) →
         ((q : ℕ) → get nat_cmp later q ≡ cond (is_at (nat_cmp l.number) q) (Some l.entry) (get nat_cmp unended q)) →
         TracksEntries asked (of_maps later ended) (entries ++ l ∷ [])
     inserted unended later ended entries l keeps endless rises has = record {
@@ -207,12 +208,12 @@ module _ (asked : List HolderRequest) where
   keys_above n [] h = tt
   keys_above n (l ∷ ls) h = (let first = h.0 in grind (arith, nat_tests, first), keys_above n ls h.1)
 
-  keys_rise : (n : ℕ) (ls : List LogEntry) → Rises n ls → IsStrictlySortedBy nat_cmp (keys_of (pairs ls))
+  keys_rise : (n : ℕ) (ls : List LogEntry) → NumbersAscend n ls → IsStrictlySortedBy nat_cmp (keys_of (pairs ls))
   unfolding IsStrictlySortedBy
   keys_rise n [] h = tt
   keys_rise n (l ∷ ls) h = (keys_above l.number ls (rises_above (l.number + 1) ls h.1), keys_rise (l.number + 1) ls h.1)
 
-  none_below : (q n : ℕ) (ls : List LogEntry) → q < n → Rises n ls → entry_of ls q ≡ None
+  none_below : (q n : ℕ) (ls : List LogEntry) → q < n → NumbersAscend n ls → entry_of ls q ≡ None
   none_below q n [] less h = refl
   none_below q n (l ∷ ls) less h =
       let first = h.0 in
@@ -239,7 +240,7 @@ module _ (asked : List HolderRequest) where
       found ≡ entry_if is_kept o → found ≡ entry_if is_kept (cond (m == q) (Some e) o)
   there q m e o found is none rest = rest ∙ beside (m == q) e o is none
 
-  look_up : (q n : ℕ) (ls : List LogEntry) → Rises n ls →
+  look_up : (q n : ℕ) (ls : List LogEntry) → NumbersAscend n ls →
       lookup (is_at (nat_cmp q)) (pairs (kept_of ls)) ≡ entry_if is_kept (entry_of ls q)
   look_up q n [] h = refl
   look_up q n (l ∷ ls) h =
@@ -296,7 +297,7 @@ module _ (asked : List HolderRequest) where
       InsertsAll nat_cmp ended unended.entries all →
       filter (λ e. is_wanted wanted e.binding.external) (values_of all.entries) ≡ asked_entries asked entries
   all_asked wanted unended ended all entries keeps ordered all_in =
-      let rises : Rises 1 (kept_of entries) = rises_filter (λ l. is_kept l.entry) 1 entries keeps.rising in
+      let rises : NumbersAscend 1 (kept_of entries) = rises_filter (λ l. is_kept l.entry) 1 entries keeps.rising in
       let same : all.entries ≡ pairs (kept_of entries) =
       same_entries nat_cmp nat_cmp_total exact_unsigned all.entries (pairs (kept_of entries))
       (truth (in_order all.entries all_in.1)) (truth

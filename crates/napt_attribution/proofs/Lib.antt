@@ -1,5 +1,5 @@
 pub mod RequestParties
 pub mod KeptEntries
 pub mod LogLaws
-pub mod Pieces
+pub mod RowReads
 pub mod SavedRows

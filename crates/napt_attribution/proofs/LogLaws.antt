@@ -5,7 +5,7 @@ use Rattle.napt_config.specs.Rules.{Rules, RulesInvariant, pair_of}
 use Rattle.napt_config.specs.declared.settings.Redirect.{Redirect}
 use Rattle.napt_rules.specs.Prelude.{Arrival, Binding, Each, State, Timers, initial_state, is_live, last_clock, opening, redirect_binding, with_live_flows}
 use Rattle.napt_rules.specs.declared.Row.{Row}
-use Rattle.napt_account.specs.{Questions.is_meant, declared.log.{Entry.Entry, LogEntry.LogEntry, Shortage.Shortage}, Log.{LogModel, begun_after, first_entry, log_of, log_on, numbered_from, unnumbered, unused_entry}, LogParts.{IsNumbered, LogDelta, in_order_of_end, is_open, living_at}, OpenEntries.Has, ResumedLogRuns.{left_of, part_of}, WholeLogs.{ArePartsOfLog, PartsAreTheLog, all_parts, origin, parts_joined}}
+use Rattle.napt_account.specs.{Parties.is_meant, declared.log.{Entry.Entry, LogEntry.LogEntry, Shortage.Shortage}, Log.{LogModel, begun_after, first_entry, log_of, log_on, numbered_from, unnumbered, unused_entry}, LogParts.{IsNumbered, LogDelta, in_order_of_end, is_open, living_at}, OpenEntries.Has, ResumedLogRuns.{left_of, part_of}, WholeLogs.{ArePartsOfLog, PartsAreTheLog, all_parts, origin, parts_joined}}
 use Rattle.napt_account.proofs.{EndOrderings.{Differ, each_has, has_each}, EntryNumbers.{begun_numbered, differ_moved, log_rises}, AscendingNumbers.rises_differ, SortedLists.{has_back, has_moved}}
 use Rattle.napt_log_text.specs.{LogReaders.{events_after, part_events}, Logs.log_anew, Requests.{holders, is_asked, is_holder, meets}, declared.{event.LogEvent.{LogEvent, TheVariants.{Made, Ended, Living, Refused}}, request.{Request.Request, TimeSpan.TimeSpan}}}
 use Rattle.napt_attribution.specs.{RequestParties.is_asked_about, LogLaws.{RowsNameTheHolders, RowsDetermineTheLog, whole_events, without_counts}, SavedLogs.{asked_entries, bare_entry, row_end_among, end_told, entries_in, made_in}, declared.requests.HolderRequest.HolderRequest}

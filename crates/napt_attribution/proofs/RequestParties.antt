@@ -2,7 +2,7 @@
 use Rattle.std.proofs.{Common.{◌≡◌, ℕ, Bool, true, false, ◌&&◌, ◌||◌, ◌==◌, List, [], ◌∷◌, Option, Some, None, ◌<◌, ◌+◌, cond, length, take, get_or, refl, sym, ◌∙◌, ap, ap₂, ◌≤◌, arith}, lemmas.{List.take_all, List.Folds.list_any_more, Bool.Decides.nat_tests}}
 use Rattle.std.specs.{List.list_any, BTreeMap.is_at}
 use Rattle.napt_wire.specs.declared.Endpoint.{Endpoint}
-use Rattle.napt_account.specs.{Questions.is_meant, declared.question.Party.Party}
+use Rattle.napt_account.specs.{Parties.is_meant, declared.party.Party.Party}
 use Rattle.napt_attribution.specs.{RequestParties.{is_asked_about, is_party, party_cmp}, declared.requests.HolderRequest.HolderRequest}
 
 meant_one : (external : Endpoint) (address : ℕ) (number : Option ℕ) →

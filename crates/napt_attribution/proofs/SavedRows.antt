@@ -3,9 +3,9 @@ use Rattle.std.proofs.{Common.{◌≡◌, ℕ, ◌+◌, ◌<◌, ◌≤◌, ◌=
 use Rattle.std.specs.{BTreeMap.BTreeMap, Option.{IsSome, is_some, option_or}}
 use Rattle.napt_wire.specs.declared.{Cause.TheVariants.OverQuota, Protocol.Protocol}
 use Rattle.napt_rules.specs.{Prelude.Each, declared.Row.Row}
-use Rattle.napt_account.{specs.{declared.log.{Entry.Entry, LogEntry.LogEntry, Shortage.Shortage}, LogParts.Rises}, proofs.AscendingNumbers.rises_pushed}
+use Rattle.napt_account.{specs.{declared.log.{Entry.Entry, LogEntry.LogEntry, Shortage.Shortage}, LogParts.NumbersAscend}, proofs.AscendingNumbers.rises_pushed}
 use Rattle.napt_log_text.specs.{LogRows.{number_field, saved_row}, Rows.shortage_number, declared.{event.LogEvent.{LogEvent, TheVariants.{Made, Ended, Living, Refused}}, log_row.{LogField.TheVariants.{Empty, Number}, LogRow.LogRow}}}
-use Rattle.napt_attribution.specs.{SavedLogs.{Follows, HasBinding, HasOpen, TracksEntries, RowsTrackEntries, RowsTrackEvents, bare_entry, row_end_among, end_told, entries_in, entry_of, entry_with_end, has_no_end, made_in, entry_if}, declared.{requests.HolderRequest.HolderRequest, kept_entries.KeptEntries.KeptEntries, saved_rows.SavedRows.SavedRows}}
+use Rattle.napt_attribution.specs.{SavedLogs.{EventFollows, HasBinding, HasOpenEntry, TracksEntries, RowsTrackEntries, RowsTrackEvents, bare_entry, row_end_among, end_told, entries_in, entry_of, entry_with_end, has_no_end, made_in, entry_if}, declared.{requests.HolderRequest.HolderRequest, kept_entries.KeptEntries.KeptEntries, saved_rows.SavedRows.SavedRows}}
 
 -- EVENTS
 
@@ -100,10 +100,11 @@ no_end end (m ∷ ms) n binding h =
       | false ↦ λ same has. no_end end ms n binding has
     ] refl h
 
-pub open_no_end : (es : List LogEvent) (l : LogEntry) → HasOpen (entries_in es) l → row_end_among es l.number ≡ None
+pub open_no_end : (es : List LogEvent) (l : LogEntry) → HasOpenEntry (entries_in es) l →
+    row_end_among es l.number ≡ None
 open_no_end es l h = no_end (row_end_among es) (made_in es) l.number l.entry.binding h
 
-pub open_made : (made : ℕ) (ls : List LogEntry) (l : LogEntry) → Each (λ m. m.number ≤ made) ls → HasOpen ls l →
+pub open_made : (made : ℕ) (ls : List LogEntry) (l : LogEntry) → Each (λ m. m.number ≤ made) ls → HasOpenEntry ls l →
     l.number ≤ made
 open_made made [] l each h = absurd h
 open_made made (m ∷ ls) l each h =
@@ -144,8 +145,8 @@ each_before made number [] h less = tt
 each_before made number (m ∷ ls) h less =
     (let first = h.0 in omega (arith, first, less), each_before made number ls h.1 less)
 
-pub rises_more : (made : ℕ) (ls : List LogEntry) (l : LogEntry) → Rises 1 ls → Each (λ m. m.number ≤ made) ls →
-    made < l.number → Rises 1 (ls ++ l ∷ [])
+pub rises_more : (made : ℕ) (ls : List LogEntry) (l : LogEntry) → NumbersAscend 1 ls → Each (λ m. m.number ≤ made) ls →
+    made < l.number → NumbersAscend 1 (ls ++ l ∷ [])
 rises_more made ls l rises each less =
     rises_pushed 1 ls l rises (each_before made l.number ls each less) (omega (arith, less))
 
@@ -155,7 +156,7 @@ module _ (asked : List HolderRequest) (old new : SavedRows) (es : List LogEvent)
     (tells : RowsTrackEvents asked old es) where
   pub told_made : (l : LogEntry) → old.made < l.number → new.made ≡ l.number → new.unrepeated.entries ≡ [] →
       TracksEntries asked new.kept (entries_in es ++ bare_entry None l ∷ []) →
-      Follows (entries_in es) (Made l) × RowsTrackEvents asked new (es ++ Made l ∷ [])
+      EventFollows (entries_in es) (Made l) × RowsTrackEvents asked new (es ++ Made l ∷ [])
   told_made l less made none kept =
       let same : row_end_among (es ++ Made l ∷ []) ≡ row_end_among es = same_ends es (Made l) (λ number. refl) in
       let here : row_end_among es l.number ≡ None = tells.ends l.number less in (
@@ -179,7 +180,7 @@ module _ (asked : List HolderRequest) (old new : SavedRows) (es : List LogEvent)
       ∙ ap (λ (b : Bool). option_or None (cond b (option_or l.entry.end None) None)) other)
 
   pub told_ended : (e : LogEvent) (l : LogEntry) → made_in (e ∷ []) ≡ [] →
-      ((number : ℕ) → row_end_among (e ∷ []) number ≡ end_told l number None) → HasOpen (entries_in es) l →
+      ((number : ℕ) → row_end_among (e ∷ []) number ≡ end_told l number None) → HasOpenEntry (entries_in es) l →
       RowsTrackEntries asked new (map (entry_with_end l.number l.entry.end) (entries_in es)) → new.made ≡ old.made →
       RowsTrackEvents asked new (es ++ e ∷ [])
   told_ended e l unmade tells_end has keeps made = record {
@@ -271,7 +272,7 @@ no_end_told l none number = ap (λ (x : Option ℕ). cond (l.number == number) (
     [ true ↦ refl | false ↦ refl ]
 
 pub is_open : (ls : List LogEntry) (l : LogEntry) (n : ℕ) (e : Entry) → n ≡ l.number →
-    entry_if has_no_end (entry_of ls n) ≡ Some e → e.binding ≡ l.entry.binding → HasOpen ls l
+    entry_if has_no_end (entry_of ls n) ≡ Some e → e.binding ≡ l.entry.binding → HasOpenEntry ls l
 is_open ls l n e same found binding = subst (HasBinding l.entry.binding)
     (sym (ap (λ (k : ℕ). entry_if has_no_end (entry_of ls k)) (sym same) ∙ found)) binding
 
@@ -279,7 +280,7 @@ has_some : (binding : Row) (o : Option Entry) → HasBinding binding o → IsSom
 has_some binding None h = absurd h
 has_some binding (Some e) h = search rules
 
-pub open_some : (ls : List LogEntry) (l : LogEntry) (n : ℕ) → n ≡ l.number → HasOpen ls l →
+pub open_some : (ls : List LogEntry) (l : LogEntry) (n : ℕ) → n ≡ l.number → HasOpenEntry ls l →
     IsSome (entry_if has_no_end (entry_of ls n))
 open_some ls l n same has = subst (λ (k : ℕ). IsSome (entry_if has_no_end (entry_of ls k))) (sym same)
     (has_some l.entry.binding _ has)

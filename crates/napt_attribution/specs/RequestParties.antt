@@ -2,7 +2,7 @@
 use Rattle.std.specs.{Prelude.{◌≡◌, ◌==◌, ◌&&◌, ◌||◌, nat_eq, ℕ, Bool, List, Option, Some, None}, BTreeSet.contains, List.list_any, Option.{option_cmp, option_eq}, Ordering.{nat_cmp, ordering_then}}
 use Rattle.std.specs.declared.cmp.Ordering.{Ordering}
 use Rattle.napt_wire.specs.declared.Endpoint.{Endpoint}
-use Rattle.napt_account.specs.{Questions.is_meant, declared.question.Party.Party}
+use Rattle.napt_account.specs.{Parties.is_meant, declared.party.Party.Party}
 use Rattle.napt_attribution.specs.declared.{requests.HolderRequest.HolderRequest, wanted_endpoints.WantedEndpoints.WantedEndpoints}
 
 -- Returns whether one of the requests asks about an endpoint, or about each endpoint of its address.
@@ -22,5 +22,5 @@ is_wanted wanted external = contains party_cmp wanted.parties (external.address,
     || contains party_cmp wanted.parties (external.address, Some external.number)
 
 -- The wanted endpoints are those that the requests ask about.
-abbrev pub Wants : List HolderRequest → WantedEndpoints → Type 0
-Wants asked wanted = (external : Endpoint) → is_wanted wanted external ≡ is_asked_about asked external
+abbrev pub AreEndpointsAskedAbout : List HolderRequest → WantedEndpoints → Type 0
+AreEndpointsAskedAbout asked wanted = (external : Endpoint) → is_wanted wanted external ≡ is_asked_about asked external

@@ -1,9 +1,9 @@
 -- The entries in the rows of a saved log: the bindings that rows make, each with the end that a row has for its number.
 use Rattle.std.specs.{Prelude.{◌≡◌, ℕ, ◌==◌, ◌<◌, ◌≤◌, Bool, true, false, not, ◌&&◌, cond, List, [], ◌∷◌, ◌++◌, map, filter, Option, Some, None}, Option.{is_some, option_or}, BTreeMap.get, Ordering.nat_cmp}
 use Rattle.napt_rules.specs.{Prelude.Each, declared.Row.Row}
-use Rattle.napt_account.specs.{declared.log.{Entry.Entry, LogEntry.LogEntry}, Log.unused_entry, LogParts.Rises}
+use Rattle.napt_account.specs.{declared.log.{Entry.Entry, LogEntry.LogEntry}, Log.unused_entry, LogParts.NumbersAscend}
 use Rattle.napt_log_text.specs.declared.event.LogEvent.{LogEvent, TheVariants.{Made, Ended, Living, Refused}}
-use Rattle.napt_attribution.specs.{RequestParties.{Wants, is_asked_about}, declared.{requests.HolderRequest.HolderRequest, kept_entries.KeptEntries.KeptEntries, saved_rows.SavedRows.SavedRows}}
+use Rattle.napt_attribution.specs.{RequestParties.{AreEndpointsAskedAbout, is_asked_about}, declared.{requests.HolderRequest.HolderRequest, kept_entries.KeptEntries.KeptEntries, saved_rows.SavedRows.SavedRows}}
 
 -- Returns the entries of the bindings that rows make, in their order.
 abbrev pub made_in : List LogEvent → List LogEntry
@@ -54,8 +54,8 @@ is_ended_and_asked asked entry = is_some entry.end && is_asked_about asked entry
 
 -- The maps contain exactly the entries without an end, and the ended entries that requests ask about.
 pub record TracksEntries (asked : List HolderRequest) (kept : KeptEntries) (entries : List LogEntry) : Type 0 where
-  pub wanted : Wants asked kept.wanted
-  pub rising : Rises 1 entries
+  pub wanted : AreEndpointsAskedAbout asked kept.wanted
+  pub rising : NumbersAscend 1 entries
   pub unended : (number : ℕ) → get nat_cmp kept.unended number ≡ entry_if has_no_end (entry_of entries number)
   pub ended : (number : ℕ) → get nat_cmp kept.ended number ≡
       entry_if (is_ended_and_asked asked) (entry_of entries number)
@@ -83,14 +83,14 @@ abbrev pub HasBinding : Row → Option Entry → Type 0
 HasBinding binding None = ⊥
 HasBinding binding (Some entry) = entry.binding ≡ binding
 
-abbrev pub HasOpen : List LogEntry → LogEntry → Type 0
-HasOpen entries listed = HasBinding listed.entry.binding (entry_if has_no_end (entry_of entries listed.number))
+abbrev pub HasOpenEntry : List LogEntry → LogEntry → Type 0
+HasOpenEntry entries listed = HasBinding listed.entry.binding (entry_if has_no_end (entry_of entries listed.number))
 
-abbrev pub Follows : List LogEntry → LogEvent → Type 0
-Follows entries (Made listed) = Each (λ other. other.number < listed.number) entries
-Follows entries (Ended listed) = HasOpen entries listed
-Follows entries (Living listed) = HasOpen entries listed
-Follows entries (Refused shortage) = Unit {0}
+abbrev pub EventFollows : List LogEntry → LogEvent → Type 0
+EventFollows entries (Made listed) = Each (λ other. other.number < listed.number) entries
+EventFollows entries (Ended listed) = HasOpenEntry entries listed
+EventFollows entries (Living listed) = HasOpenEntry entries listed
+EventFollows entries (Refused shortage) = Unit {0}
 
 abbrev pub unused : Row → ℕ → Entry
 unused binding made = unused_entry binding made None
@@ -98,4 +98,4 @@ unused binding made = unused_entry binding made None
 -- Each of the rows that come after these may follow those before it.
 abbrev pub FollowAll : List LogEvent → List LogEvent → Type 0
 FollowAll before [] = Unit {0}
-FollowAll before (event ∷ events) = Follows (entries_in before) event × FollowAll (before ++ event ∷ []) events
+FollowAll before (event ∷ events) = EventFollows (entries_in before) event × FollowAll (before ++ event ∷ []) events

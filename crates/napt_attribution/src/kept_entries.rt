@@ -2,7 +2,7 @@
 //! end, and the entries that requests ask about.
 
 ghost use Rattle.std.specs.Prelude.{◌≡◌, ◌++◌, ◌∷◌, [], ℕ, IfOk, IfSome, IsSome, List, None, OnOk, Some, map};
-ghost use Rattle.napt_account.specs.{LogParts.Rises, declared.log.LogEntry.{LogEntry as Listed}};
+ghost use Rattle.napt_account.specs.{LogParts.NumbersAscend, declared.log.LogEntry.{LogEntry as Listed}};
 ghost use Rattle.napt_attribution.specs.SavedLogs as logs;
 ghost use Rattle.napt_attribution.specs.declared.requests.HolderRequest.{HolderRequest as Asked};
 
@@ -38,7 +38,8 @@ impl KeptEntries {
     pub fn insert(&mut self, number: u64, entry: Entry) -> Result<(), AllocFailed<(u64, Entry)>>
         ensures { (asked : List Asked) (entries : List Listed) →
             logs.TracksEntries asked self.old entries →
-            entry.end ≡ None → Rises 1 (entries ++ record { number = number; entry = entry } ∷ []) →
+            entry.end ≡ None →
+            NumbersAscend 1 (entries ++ record { number = number; entry = entry } ∷ []) →
             OnOk result (logs.TracksEntries asked self.new
             (entries ++ record { number = number; entry = entry } ∷ [])) }
     {

@@ -110,7 +110,7 @@ impl LogPiece<'_> {
             (rest : List ℕ) → IsEvent event →
             R.remaining log.old.reader ≡ Some (csv_row rules event ++ rest) →
             logs.RowsTrackEvents asked rows.old events → IfOk result (λ more. (more ≡ true)
-            × logs.Follows (logs.entries_in events) event
+            × logs.EventFollows (logs.entries_in events) event
             × logs.RowsTrackEvents asked rows.new (events ++ event ∷ [])
             × (R.remaining log.new.reader ≡ Some rest)) }
         ensures end { R.remaining log.old.reader ≡ Some [] →
@@ -128,7 +128,7 @@ impl LogPiece<'_> {
     ) -> Result<bool, RowFault>
         ensures row { (asked : List Asked) (events : List Told) (event : Told) →
             read ≡ Ok (Some (saved_row event)) → logs.RowsTrackEvents asked rows.old events →
-            IfOk result (λ more. (more ≡ true) × logs.Follows (logs.entries_in events) event
+            IfOk result (λ more. (more ≡ true) × logs.EventFollows (logs.entries_in events) event
             × logs.RowsTrackEvents asked rows.new (events ++ event ∷ [])) }
         ensures end { read ≡ Ok None →
             IfOk result (λ more. (more ≡ false) × (rows.new ≡ rows.old)) }
@@ -148,7 +148,7 @@ impl LogPiece<'_> {
     fn add_row(self, rows: &mut SavedRows, row: &LogRow) -> Result<bool, RowFault>
         ensures { (asked : List Asked) (events : List Told) (event : Told) →
             row.now ≡ saved_row event → logs.RowsTrackEvents asked rows.old events →
-            IfOk result (λ more. (more ≡ true) × logs.Follows (logs.entries_in events) event
+            IfOk result (λ more. (more ≡ true) × logs.EventFollows (logs.entries_in events) event
             × logs.RowsTrackEvents asked rows.new (events ++ event ∷ [])) }
     {
         let made = rows.take(row)?;

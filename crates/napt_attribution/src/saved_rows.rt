@@ -104,7 +104,7 @@ impl SavedRows {
     pub fn take(&mut self, row: &LogRow) -> Result<Option<Row>, RowFault>
         ensures { (asked : List Asked) (events : List Told) (event : Told) →
             logs.RowsTrackEvents asked self.old events → row.now ≡ rows.saved_row event →
-            OnOk result (logs.Follows (logs.entries_in events) event
+            OnOk result (logs.EventFollows (logs.entries_in events) event
             × logs.RowsTrackEvents asked self.new (events ++ event ∷ [])) }
     {
         match row.event {
@@ -127,7 +127,7 @@ impl SavedRows {
     fn add_made(&mut self, row: &LogRow) -> Result<Row, RowFault>
         ensures { (asked : List Asked) (events : List Told) (listed : Listed) →
             logs.RowsTrackEvents asked self.old events → row.now ≡ rows.saved_row (Made listed) →
-            OnOk result (logs.Follows (logs.entries_in events) (Made listed)
+            OnOk result (logs.EventFollows (logs.entries_in events) (Made listed)
             × logs.RowsTrackEvents asked self.new (events ++ Made listed ∷ [])) }
     {
         let binding = binding_of(row)?;
@@ -165,7 +165,7 @@ impl SavedRows {
     fn end(&mut self, row: &LogRow) -> Result<(), RowFault>
         ensures { (asked : List Asked) (events : List Told) (listed : Listed) →
             logs.RowsTrackEvents asked self.old events → row.now ≡ rows.saved_row (Ended listed) →
-            OnOk result (logs.Follows (logs.entries_in events) (Ended listed)
+            OnOk result (logs.EventFollows (logs.entries_in events) (Ended listed)
             × logs.RowsTrackEvents asked self.new (events ++ Ended listed ∷ [])) }
     {
         let binding = binding_of(row)?;
@@ -178,7 +178,7 @@ impl SavedRows {
     fn add_living(&mut self, row: &LogRow) -> Result<(), RowFault>
         ensures { (asked : List Asked) (events : List Told) (listed : Listed) →
             logs.RowsTrackEvents asked self.old events → row.now ≡ rows.saved_row (Living listed) →
-            OnOk result (logs.Follows (logs.entries_in events) (Living listed)
+            OnOk result (logs.EventFollows (logs.entries_in events) (Living listed)
             × logs.RowsTrackEvents asked self.new (events ++ Living listed ∷ [])) }
     {
         let binding = binding_of(row)?;
@@ -197,7 +197,7 @@ impl SavedRows {
     fn end_at(&mut self, number: LogField, binding: Row, end: u128) -> Result<(), RowFault>
         ensures { (asked : List Asked) (entries : List Listed) (listed : Listed) →
             logs.RowsTrackEntries asked self.old entries → number ≡ LogField.Number listed.number →
-            binding ≡ listed.entry.binding → OnOk result (logs.HasOpen entries listed
+            binding ≡ listed.entry.binding → OnOk result (logs.HasOpenEntry entries listed
             × logs.RowsTrackEntries asked self.new
             (map (logs.entry_with_end listed.number (Some end)) entries)
             × (self.new.made ≡ self.old.made)) }
@@ -215,7 +215,7 @@ impl SavedRows {
         ensures { (asked : List Asked) (entries : List Listed) (listed : Listed) →
             logs.RowsTrackEntries asked self.now entries → number ≡ LogField.Number listed.number →
             binding ≡ listed.entry.binding →
-            IfSome result (λ found. (found.0 ≡ listed.number) × logs.HasOpen entries listed) }
+            IfSome result (λ found. (found.0 ≡ listed.number) × logs.HasOpenEntry entries listed) }
     {
         let LogField::Number(number) = number else {
             return None;

@@ -1,7 +1,7 @@
 //! The external addresses and endpoints that requests name.
 
 ghost use Rattle.std.specs.{BTreeMap.values, Prelude.{◌≡◌, IfOk, filter}};
-ghost use Rattle.napt_attribution.specs.RequestParties.{Wants, is_wanted};
+ghost use Rattle.napt_attribution.specs.RequestParties.{AreEndpointsAskedAbout, is_wanted};
 
 use crate::requests::HolderRequest;
 use napt_account::Entry;
@@ -22,7 +22,7 @@ impl WantedEndpoints {
         alloc: Global,
         asked: &[HolderRequest],
     ) -> Result<WantedEndpoints, AllocError>
-        ensures { IfOk result (λ wanted. Wants asked.now wanted) }
+        ensures { IfOk result (λ wanted. AreEndpointsAskedAbout asked.now wanted) }
     {
         let mut parties = BTreeSet::new(alloc);
         for one in asked {

@@ -18,7 +18,7 @@ pub use address_counts::AddressCounts;
 pub use flows::Flows;
 pub use idle_timers::IdleTimers;
 pub use inbound::inbound_rules;
-pub use lifetime::{end_of, is_live, is_live_flow, is_recent, until};
+pub use lifetime::{end_of, is_live, is_live_flow, is_recent, live_until};
 pub use napt_rules::{Flow, InboundRules, OutboundPacket, SessionMarks};
 pub use packed_row::PackedRow;
 pub use state_binding::{from_state, to_state};

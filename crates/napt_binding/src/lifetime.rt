@@ -109,7 +109,7 @@ pub fn end_of(binding: &TableBinding, timers: IdleTimers) -> Option<u128>
 
 /// Returns a time (ns) from `now` on up to which a live binding lives, whatever packets come, but
 /// not after a packet at `now` would let it live: the last such time, except for a redirect.
-pub fn until(binding: &TableBinding, timers: IdleTimers, now: u64) -> u64
+pub fn live_until(binding: &TableBinding, timers: IdleTimers, now: u64) -> u64
     requires live { life.is_live timers now binding.now ≡ true }
     ensures later { now ≤ result }
     ensures near { result < now + least_timer binding.now.row.protocol timers * life.ns_per_second }

@@ -1,7 +1,7 @@
 -- The four formats of a capture file: two byte orders and two time units (pcap-savefile(5), "magic number").
 use Rattle.std.specs.Prelude.{ℕ, List, Option, Some, None, ◌==◌, if◌then◌else◌}
 use Rattle.byteorder.specs.Endian.{big_number, little_number}
-use Rattle.napt_capture.specs.declared.capture_format.{NumberOrder.{NumberOrder, TheVariants.{Little, Big}}, FractionUnit.{FractionUnit as TimeUnit, TheVariants.{Microsecond, Nanosecond}}}
+use Rattle.napt_capture.specs.declared.capture_format.{NumberOrder.{NumberOrder, TheVariants.{Little, Big}}, FractionUnit.{FractionUnit, TheVariants.{Microsecond, Nanosecond}}}
 use Rattle.napt_capture.specs.declared.capture_format.CaptureFormat.{CaptureFormat}
 
 -- The format that the magic shows, which is the first four bytes as a big-endian number, if it is a known one.
@@ -25,7 +25,7 @@ long_number s bytes = number_by s.order 4 bytes
 abbrev pub short_number : CaptureFormat → List ℕ → ℕ
 short_number s bytes = number_by s.order 2 bytes
 
-abbrev pub units_in_second : TimeUnit → ℕ
+abbrev pub units_in_second : FractionUnit → ℕ
 units_in_second Microsecond = 1000000
 units_in_second Nanosecond = 1000000000
 
@@ -34,6 +34,6 @@ abbrev pub units_per_second : CaptureFormat → ℕ
 units_per_second s = units_in_second s.unit
 
 -- The number of nanoseconds in a unit.
-abbrev pub nanoseconds_per_unit : TimeUnit → ℕ
+abbrev pub nanoseconds_per_unit : FractionUnit → ℕ
 nanoseconds_per_unit Microsecond = 1000
 nanoseconds_per_unit Nanosecond = 1

@@ -15,8 +15,8 @@ abbrev pub own_failed : {D : Type 0} → Faulty D → ℕ
 own_failed f = length f.failures.items
 
 -- The fault that the next call meets, if it meets one.
-abbrev pub trouble_of : FaultPlan → Option InjectedFault
-trouble_of plan = if plan.call == 1 then Some plan.trouble else None
+abbrev pub fault_of_plan : FaultPlan → Option InjectedFault
+fault_of_plan plan = if plan.failing_call == 1 then Some plan.fault else None
 
 -- A read or a write fails, or returns 0, as the injected fault says.
 abbrev pub GoesWrong : {E : Type 0} → InjectedFault → Result ℕ E → Type 0
@@ -25,7 +25,7 @@ GoesWrong TakesNone result = result ≡ Ok 0
 
 -- The plan after one more call.
 abbrev pub after_a_call : FaultPlan → FaultPlan
-after_a_call plan = record plan { call = plan.call - 1 }
+after_a_call plan = record plan { failing_call = plan.failing_call - 1 }
 
 -- The bytes that reads will return, if known. They are not known if a read may return 0 before the end.
 abbrev pub faulty_known_bytes : InjectedFault → Option (List ℕ) → Option (List ℕ)

@@ -9,11 +9,11 @@ remaining_text records remaining = prepend_known records.ahead remaining
 
 -- What this reader finds next at the front of a text.
 abbrev pub next_record : RecordReader → List ℕ → Result NextRead CaptureFault
-next_record records text = next_in records.spelling records.number text
+next_record records text = next_in records.format records.number text
 
 -- All records that this reader finds in a text, and how they end.
 abbrev pub remaining_records : RecordReader → List ℕ → CaptureReading
-remaining_records records text = records_from records.spelling records.number 0 text
+remaining_records records text = records_from records.format records.number 0 text
 
 abbrev pub is_end : Result NextRead CaptureFault → Bool
 is_end (Ok (End cut)) = true
@@ -37,9 +37,9 @@ pub record HandsOutNothing (old : RecordReader) (before : Option (List ℕ)) (ne
     (after : Option (List ℕ)) : Type 0 where
   pub left : Keeps (remaining_text old before) (remaining_text new after)
   pub number : new.number ≡ old.number
-  pub spelling : new.spelling ≡ old.spelling
+  pub format : new.format ≡ old.format
 
 -- The format of an opened reader, or the fault with which it could not be opened.
-abbrev pub spelling_of_reader : Result RecordReader CaptureFault → Result CaptureFormat CaptureFault
-spelling_of_reader (Ok records) = Ok records.spelling
-spelling_of_reader (Err fault) = Err fault
+abbrev pub format_of_reader : Result RecordReader CaptureFault → Result CaptureFormat CaptureFault
+format_of_reader (Ok records) = Ok records.format
+format_of_reader (Err fault) = Err fault

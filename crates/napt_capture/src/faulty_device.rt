@@ -20,9 +20,9 @@ pub struct FaultPlan {
     /// The largest number of bytes that a read or a write moves. It is not 0.
     pub most: usize,
     /// The call that goes wrong, counted from 1 over reads, writes and flushes; 0 for none.
-    pub call: u64,
+    pub failing_call: u64,
     /// What goes wrong in that call.
-    pub trouble: InjectedFault,
+    pub fault: InjectedFault,
 }
 
 /// A source or sink for tests. It passes each call to the underlying device, except the one call of
@@ -37,7 +37,7 @@ pub struct Faulty<D> {
 }
 
 impl<D> Faulty<D> {
-    ghost use Rattle.napt_capture.specs.FaultyDevices.{device_of, plan_of, own_failed, trouble_of, after_a_call};
+    ghost use Rattle.napt_capture.specs.FaultyDevices.{device_of, plan_of, own_failed, fault_of_plan, after_a_call};
 
     /// Wraps a device that follows the plan from here on.
     pub fn new(device: D, plan: FaultPlan) -> Self
@@ -66,13 +66,13 @@ impl<D> Faulty<D> {
     }
 
     /// Counts a call, and returns what goes wrong in it, if anything.
-    fn next_trouble(&mut self) -> Option<InjectedFault>
-        ensures answer { result ≡ trouble_of self.old.plan }
+    fn next_fault(&mut self) -> Option<InjectedFault>
+        ensures answer { result ≡ fault_of_plan self.old.plan }
         ensures left { self.new ≡ record self.old { plan = after_a_call self.old.plan } }
     {
-        let goes_wrong = self.plan.call == 1;
-        self.plan.call = self.plan.call.saturating_sub(1);
-        goes_wrong.then_some(self.plan.trouble)
+        let goes_wrong = self.plan.failing_call == 1;
+        self.plan.failing_call = self.plan.failing_call.saturating_sub(1);
+        goes_wrong.then_some(self.plan.fault)
     }
 }
 
@@ -81,27 +81,27 @@ impl<D: Source> Source for Faulty<D> {
     ghost use Rattle.std.specs.Io.{ReadsAtMost};
     ghost use Rattle.std.specs.Io.KnownBytes.{ReadConsumes};
     ghost use Rattle.napt_capture.specs.Device.{failed_calls};
-    ghost use Rattle.napt_capture.specs.FaultyDevices.{GoesWrong, after_a_call, device_of, plan_of, own_failed, faulty_known_bytes, trouble_of};
+    ghost use Rattle.napt_capture.specs.FaultyDevices.{GoesWrong, after_a_call, device_of, plan_of, own_failed, faulty_known_bytes, fault_of_plan};
 
-    ghost remaining = { λ f. faulty_known_bytes (plan_of f).trouble (D.remaining (device_of f)) };
+    ghost remaining = { λ f. faulty_known_bytes (plan_of f).fault (D.remaining (device_of f)) };
 
     ghost failed = { λ f. own_failed f + D.failed (device_of f) };
 
     fn read(&mut self, buffer: &mut [u8]) -> Result<usize, DeviceFault>
         ensures bound { ReadsAtMost result buffer.new }
         ensures bytes { ReadConsumes
-            (faulty_known_bytes (plan_of self.old).trouble (D.remaining (device_of self.old)))
-            (faulty_known_bytes (plan_of self.new).trouble (D.remaining (device_of self.new)))
+            (faulty_known_bytes (plan_of self.old).fault (D.remaining (device_of self.old)))
+            (faulty_known_bytes (plan_of self.new).fault (D.remaining (device_of self.new)))
             result buffer.new }
         ensures count { own_failed self.new + D.failed (device_of self.new)
             ≡ own_failed self.old + D.failed (device_of self.old) + failed_calls result }
         // In addition to the clauses of the trait, the plan is followed.
         ensures most { IfOk result (λ count. count ≤ (plan_of self.old).most) }
-        ensures trouble { IfSome (trouble_of (plan_of self.old)) (λ trouble.
-            GoesWrong trouble result) }
+        ensures fault { IfSome (fault_of_plan (plan_of self.old)) (λ fault.
+            GoesWrong fault result) }
         ensures plan { plan_of self.new ≡ after_a_call (plan_of self.old) }
     {
-        match self.next_trouble() {
+        match self.next_fault() {
             None => {
                 let most = self.plan.most.min(buffer.len());
                 self.device.read(&mut buffer[..most])
@@ -120,7 +120,7 @@ impl<D: Sink> Sink for Faulty<D> {
     ghost use Rattle.std.specs.Io.{WritesAtMost};
     ghost use Rattle.std.specs.Io.KnownBytes.{WriteAppends};
     ghost use Rattle.napt_capture.specs.Device.{failed_writes};
-    ghost use Rattle.napt_capture.specs.FaultyDevices.{GoesWrong, after_a_call, device_of, own_failed, plan_of, trouble_of};
+    ghost use Rattle.napt_capture.specs.FaultyDevices.{GoesWrong, after_a_call, device_of, own_failed, plan_of, fault_of_plan};
 
     ghost contents = { λ f. D.contents (device_of f) };
 
@@ -139,11 +139,11 @@ impl<D: Sink> Sink for Faulty<D> {
             ≡ own_failed self.old + D.failed (device_of self.old) + failed_writes result bytes.now }
         // In addition to the clauses of the trait, the plan is followed.
         ensures most { IfOk result (λ count. count ≤ (plan_of self.old).most) }
-        ensures trouble { IfSome (trouble_of (plan_of self.old)) (λ trouble.
-            GoesWrong trouble result) }
+        ensures fault { IfSome (fault_of_plan (plan_of self.old)) (λ fault.
+            GoesWrong fault result) }
         ensures plan { plan_of self.new ≡ after_a_call (plan_of self.old) }
     {
-        match self.next_trouble() {
+        match self.next_fault() {
             None => {
                 let most = self.plan.most.min(bytes.len());
                 self.device.write(&bytes[..most])
@@ -162,7 +162,7 @@ impl<D: Sink> Sink for Faulty<D> {
     }
 
     fn flush(&mut self) -> Result<(), DeviceFault> {
-        match self.next_trouble() {
+        match self.next_fault() {
             None | Some(InjectedFault::TakesNone) => self.device.flush(),
             Some(InjectedFault::Fails) => {
                 self.failures = self.failures.and(&0, &0);

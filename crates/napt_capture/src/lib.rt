@@ -29,7 +29,7 @@ pub use empty_devices::{EmptySource, NullSink};
 pub use fault::{CaptureFault, WriteFault};
 pub use faulty_device::{FaultPlan, Faulty, InjectedFault};
 pub use laws::{none_too_large, reads_back, records_follow};
-pub use read_ahead::ROOM;
+pub use read_ahead::READ_AHEAD_BYTES;
 pub use reading::{NextRead, read_capture};
 pub use record_reader::RecordReader;
 pub use watched::Watched;

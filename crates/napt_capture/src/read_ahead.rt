@@ -8,7 +8,7 @@ use std::alloc::{AllocError, Global};
 use std::marker::Model;
 
 /// How many bytes of a capture are read ahead at most: more than a record and its header have.
-pub const ROOM: usize = 1_048_576;
+pub const READ_AHEAD_BYTES: usize = 1_048_576;
 
 /// The bytes read from a source and not yet consumed: at most 1,048,576.
 #[derive(Drop)]
@@ -34,7 +34,7 @@ impl ReadAhead {
     pub(crate) fn new(alloc: Global) -> Result<ReadAhead, AllocError>
         ensures { IfOk result (λ ahead. ahead ≡ []) }
     {
-        let buffer = vec![in alloc; 0; ROOM]?;
+        let buffer = vec![in alloc; 0; READ_AHEAD_BYTES]?;
         Ok(ReadAhead {
             buffer,
             begin: 0,

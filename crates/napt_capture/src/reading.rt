@@ -56,12 +56,12 @@ pub fn read_capture<R: Source>(alloc: Global, reader: &mut R) -> Result<Capture,
     ensures memory { IfErr result (IsForRecords (R.remaining reader.old)) }
     ensures count { R.failed reader.new ≡ R.failed reader.old + failed_reads result }
 {
-    let spelling = read_file_header(reader)?;
+    let format = read_file_header(reader)?;
     let mut records = Vec::new(alloc);
     let mut asked = FILE_HEADER as u64;
     loop {
         let number = records.len() as u64 + 1;
-        match read_record(alloc, reader, spelling, asked, number)? {
+        match read_record(alloc, reader, format, asked, number)? {
             NextRead::Whole(record) => {
                 asked += RECORD_HEADER as u64 + record.bytes.len() as u64;
                 records.push(record)?;
@@ -111,31 +111,31 @@ fn format_of_file(header: &[u8]) -> Result<CaptureFormat, CaptureFault>
     ensures is { format_in header.now ≡ result }
     ensures memory { result ≢ Err CaptureFault.Memory }
 {
-    let Some(spelling) = CaptureFormat::from_magic(BigEndian::read_u32(header)) else {
+    let Some(format) = CaptureFormat::from_magic(BigEndian::read_u32(header)) else {
         return Err(CaptureFault::BadMagic);
     };
-    if spelling.short(&header[4..]) != 2 || spelling.short(&header[6..]) != 4 {
+    if format.short(&header[4..]) != 2 || format.short(&header[6..]) != 4 {
         return Err(CaptureFault::BadVersion);
     }
-    let link = spelling.long(&header[20..]);
+    let link = format.long(&header[20..]);
     if link != RAW && link != RAW_IPV4 {
         return Err(CaptureFault::BadLink);
     }
-    Ok(spelling)
+    Ok(format)
 }
 
 /// Reads the record with this number, after `asked` bytes were asked for.
 fn read_record<R: Source>(
     alloc: Global,
     reader: &mut R,
-    spelling: CaptureFormat,
+    format: CaptureFormat,
     asked: u64,
     number: u64,
 ) -> Result<NextRead, CaptureFault>
     requires within { asked ≤ MOST_ASKED }
     ensures next { IsReadResult result (LeavesBytes (R.remaining reader.old)
         (R.remaining reader.new)
-        (NextPost spelling asked number result)) }
+        (NextPost format asked number result)) }
     ensures room { IfOk result (IsWithin asked) }
     ensures memory { TakesMemory result → IfSome (R.remaining reader.old) (λ all. 16 ≤ length all) }
     ensures large { MOST_ASKED < asked + 16 → result ≡ Err CaptureFault.TooLarge }
@@ -150,7 +150,7 @@ fn read_record<R: Source>(
     if filled < RECORD_HEADER {
         return Ok(NextRead::End(filled > 0));
     }
-    let fields = fields_of(spelling, &header, number)?;
+    let fields = fields_of(format, &header, number)?;
     if MOST_ASKED - asked - (RECORD_HEADER as u64) < fields.captured as u64 {
         return Err(CaptureFault::TooLarge);
     }
@@ -168,28 +168,28 @@ fn read_record<R: Source>(
 
 /// Returns the fields of the header of record `number`, or its fault.
 pub(crate) fn fields_of(
-    spelling: CaptureFormat,
+    format: CaptureFormat,
     header: &[u8],
     number: u64,
 ) -> Result<RecordHeader, CaptureFault>
     requires { length header.now ≡ 16 }
-    ensures ok { IfOk result (λ fields. HeaderShows spelling number header.now fields) }
+    ensures ok { IfOk result (λ fields. HeaderShows format number header.now fields) }
     ensures time { IfOk result (λ fields. fields.time < 2 ^ 32 * 1000000000) }
     ensures captured { IfOk result (λ fields. fields.captured ≤ LARGEST_RECORD) }
-    ensures err { IfErr result (λ fault. size_in spelling number header.now ≡ Err fault) }
+    ensures err { IfErr result (λ fault. size_in format number header.now ≡ Err fault) }
 {
-    let seconds = spelling.long(header);
-    let fraction = spelling.long(&header[4..]);
-    if fraction >= spelling.units_per_second() {
+    let seconds = format.long(header);
+    let fraction = format.long(&header[4..]);
+    if fraction >= format.units_per_second() {
         return Err(CaptureFault::BadFraction(number));
     }
-    let captured = spelling.long(&header[8..]);
+    let captured = format.long(&header[8..]);
     if captured > LARGEST_RECORD {
         return Err(CaptureFault::TooLong(number));
     }
     Ok(RecordHeader {
-        time: seconds as u64 * 1_000_000_000 + spelling.nanoseconds(fraction),
+        time: seconds as u64 * 1_000_000_000 + format.nanoseconds(fraction),
         captured,
-        original: spelling.long(&header[12..]),
+        original: format.long(&header[12..]),
     })
 }

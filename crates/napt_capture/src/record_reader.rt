@@ -14,13 +14,13 @@ use std::alloc::{AllocError, Global};
 /// of its own. Each call must be given the same source, with any number of bytes and records.
 #[derive(Drop)]
 pub struct RecordReader {
-    spelling: CaptureFormat,
+    format: CaptureFormat,
     /// The number of the next record. It saturates.
     number: u64,
     ahead: ReadAhead,
     /// The fields of the next record, if it is known to be whole in the bytes read ahead.
     whole: Option<RecordHeader>,
-    ghost stands: { ForSome whole (RecordIsAhead spelling number ahead) },
+    ghost stands: { ForSome whole (RecordIsAhead format number ahead) },
 }
 
 impl RecordReader {
@@ -31,23 +31,23 @@ impl RecordReader {
     ghost use Rattle.napt_capture.specs.declared.fault.CaptureFault.TheVariants.{Memory, Read};
     ghost use Rattle.napt_capture.specs.declared.reading.NextRead.TheVariants.{End};
     ghost use Rattle.napt_capture.specs.Reading.{LeavesBytes, IsWritableNext, IsReadResult};
-    ghost use Rattle.napt_capture.specs.RecordReaders.{RecordsAskSource, HandsOutNothing, HandsOutNext, next_number, next_record, remaining_text, spelling_of_reader};
+    ghost use Rattle.napt_capture.specs.RecordReaders.{RecordsAskSource, HandsOutNothing, HandsOutNext, next_number, next_record, remaining_text, format_of_reader};
 
     /// Reads the file header. Returns `NoHeader`, `BadMagic`, `BadVersion` or `BadLink` for its 24
     /// bytes, `Read` if and only if a read failed, or `Memory`, before any read, for the buffer.
     pub fn open<R: Source>(alloc: Global, source: &mut R) -> Result<RecordReader, CaptureFault>
         ensures header { IsReadResult result
             (LeavesBytes (R.remaining source.old) (R.remaining source.new) (λ bytes left.
-            (format_in (take 24 bytes) ≡ spelling_of_reader result) × (left ≡ drop 24 bytes))) }
+            (format_in (take 24 bytes) ≡ format_of_reader result) × (left ≡ drop 24 bytes))) }
         ensures empty { IfOk result (λ records. records.ahead ≡ []) }
         ensures first { IfOk result (λ records. records.number ≡ 1) }
         ensures unread { result ≡ Err Memory → source.new ≡ source.old }
         ensures count { R.failed source.new ≡ R.failed source.old + failed_reads result }
     {
         let ahead = ReadAhead::new(alloc)?;
-        let spelling = read_file_header(source)?;
+        let format = read_file_header(source)?;
         Ok(RecordReader {
-            spelling,
+            format,
             number: 1,
             ahead,
             whole: None,
@@ -81,7 +81,7 @@ impl RecordReader {
         ensures number { IfOk result (λ next. self.new.number ≡ next_number next self.old.number) }
         ensures kept { OnErr result (HandsOutNothing self.old (R.remaining source.old)
             self.new (R.remaining source.new)) }
-        ensures spelling { self.new.spelling ≡ self.old.spelling }
+        ensures format { self.new.format ≡ self.old.format }
         // If the bytes read ahead determine the result, the source is not asked.
         ensures asks { (¬ RecordsAskSource self.old) → source.new ≡ source.old }
         ensures writable { IfOk result IsWritableNext }
@@ -96,7 +96,7 @@ impl RecordReader {
     #[inline(always)]
     fn front(&self) -> Result<Option<RecordHeader>, CaptureFault>
         ensures whole { IfOk result (λ front. IfSome front
-            (RecordIsAhead self.now.spelling self.now.number self.now.ahead)) }
+            (RecordIsAhead self.now.format self.now.number self.now.ahead)) }
         ensures part { IfOk result (λ front. IfNone front
             (next_record self.now self.now.ahead ≡ Ok (End (nat_lt 0 (length self.now.ahead))))) }
         ensures fault { IfErr result (λ fault. next_record self.now self.now.ahead ≡ Err fault) }
@@ -111,7 +111,7 @@ impl RecordReader {
     #[inline(never)]
     fn first_front(&self) -> Result<Option<RecordHeader>, CaptureFault>
         ensures whole { IfOk result (λ front. IfSome front
-            (RecordIsAhead self.now.spelling self.now.number self.now.ahead)) }
+            (RecordIsAhead self.now.format self.now.number self.now.ahead)) }
         ensures part { IfOk result (λ front. IfNone front
             (next_record self.now self.now.ahead ≡ Ok (End (nat_lt 0 (length self.now.ahead))))) }
         ensures fault { IfErr result (λ fault. next_record self.now self.now.ahead ≡ Err fault) }
@@ -123,7 +123,7 @@ impl RecordReader {
     #[inline(always)]
     fn read_front(&self) -> Result<Option<RecordHeader>, CaptureFault>
         ensures whole { IfOk result (λ front. IfSome front
-            (RecordIsAhead self.now.spelling self.now.number self.now.ahead)) }
+            (RecordIsAhead self.now.format self.now.number self.now.ahead)) }
         ensures part { IfOk result (λ front. IfNone front
             (next_record self.now self.now.ahead ≡ Ok (End (nat_lt 0 (length self.now.ahead))))) }
         ensures fault { IfErr result (λ fault. next_record self.now self.now.ahead ≡ Err fault) }
@@ -132,7 +132,7 @@ impl RecordReader {
         if ahead.len() < RECORD_HEADER {
             return Ok(None);
         }
-        let fields = fields_of(self.spelling, &ahead[..RECORD_HEADER], self.number)?;
+        let fields = fields_of(self.format, &ahead[..RECORD_HEADER], self.number)?;
         if ahead.len() - RECORD_HEADER < fields.captured as usize {
             return Ok(None);
         }
@@ -142,7 +142,7 @@ impl RecordReader {
     /// Returns the fields of the record at the front of the bytes read ahead, if it is whole.
     #[inline(always)]
     fn whole_front(&self) -> Option<RecordHeader>
-        ensures { IfSome result (RecordIsAhead self.now.spelling self.now.number self.now.ahead) }
+        ensures { IfSome result (RecordIsAhead self.now.format self.now.number self.now.ahead) }
     {
         match self.read_front() {
             Ok(front) => front,
@@ -177,7 +177,7 @@ impl RecordReader {
         ensures number { IfOk result (λ next. self.new.number ≡ next_number next self.old.number) }
         ensures read { result ≢ Err Read }
         ensures kept { OnErr result (self.new ≡ self.old) }
-        ensures spelling { self.new.spelling ≡ self.old.spelling }
+        ensures format { self.new.format ≡ self.old.format }
         ensures writable { IfOk result IsWritableNext }
     {
         let Some(fields) = self.front()? else {

@@ -1,4 +1,4 @@
 pub mod Words
 pub mod Rows
-pub mod Least
+pub mod HeapTop
 pub mod Linked

@@ -5,9 +5,9 @@ use Rattle.std.specs.{BTreeMap.insert_entry, List.{list_any, before_first, after
 use Rattle.std.proofs.lemmas.{Bool.not-true, List.{Elements.{All-push, All-nil}, Folds.list_any_at}, Map.Views.{All-keys-insert_entry, All-values-insert_entry}}
 use Rattle.std.proofs.lemmas.Option.{cond_some, option_and_then_some}
 use Rattle.toml.specs.Data.{Data, Items, Members, get_member}
-use Rattle.napt_config.specs.Prelude.{BadAddress, BadPrefix, BadNumber, DoubleAddress, Missing, PrefixesOverlap, BlockTooLarge, PairWithBlock, HoldWithBlock, NotInside, NotInPool, DoublePair, TimerTooShort, UnknownKey, Timers, PrefixModel, IsPrefix, prefixes_have, are_prefixes_apart, address_of, prefix_of_text, prefix_at, number_of, is_slash, Rules, contains_address, paired_with, paired_address, block_in, have_room, IsTimer, AreTimers, IsInsideList, IsQuota, IsPortBlock, AreBlocks, ArePairs, RulesInvariant, each_in_order, item_count, short_list, text_in, number_at_key, table_in, list_up_to, with_address, pool_in, with_prefix, prefixes_in, inside_in, filter_in, refresh_in, choosing_in, timer_at, timers_at, idle_timers_in, timers_in, default_timers, ring_in, quota_at, quota_in, block_size_at, block_size, block_size_in, address_in, with_pair, pairs_at, pairs_in, redirects_in, required, optional, configured, knows_all_keys}
+use Rattle.napt_config.specs.Prelude.{BadAddress, BadPrefix, BadNumber, DuplicateAddress, Missing, PrefixesOverlap, BlockTooLarge, PairWithBlock, HoldWithBlock, NotInside, NotInPool, DuplicatePair, TimerTooShort, UnknownKey, Timers, PrefixModel, IsPrefix, prefixes_have, are_prefixes_apart, address_of, prefix_of_text, prefix_at, number_of, is_slash, Rules, contains_address, paired_with, paired_address, block_in, have_room, IsTimer, AreTimers, IsInsideList, IsQuota, IsPortBlock, AreBlocks, ArePairs, RulesInvariant, each_in_order, item_count, short_list, text_in, number_at_key, table_in, list_up_to, with_address, pool_in, with_prefix, prefixes_in, inside_in, filter_in, refresh_in, choosing_in, timer_at, timers_at, idle_timers_in, timers_in, default_timers, ring_in, quota_at, quota_in, block_size_at, block_size, block_size_in, address_in, with_pair, pairs_at, pairs_in, redirects_in, required, optional, configured, knows_all_keys}
 use Rattle.napt_config.proofs.Addresses.{address_of-bound}
-use Rattle.napt_config.proofs.{Chains.{list_up_to-counts, reads, holds, ok_or_ok, optional_reads, optional-absent, each_keeps, each_adds}, Indices.block_in-is}
+use Rattle.napt_config.proofs.{ReadingSteps.{list_up_to-counts, reads, holds, ok_or_ok, optional_reads, optional-absent, each_keeps, each_adds}, Indices.block_in-is}
 use Rattle.napt_config.proofs.{Numbers.{number_of-range, number_at-range}, PairEntries.{Pairs, sorted_inserted, one_more}, Pools.{AreDistinct, AreDistinct-push}}
 use Rattle.napt_config.proofs.RedirectEntries.{redirects_in-keeps}
 

@@ -6,7 +6,7 @@ pub mod Entries
 pub mod Documents
 pub mod Pools
 pub mod PairEntries
-pub mod Chains
+pub mod ReadingSteps
 pub mod RedirectEntries
 pub mod Indices
 pub mod Laws

@@ -4,7 +4,7 @@ use Rattle.std.proofs.Common.{◌≡◌, ℕ, ◌^◌, ◌<◌, ◌≤◌, true,
 use Rattle.std.proofs.lemmas.{Bool.{cases_lt, and_parts, Decides.nat_tests}, Option.cond_some, Str.Parse.{IsNumeralModel, numerals_by_value, parse_digits}}
 use Rattle.std.specs.{Char.is_ascii_digit, List.list_all, Str.Parse.{ParsesUnsigned, digits_value}}
 use Rattle.toml.specs.Data.{Data}
-use Rattle.napt_config.proofs.Chains.{ok_or_ok}
+use Rattle.napt_config.proofs.ReadingSteps.{ok_or_ok}
 use Rattle.napt_config.specs.Prelude.{number_of, is_decimal, number_between, number_at_key}
 
 -- `is_ascii_digit` and `digits_value` describe the digits that `parse` accepts.

@@ -4,8 +4,8 @@ use Rattle.std.proofs.Common.{◌≡◌, ℕ, ◌+◌, ◌<◌, ◌≤◌, true,
 use Rattle.std.{specs.List.{before_first, after_first}, proofs.lemmas.{Bool.{not-true, or_parts, or_from}, List.Elements.{All-push, All-nil}}}
 use Rattle.std.proofs.lemmas.{List.Folds.list_any-append, Option.option_and_then_some}
 use Rattle.toml.specs.Data.{Data, Members}
-use Rattle.napt_config.specs.Prelude.{NotInside, RedirectInBlock, DoubleRedirect, Redirect, PortBlock, PrefixModel, TransportAddressModel, prefixes_have, address_of, number_of, transport_address_of_text, transport_address_at, is_colon, IsRedirect, may_redirect, is_double, AreRedirectsSingle, table_in, each_in_order, list_up_to, is_tcp_in, transport_address_in, port_in, redirect_in, have_double_redirect, with_redirect, redirects_at, redirects_in}
-use Rattle.napt_config.proofs.Chains.{list_up_to-counts, reads, holds, ok_or_ok, optional_reads, each_keeps, each_adds}
+use Rattle.napt_config.specs.Prelude.{NotInside, RedirectInBlock, DuplicateRedirect, Redirect, PortBlock, PrefixModel, TransportAddressModel, prefixes_have, address_of, number_of, transport_address_of_text, transport_address_at, is_colon, IsRedirect, may_redirect, is_double, AreRedirectsSingle, table_in, each_in_order, list_up_to, is_tcp_in, transport_address_in, port_in, redirect_in, have_double_redirect, with_redirect, redirects_at, redirects_in}
+use Rattle.napt_config.proofs.ReadingSteps.{list_up_to-counts, reads, holds, ok_or_ok, optional_reads, each_keeps, each_adds}
 use Rattle.napt_config.proofs.Numbers.{number_of-range, number_at-range}
 
 -- ---- one entry
@@ -58,7 +58,7 @@ module _ (inside : List PrefixModel) (pair : ℕ → ℕ) (block : ℕ → Optio
   unfolding with_redirect
   redirect_step now next entry is =
       reads (redirect_in inside block entry) _ next is λ redirect read ruled.
-      holds (not (have_double_redirect pair now redirect)) DoubleRedirect _ next ruled λ new last.
+      holds (not (have_double_redirect pair now redirect)) DuplicateRedirect _ next ruled λ new last.
       let (fine, in_block) = redirect_in-is inside block entry redirect read in
       record { redirect = redirect; fine = fine; in_block = in_block; new = not-true _ new; is = cc }
 

@@ -10,7 +10,7 @@ use Rattle.napt_config.specs.{Fault.{◌>>=◌, ◌>>◌, require_rule}, Rules.{
 use Rattle.napt_config.specs.declared.settings.{Filter.{Filter, TheVariants.{Independent, Address, AddressPort}}, MappingRefresh.MappingRefresh}
 use Rattle.napt_config.specs.declared.settings.{MappingRefresh.TheVariants.{Outbound, Both}, NumberAssignment.NumberAssignment, Seed.Seed, Timers.Timers, Redirect.Redirect}
 use Rattle.napt_config.specs.declared.{settings.PortBlock.PortBlock, fault.ConfigFault.ConfigFault}
-use Rattle.napt_config.specs.declared.fault.ConfigFault.TheVariants.{NotToml, UnknownKey, Missing, BadShape, TooMany, BadAddress, BadPrefix, BadNumber, BadWord, BadSeed, SeedUnused, DoubleAddress, PoolInside, PrefixesOverlap, BlockTooLarge, PairWithBlock, HoldWithBlock, DoublePair, NotInPool, NotInside, RedirectInBlock, DoubleRedirect, TimerTooShort}
+use Rattle.napt_config.specs.declared.fault.ConfigFault.TheVariants.{NotToml, UnknownKey, Missing, BadShape, TooMany, BadAddress, BadPrefix, BadNumber, BadWord, BadSeed, SeedUnused, DuplicateAddress, PoolInside, PrefixesOverlap, BlockTooLarge, PairWithBlock, HoldWithBlock, DuplicatePair, NotInPool, NotInside, RedirectInBlock, DuplicateRedirect, TimerTooShort}
 
 -- ---- keys
 
@@ -138,7 +138,7 @@ unfoldable pub with_address : List ℕ → Data → Result (List ℕ) ConfigFaul
 with_address pool entry = do
   text ← text_in entry
   address ← ok_or (address_of text) BadAddress
-  require_rule (not (contains_address pool address)) DoubleAddress
+  require_rule (not (contains_address pool address)) DuplicateAddress
   Ok (pool ++ address ∷ [])
 
 unfoldable pub pool_in : EntryReader (List ℕ) → Members → Result (List ℕ) ConfigFault
@@ -294,7 +294,7 @@ with_pair pool inside pairs entry = do
   require_rule (prefixes_have inside host) NotInside
   external ← address_in (codes "external") keys
   require_rule (contains_address pool external) NotInPool
-  require_rule (not (is_some (paired_with pairs host))) DoublePair
+  require_rule (not (is_some (paired_with pairs host))) DuplicatePair
   Ok (insert_entry nat_cmp pairs host external)
 
 unfoldable pub pairs_at : EntryReader (List (ℕ × ℕ)) → List ℕ → List PrefixModel → Data →
@@ -346,7 +346,7 @@ unfoldable pub with_redirect : List PrefixModel → (ℕ → ℕ) → (ℕ → O
     → Result (List Redirect) ConfigFault
 with_redirect inside pair block redirects entry = do
   redirect ← redirect_in inside block entry
-  require_rule (not (have_double_redirect pair redirects redirect)) DoubleRedirect
+  require_rule (not (have_double_redirect pair redirects redirect)) DuplicateRedirect
   Ok (redirects ++ redirect ∷ [])
 
 unfoldable pub redirects_at : EntryReader (List Redirect) → List PrefixModel → (ℕ → ℕ) → (ℕ → Option PortBlock) → Data

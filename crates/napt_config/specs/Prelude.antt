@@ -4,7 +4,7 @@ pub use Rattle.napt_config.specs.{Fault.{◌>>=◌, ◌>>◌, require_rule}, dec
 pub use Rattle.napt_config.specs.Prefixes.{PrefixModel, host_index, IsPrefix, prefix_has, prefix_size, host_count, prefixes_have, are_prefixes_apart, TransportAddressModel, IsTransportAddress}
 pub use Rattle.napt_config.specs.Rules.{Rules, contains_address, paired_with, nth_block, IsPortBlock, AreBlocks, have_room, IsTimer, AreTimers, IsInsideList, IsQuota, ArePairs, RulesInvariant, IsRedirect, may_redirect, is_double, AreRedirectsSingle}
 pub use Rattle.napt_config.specs.Text.{is_decimal, prefix_at, is_slash, is_colon, transport_address_at, IsReadBack}
-pub use Rattle.napt_config.specs.declared.fault.ConfigFault.TheVariants.{BadAddress, BadPrefix, BadNumber, DoubleAddress, Missing, PrefixesOverlap, BlockTooLarge, PairWithBlock, HoldWithBlock, NotInside, NotInPool, DoublePair, TimerTooShort, UnknownKey, RedirectInBlock, DoubleRedirect}
+pub use Rattle.napt_config.specs.declared.fault.ConfigFault.TheVariants.{BadAddress, BadPrefix, BadNumber, DuplicateAddress, Missing, PrefixesOverlap, BlockTooLarge, PairWithBlock, HoldWithBlock, NotInside, NotInPool, DuplicatePair, TimerTooShort, UnknownKey, RedirectInBlock, DuplicateRedirect}
 pub use Rattle.napt_config.specs.declared.settings.{PortBlock.PortBlock, Redirect.Redirect, Timers.Timers}
 unfoldable pub use Rattle.napt_config.specs.Text.{
   address_of,

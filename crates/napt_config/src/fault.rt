@@ -44,7 +44,7 @@ pub enum ConfigFault {
     SeedUnused,
     /// An address is in the pool twice.
     #[error("expected each address of `pool` once")]
-    DoubleAddress,
+    DuplicateAddress,
     /// A pool address is in one of the inside prefixes.
     #[error("expected no address of `pool` in a prefix of `inside`")]
     PoolInside,
@@ -62,7 +62,7 @@ pub enum ConfigFault {
     HoldWithBlock,
     /// A host has two entries of `pair`.
     #[error("expected at most one `pair` for each host")]
-    DoublePair,
+    DuplicatePair,
     /// The external address of a `pair` is not in the pool.
     #[error("expected an `external` address that is in `pool`")]
     NotInPool,
@@ -74,7 +74,7 @@ pub enum ConfigFault {
     RedirectInBlock,
     /// Two redirects of one protocol share an inside or an external endpoint.
     #[error("expected at most one `redirect` of a protocol for each inside endpoint and for each external endpoint")]
-    DoubleRedirect,
+    DuplicateRedirect,
     /// A timer is below its minimum.
     #[error("expected at least 120 seconds for `udp`, 7440 for `tcp-established`, 240 for `tcp-transitory` and 60 for `icmp`")]
     TimerTooShort,

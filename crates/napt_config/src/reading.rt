@@ -68,7 +68,7 @@ fn add_address(pool: &mut Vec<u32>, entry: &Value) -> Result<(), ConfigFault>
 {
     let address = text::address(text_in(entry)?).ok_or(ConfigFault::BadAddress)?;
     if pool.contains(&address) {
-        return Err(ConfigFault::DoubleAddress);
+        return Err(ConfigFault::DuplicateAddress);
     }
     pool.push(address)?;
     Ok(())
@@ -400,7 +400,7 @@ fn add_pair(
     }
     place.at_entry();
     if pairs.contains_key(&host) {
-        return Err(ConfigFault::DoublePair);
+        return Err(ConfigFault::DuplicatePair);
     }
     pairs.insert(host, external)?;
     Ok(())

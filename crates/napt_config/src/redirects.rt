@@ -195,7 +195,7 @@ fn add_redirect(
     let redirect = redirect_in(entry, block, inside, pool.len(), place)?;
     place.at_entry();
     if have_double(redirects, &redirect, block, inside, pool, pairs) {
-        return Err(ConfigFault::DoubleRedirect);
+        return Err(ConfigFault::DuplicateRedirect);
     }
     redirects.push(redirect)?;
     Ok(())

@@ -9,22 +9,22 @@ use Rattle.napt_rules.specs.Prelude.{Each, way_from, served_at, LegEffect, act, 
 use Rattle.napt_rules.specs.declared.{Leg.Leg, End.End, Outcome.Outcome}
 use Rattle.napt_rules.specs.declared.End.TheVariants as ends
 use Rattle.napt_rules.specs.declared.Outcome.TheVariants as outcomes
-use Rattle.napt_dispatch.specs.declared.dispatcher.{holding.{QueueHead.QueueHead, PendingLeg.{PendingLeg, TheVariants.{Ready, Place}}, AwaitedLeg.AwaitedLeg}, progress.InputProgress.InputProgress}
-use Rattle.napt_dispatch.specs.declared.{dispatcher.progress.InputProgress.TheVariants.{Returning, Answered}}
+use Rattle.napt_dispatch.specs.declared.dispatcher.{pending_leg.{QueueHead.QueueHead, PendingLeg.{PendingLeg, TheVariants.{Ready, Place}}, AwaitedLeg.AwaitedLeg}, input_progress.InputProgress.InputProgress}
+use Rattle.napt_dispatch.specs.declared.{dispatcher.input_progress.InputProgress.TheVariants.{Returning, Answered}}
 use Rattle.napt_dispatch.specs.{declared.dispatcher.Dispatcher.Dispatcher, Dispatch.{of_worker, local_bindings, IsDispatchedFrom, AnswersAreRight, input_results, input_result}}
 use Rattle.napt_dispatch.specs.{OutcomeLists.collected_outcome, RunsThrough.timed_results}
-use Rattle.napt_dispatch.specs.WorkerQueues.{WorkerQueueModel, unused_queue, queue_of, counts_in, all_held, held_legs_count, front_of, owed_of, first_held_leg, queue_readied, queue_answered, with_offers, with_queue, HoldPost, AllHold, only_at, lane_at}
-use Rattle.napt_dispatch.specs.RunProgresses.{RunProgressModel, RunLegs, whole_of, progress_in, times_in, is_incoming, departed_with, passages_after, progress_refused, refused_at, second_leg_asked_by, first_by, NoneBehind, ProgressIsKnown, AllKnown}
-use Rattle.napt_dispatch.specs.DispatcherInvariants.{PoolGrows, Lane, DispatcherModel, state_with, dispatcher_state, LaneStands, resolved_legs, lane_legs, IsRight, AreRight, DispatcherReaches, DispatcherInvariant, DispatcherKeeps, Admits, Resolves, queue_waits, DispatcherIsDone}
+use Rattle.napt_dispatch.specs.WorkerQueues.{WorkerQueueModel, unused_queue, queue_of, counts_in, all_held, held_legs_count, front_of, owed_of, first_held_leg, queue_readied, queue_answered, with_offers, with_queue, HoldPost, QueuesHoldMore, only_at, lane_at}
+use Rattle.napt_dispatch.specs.RunProgresses.{RunProgressModel, RunLegs, whole_of, progress_in, times_in, is_incoming, departed_with, passages_after, progress_refused, refused_at, second_leg_asked_by, first_by, NoneBehind, ProgressIsKnown, ProgressesAreKnown}
+use Rattle.napt_dispatch.specs.DispatcherInvariants.{PoolGrows, Lane, DispatcherModel, state_with, dispatcher_state, LaneStands, resolved_legs, lane_legs, IsLaneRight, AreLanesRight, DispatcherReaches, DispatcherInvariant, DispatcherKeeps, Admits, ResolvesFirstPlace, queue_waits, DispatcherIsDone}
 use Rattle.napt_dispatch.proofs.{DispatchEnds.map_at, Lanes.{fronts_both, place_within}, QueueStates.{queue_own, queue_other, length_with, nothing, of_replicate}}
 use Rattle.napt_dispatch.proofs.KnownInputs.{known_set, returning_known, ended_known, second_known, left_front, left_whole, timed_outcomes, departed_long, departed_outcomes}
-use Rattle.napt_dispatch.specs.declared.dispatcher.holding.QueueHead.TheVariants as fronts
-use Rattle.napt_laws.specs.{Dispatching.{IsFrontOf, outcome_of_end, OutcomeIsGiven, IsEndForeseen, OnwardIsForeseen}, SecondLegs.{first_act, second_legs, second_of, IsSeconded}}
+use Rattle.napt_dispatch.specs.declared.dispatcher.pending_leg.QueueHead.TheVariants as fronts
+use Rattle.napt_laws.specs.{Dispatching.{IsFrontOf, outcome_of_end, OutcomeIsGiven, IsEndForeseen, OnwardIsForeseen}, SecondLegs.{first_act, second_legs, second_of, HasItsSecondLeg}}
 use Rattle.napt_laws.proofs.{DispatchLaws.answers_tell, OneMoreInput.outcomes_long, OneInput.{acts_begin, outcomes_begin, get_at, grown}}
-use Rattle.napt_laws.proofs.{Places.{legs_append, answers_fill, cond_map, place_stands, acts_grow}, Pools.stands_at}
+use Rattle.napt_laws.proofs.{SecondLegsByNumber.{legs_append, answers_fill, cond_map, place_stands, acts_grow}, Pools.stands_at}
 use Rattle.napt_pool.specs.{declared.pool.Pool.Pool, Pools.{accepted_items, taken_answers}}
 use Rattle.napt_sequential.specs.{declared.{leg_trace.TracedAnswer.TracedAnswer, passage.{Passage.TheVariants.Nothing, Trace.Trace}}, CountedTranslators.{traced_act, traced_by}}
-use Rattle.napt_sequential.{specs.{Steps.{steps_of, traced_replies}, Traces.{passage_of, traces_of}}, proofs.{JoinedSteps.{steps_get, refused_trace}, TracesAlone.right_told}}
+use Rattle.napt_sequential.{specs.{Steps.{steps_of, traced_replies}, Traces.{passage_of, traces_of}}, proofs.{StepsInOrder.{steps_get, refused_trace}, OwnTraces.right_told}}
 use Rattle.napt_sequential.{proofs.TracedLegs.{IsTraced, IsPlaced, legs_traced}, specs.declared.passage.Passage.Passage}
 
 -- PREFIXES
@@ -61,7 +61,7 @@ pub right_before : {P : Type 0} {tells : Passage → P} {M G : Type 0} (rules : 
     (d : Dispatcher P) → DispatcherInvariant tells rules start done all (dispatcher_state pool d) →
     PoolGrows pool last_pool →
     AnswersAreRight tells rules start (accepted_items last_pool) (taken_answers last_pool) →
-    AreRight tells rules start (dispatcher_state pool d)
+    AreLanesRight tells rules start (dispatcher_state pool d)
 right_before {P} {tells} rules start done all pool last_pool d s grows right = λ w lt.
     let address : ℕ = slice_index rules.pool w in
     let lane : Lane P = (dispatcher_state pool d).lane w in
@@ -112,12 +112,13 @@ offered_front rules start done all state s r w lt =
 pub record LaneKeeps {P : Type 0} (tells : Passage → P) (rules : Rules) (start : State) (all : List Arrival) (w : ℕ)
     (one two : Lane P) (progress later : List (InputProgress P)) : Type 0 where
   pub stands : LaneStands one → LaneStands two
-  pub right : LaneStands one → IsRight tells rules start w two → IsRight tells rules start w one
-  pub legs : AllKnown (whole_of tells rules start all) progress →
+  pub right : LaneStands one → IsLaneRight tells rules start w two → IsLaneRight tells rules start w one
+  pub legs : ProgressesAreKnown (whole_of tells rules start all) progress →
       lane_legs (effect_from rules start all).acts two ≡ lane_legs (effect_from rules start all).acts one
-  pub known : LaneStands one → IsRight tells rules start w two →
+  pub known : LaneStands one → IsLaneRight tells rules start w two →
       IsFrontOf one.offered (legs_at (slice_index rules.pool w) (effect_from rules start all).acts) →
-      AllKnown (whole_of tells rules start all) progress → AllKnown (whole_of tells rules start all) later
+      ProgressesAreKnown (whole_of tells rules start all) progress →
+      ProgressesAreKnown (whole_of tells rules start all) later
 
 lane_keeps : {P : Type 0} {tells : Passage → P} (w : ℕ) (state later : DispatcherModel P) (one two : Lane P) →
     w < state.many → later.many ≡ state.many →
@@ -137,7 +138,7 @@ lane_keeps {tells = tells} w state later one two lt many was is others step = λ
         | inr n ↦ rw (others v n) (s.lanes v lt)
       ];
       reaches = λ right.
-          let here : IsRight tells rules start w two = rw is at (right w within) in
+          let here : IsLaneRight tells rules start w two = rw is at (right w within) in
           let r : DispatcherReaches tells rules start done all state = s.reaches (λ v lt. elim (cases_eq v w) [
             | inl e ↦ rw (e, was) (k.right own here)
             | inr n ↦ rw (others v n) at (right v lt)
@@ -181,7 +182,8 @@ queues_keep w d later change offered more taken answers lt is others step =
 -- The invariant is kept if at least as much is known after the same inputs.
 pub known_stands : {P : Type 0} {tells : Passage → P} (rules : Rules) (start : State) (done all : List Arrival)
     (many : ℕ) (lane : ℕ → Lane P) (progress later : List (InputProgress P)) →
-    (AllKnown (whole_of tells rules start all) progress → AllKnown (whole_of tells rules start all) later) →
+    (ProgressesAreKnown (whole_of tells rules start all) progress →
+    ProgressesAreKnown (whole_of tells rules start all) later) →
     DispatcherInvariant tells rules start done all (record { many = many; lane = lane; progress = progress }) →
     DispatcherInvariant tells rules start done all (record { many = many; lane = lane; progress = later })
 known_stands rules start done all many lane progress later known s = grind (arith, common_steps, nat_tests)
@@ -224,8 +226,8 @@ offers_keep {tells = tells} rules start all w legs offered taken q progress read
 
 resolves_known : {P : Type 0} (whole : RunLegs P) (front : QueueHead) (window later : RunProgressModel P)
     (second : Option Leg) →
-    queue_waits (progress_in window) front ≡ false → Resolves front window second later →
-    AllKnown whole (progress_in window) → AllKnown whole (progress_in later)
+    queue_waits (progress_in window) front ≡ false → ResolvesFirstPlace front window second later →
+    ProgressesAreKnown whole (progress_in window) → ProgressesAreKnown whole (progress_in later)
 resolves_known whole fronts.Nothing window later second goes is known = rw is known
 resolves_known whole fronts.FirstLeg window later second goes is known = rw is known
 resolves_known whole (fronts.FirstPlace number) window later None goes is known = rw is.0.progress_stays known
@@ -236,8 +238,8 @@ resolves_known whole (fronts.FirstPlace number) window later (Some leg) goes is 
 
 first_stands : {P : Type 0} (whole : RunLegs P) (held : List PendingLeg) (window later : RunProgressModel P)
     (second : Option Leg) →
-    queue_waits (progress_in window) (front_of held) ≡ false → Resolves (front_of held) window second later →
-    AllKnown whole (progress_in window) →
+    queue_waits (progress_in window) (front_of held) ≡ false → ResolvesFirstPlace (front_of held) window second later →
+    ProgressesAreKnown whole (progress_in window) →
     flat_map (resolved_legs whole.acts) held ≡ first_held_leg second held
     ++ flat_map (resolved_legs whole.acts) (drop 1 held)
 first_stands whole [] window later second goes is known = absurd cc
@@ -253,7 +255,8 @@ first_stands whole (Place number ∷ rest) window later (Some leg) goes is known
 pub readied_keeps : {P : Type 0} {tells : Passage → P} (rules : Rules) (start : State) (all : List Arrival) (w : ℕ)
     (offered : List Leg) (taken : List (TracedAnswer P)) (q : WorkerQueueModel) (window later : RunProgressModel P)
     (second : Option Leg) →
-    queue_waits (progress_in window) (front_of q.held) ≡ false → Resolves (front_of q.held) window second later →
+    queue_waits (progress_in window) (front_of q.held) ≡ false →
+    ResolvesFirstPlace (front_of q.held) window second later →
     LaneKeeps tells rules start all w (record { offered = offered; taken = taken; queue = q })
     (record { offered = offered; taken = taken; queue = queue_readied second q }) (progress_in window)
     (progress_in later)
@@ -299,12 +302,12 @@ act_at tells timers Q (a ∷ acts) (l ∷ before) more leg (t ∷ taken) rest to
 
 record Tells (rules : Rules) (start : State) (all : List Arrival) (a : LegAct) : Type 0 where
   pub told : OutcomeIsGiven (effect_from rules start all).outcomes a
-  pub seconded : IsSeconded (effect_from rules start all).acts a
+  pub seconded : HasItsSecondLeg (effect_from rules start all).acts a
   pub traced : IsTraced rules.timers (traces_of rules start all) (effect_from rules start all).acts a
 
 each_tells : (rules : Rules) (start : State) (all : List Arrival) (acts : List LegAct) →
     Each (OutcomeIsGiven (effect_from rules start all).outcomes) acts →
-    Each (IsSeconded (effect_from rules start all).acts) acts →
+    Each (HasItsSecondLeg (effect_from rules start all).acts) acts →
     Each (IsTraced rules.timers (traces_of rules start all) (effect_from rules start all).acts) acts →
     Each (Tells rules start all) acts
 each_tells rules start all [] h g k = tt
@@ -430,7 +433,7 @@ module _ {P : Type 0} (tells : Passage → P) (rules : Rules) (start : State) (a
   head o = first_owed o.rest owed (drop 1 q.owed) (sym owes ∙ o.owed_is)
 
   answer_known : (was : InputProgress P) → passages_after (tells Nothing) was owed.way told.passage ≡ Some passages →
-      LaneStands one → IsRight tells rules start w two → IsFrontOf offered (legs_at address course.acts) →
+      LaneStands one → IsLaneRight tells rules start w two → IsFrontOf offered (legs_at address course.acts) →
       ProgressIsKnown (whole_of tells rules start all) told.answer.number was →
       ProgressIsKnown (whole_of tells rules start all) told.answer.number (now_told owed)
   answer_known was is o right front known =
@@ -534,10 +537,10 @@ module _ {P : Type 0} (tells : Passage → P) (rules : Rules) (start : State) (d
 
   -- The invariant is kept if what is newly held and known has the legs of one more input.
   grown_stands : (extra : ℕ → List PendingLeg) → length later.queues ≡ length d.queues →
-      AllHold extra d.queues later.queues →
+      QueuesHoldMore extra d.queues later.queues →
       ((v : ℕ) → v < length rules.pool → legs_at (at_place v) (effect_from rules start now_done).acts ≡ legs_at
       (at_place v) (effect_from rules start done).acts ++ flat_map (resolved_legs acts_all) (extra v)) →
-      (AllKnown (whole_of tells rules start all_of) (progress_in d.progress) → AllKnown
+      (ProgressesAreKnown (whole_of tells rules start all_of) (progress_in d.progress) → ProgressesAreKnown
       (whole_of tells rules start all_of) (progress_in later.progress)) →
       DispatcherInvariant tells rules start done all_of
       (state_with offered taken d) → DispatcherInvariant tells rules start now_done all_of
@@ -600,7 +603,7 @@ module _ {P : Type 0} (tells : Passage → P) (rules : Rules) (start : State) (d
     -- The input has its first leg alone.
     pub alone_stands : (input.side ≡ Inside → pool_place rules (destination packet).address ≡ None) →
         length later.queues ≡ length d.queues →
-        AllHold (λ v. only_at w (Ready leg_of ∷ []) v ++ []) d.queues later.queues →
+        QueuesHoldMore (λ v. only_at w (Ready leg_of ∷ []) v ++ []) d.queues later.queues →
         DispatcherInvariant tells rules start done all_of (state_with offered taken d) →
         DispatcherInvariant tells rules start now_done all_of (state_with offered taken later)
     alone_stands none many holds s =
@@ -632,7 +635,8 @@ module _ {P : Type 0} (tells : Passage → P) (rules : Rules) (start : State) (d
     -- The input also has a placeholder for its second leg.
     pub placed_stands : (to : ℕ) → to < length rules.pool → at_place to ≡ (destination packet).address →
         input.side ≡ Inside → length later.queues ≡ length d.queues →
-        AllHold (λ v. only_at w (Ready leg_of ∷ []) v ++ only_at to (Place number ∷ []) v) d.queues later.queues →
+        QueuesHoldMore (λ v. only_at w (Ready leg_of ∷ []) v ++ only_at to (Place number ∷ []) v) d.queues
+        later.queues →
         DispatcherInvariant tells rules start done all_of (state_with offered taken d) →
         DispatcherInvariant tells rules start now_done all_of (state_with offered taken later)
     placed_stands to to_within goes side many holds s =
@@ -669,7 +673,7 @@ pub admitted_admits : {P : Type 0} {tells : Passage → P} (rules : Rules) (numb
     ≡ Some place)) → (to ≡ None → input.side ≡ Inside → pool_place rules (destination packet).address ≡ None) →
     length later.queues ≡ length d.queues →
     (let leg : Leg = record { number = number; now = now; way = way_from input.side; packet = packet } in
-    AllHold (λ v. only_at w (Ready leg ∷ []) v ++ lane_at number to v) d.queues later.queues) →
+    QueuesHoldMore (λ v. only_at w (Ready leg ∷ []) v ++ lane_at number to v) d.queues later.queues) →
     Admits tells rules number now input d later
 admitted_admits
     {tells = tells} rules number now input d later packet w distinct foretold is admitted place same None some none many
@@ -716,7 +720,7 @@ module _ {P : Type 0} {tells : Passage → P} (rules : Rules) (start : State) (i
     (offered : List (List Leg)) (taken : ℕ → List (TracedAnswer P)) (d : Dispatcher P)
     (s : DispatcherInvariant tells rules start inputs inputs (state_with (of_worker offered) taken d))
     (times : times_in d.progress ≡ map (λ i. i.time) inputs)
-    (right : AreRight tells rules start (state_with (of_worker offered) taken d)) where
+    (right : AreLanesRight tells rules start (state_with (of_worker offered) taken d)) where
   abbrev whole : RunLegs P
   whole = whole_of tells rules start inputs
 

@@ -7,11 +7,11 @@ use Rattle.napt_wire.specs.declared.Way.{Way}
 use Rattle.napt_rules.specs.{declared.{Leg.Leg, Outcome.Outcome}, Prelude.{Arrival, State, effect_from}}
 use Rattle.napt_rules.specs.declared.Outcome.TheVariants as outcomes
 use Rattle.napt_config.specs.Rules.{Rules}
-use Rattle.napt_sequential.{specs.{declared.{outcome.StepResult.StepResult, passage.Passage.Passage}, Steps.steps_of}, proofs.JoinedSteps.{steps_long, steps_outcomes}}
-use Rattle.napt_dispatch.specs.{Dispatch.{input_results, input_result}, declared.dispatcher.progress.InputProgress.{InputProgress, TheVariants.{Awaited, Returning}}}
-use Rattle.napt_dispatch.specs.{declared.dispatcher.progress.OpenInput.OpenInput, OutcomeLists.collected_outcome, DispatcherInvariants.{AnswersTo, IsSecond, IsSecondOf}}
+use Rattle.napt_sequential.{specs.{declared.{outcome.StepResult.StepResult, passage.Passage.Passage}, Steps.steps_of}, proofs.StepsInOrder.{steps_long, steps_outcomes}}
+use Rattle.napt_dispatch.specs.{Dispatch.{input_results, input_result}, declared.dispatcher.input_progress.InputProgress.{InputProgress, TheVariants.{Awaited, Returning}}}
+use Rattle.napt_dispatch.specs.{declared.dispatcher.input_progress.OpenInput.OpenInput, OutcomeLists.collected_outcome, DispatcherInvariants.{AnswersTo, IsSecondLegOf, IsSecondOf}}
 use Rattle.napt_dispatch.specs.{RunsThrough.timed_results, declared.outcome_sink.InputResult.InputResult}
-use Rattle.napt_dispatch.specs.RunProgresses.{RunProgressModel, RunLegs, time_in, end_of_answer, progress_ended, ended_in, second_leg_asked, AsksForSecondLeg, first_by, first_in, unmarked, known_in, progress_arrived, mark_of, progress_in, times_in, marks_in, departed_with, departed_in, is_unknown, passages_after, progress_expecting, IsUnmarked, ProgressIsWritten, HasMark, InputIsMarked, FirstIsComplete, FirstInputLeaves, NoneBehind, KnowsSecond, ProgressIsKnown, AllKnown, OutcomesAreHandedOver}
+use Rattle.napt_dispatch.specs.RunProgresses.{RunProgressModel, RunLegs, time_in, end_of_answer, progress_ended, ended_in, second_leg_asked, AsksForSecondLeg, first_by, first_in, unmarked, known_in, progress_arrived, mark_of, progress_in, times_in, marks_in, departed_with, departed_in, is_unknown, passages_after, progress_expecting, IsUnmarked, ProgressIsWritten, HasMark, InputIsMarked, FirstIsComplete, FirstInputLeaves, NoneBehind, KnowsSecond, ProgressIsKnown, ProgressesAreKnown, OutcomesAreHandedOver}
 use Rattle.napt_laws.specs.{Dispatching.{IsFrontOf, outcome_of_end}, SecondLegs.second_legs}
 
 -- LISTS
@@ -43,7 +43,7 @@ get_set (o ∷ os) (suc n) zero v x h = inr h
 get_set (o ∷ os) (suc n) (suc i) v x h = elim (get_set os n i v x h) [ inl e ↦ inl (ap suc e.0, e.1) | inr e ↦ inr e ]
 
 pub known_set : {P : Type 0} (whole : RunLegs P) (progress : List (InputProgress P)) (n : ℕ) (p : InputProgress P) →
-    ProgressIsKnown whole n p → AllKnown whole progress → AllKnown whole (slice_set progress n p)
+    ProgressIsKnown whole n p → ProgressesAreKnown whole progress → ProgressesAreKnown whole (slice_set progress n p)
 known_set whole progress n p here known = λ i q h. elim (get_set progress n i p q h) [
   | inl e ↦ subst (ProgressIsKnown whole i) e.1 (subst (λ (k : ℕ). ProgressIsKnown whole k p) (sym e.0) here)
   | inr e ↦ known i q e
@@ -77,8 +77,8 @@ ended_known whole n d is = grind (arith, common_steps, nat_tests, told_end, no_f
 
 -- Of one more input it is only known that no second leg follows an incoming first leg.
 pub known_push : {P : Type 0} (whole : RunLegs P) (progress : List (InputProgress P)) (way : Way) →
-    NoneBehind way (second_legs (length progress) whole.acts) → AllKnown whole progress →
-    AllKnown whole (progress ++ Awaited way ∷ [])
+    NoneBehind way (second_legs (length progress) whole.acts) → ProgressesAreKnown whole progress →
+    ProgressesAreKnown whole (progress ++ Awaited way ∷ [])
 known_push whole progress way none known = grind (arith, common_steps, nat_tests, get_push)
 
 known_departed : {P : Type 0} (whole : RunLegs P) (i : ℕ) (p : InputProgress P) (d : InputResult P) →
@@ -99,7 +99,8 @@ second_by legs number p goes knows = grind (arith, common_steps, nat_tests)
 -- The second leg for which an answer asks is that of the run.
 pub second_known : {P : Type 0} (whole : RunLegs P) (progress : List (InputProgress P)) (number : ℕ)
     (second : Option Leg) →
-    is_unknown (slice_get progress number) ≡ false → AsksForSecondLeg number progress second → AllKnown whole progress →
+    is_unknown (slice_get progress number) ≡ false → AsksForSecondLeg number progress second →
+    ProgressesAreKnown whole progress →
     second_legs number whole.acts ≡ option_to_list second
 second_known whole progress number second goes asks known =
     second_by (second_legs number whole.acts) number asks.p (rw asks.there at goes)
@@ -166,7 +167,7 @@ module _ {P : Type 0} (left : List (ℕ × InputResult P)) (items : List (OpenIn
 
   -- Its second leg.
   pub open_second : (later : OpenInput P) (second : Option Leg) → IsSecondOf number o later second →
-      IsSecond number window (window_of left (set items place later)) second
+      IsSecondLegOf number window (window_of left (set items place later)) second
   open_second later None s = (
     open_marked later false (ap progress_arrived s.0) (ap known_in s.0) (ap mark_of s.0),
     record { p = o.progress; there = open_get; asked_is = s.1 },
@@ -318,7 +319,7 @@ front_by {P} (x ∷ left) more (i ∷ inputs) (o ∷ outs) long times h =
     )
 
 pub left_front : {P : Type 0} (whole : RunLegs P) (window : RunProgressModel P) (inputs : List Arrival) →
-    times_in window ≡ map (λ i. i.time) inputs → AllKnown whole (progress_in window) →
+    times_in window ≡ map (λ i. i.time) inputs → ProgressesAreKnown whole (progress_in window) →
     length whole.departed ≡ length inputs → IsFrontOf window.left (timed_results inputs whole.departed)
 left_front whole window inputs times known long =
     front_by window.left (map progress_arrived window.under_way) inputs whole.departed long times
@@ -327,7 +328,7 @@ left_front whole window inputs times known long =
 
 -- The same if more inputs came than were read.
 pub left_front_of : {P : Type 0} (whole : RunLegs P) (window : RunProgressModel P) (inputs unread : List Arrival) →
-    times_in window ≡ map (λ i. i.time) inputs → AllKnown whole (progress_in window) →
+    times_in window ≡ map (λ i. i.time) inputs → ProgressesAreKnown whole (progress_in window) →
     length whole.departed ≡ length (inputs ++ unread) →
     IsFrontOf window.left (timed_results (inputs ++ unread) whole.departed)
 left_front_of whole window inputs unread times known long =
@@ -351,7 +352,7 @@ length_timed (i ∷ inputs) [] e = absurd (omega arith)
 length_timed (i ∷ inputs) (o ∷ outs) e = ap suc (length_timed inputs outs (omega arith))
 
 pub left_whole : {P : Type 0} (whole : RunLegs P) (window : RunProgressModel P) (inputs : List Arrival) →
-    times_in window ≡ map (λ i. i.time) inputs → AllKnown whole (progress_in window) →
+    times_in window ≡ map (λ i. i.time) inputs → ProgressesAreKnown whole (progress_in window) →
     length whole.departed ≡ length inputs → window.under_way ≡ [] → window.left ≡ timed_results inputs whole.departed
 left_whole whole window inputs times known long none =
     grind (arith, common_steps, nat_tests, left_front, append-nil, length-map, no_more, length_timed)

@@ -4,8 +4,8 @@ use Rattle.std.proofs.Common.{◌≡◌, ◌≢◌, ℕ, zero, suc, ◌+◌, ◌
 use Rattle.std.proofs.lemmas.List.{length-append, length-map, length-set, length-replicate, length_push, get_or_default, get_or-set_same, get_or-set_other}
 use Rattle.std.proofs.lemmas.List.Sums.{sum_by-cons, sum_by-set}
 use Rattle.napt_rules.specs.{Prelude.LegAct, declared.Leg.Leg}
-use Rattle.napt_dispatch.specs.{declared.dispatcher.holding.{PendingLeg.{PendingLeg, TheVariants.Ready}, AwaitedLeg.AwaitedLeg}, DispatcherInvariants.{MovesLegs, MovesLegsAt, turned_legs}}
-use Rattle.napt_dispatch.specs.WorkerQueues.{WorkerQueueModel, unused_queue, queue_of, all_held, held_legs_count, held_count, AreQueuesCounted, HoldPost, AllHold, AnswersAt, only_at, with_queue}
+use Rattle.napt_dispatch.specs.{declared.dispatcher.pending_leg.{PendingLeg.{PendingLeg, TheVariants.Ready}, AwaitedLeg.AwaitedLeg}, DispatcherInvariants.{MovesLegs, MovesLegsAt, turned_legs}}
+use Rattle.napt_dispatch.specs.WorkerQueues.{WorkerQueueModel, unused_queue, queue_of, all_held, held_legs_count, held_count, AreQueuesCounted, HoldPost, QueuesHoldMore, AnswersAt, only_at, with_queue}
 
 module _ (queues : List WorkerQueueModel) (w : ℕ) (change : WorkerQueueModel → WorkerQueueModel) where
   pub queue_own : w < length queues → queue_of (with_queue w change queues) w ≡ change (queue_of queues w)
@@ -32,7 +32,7 @@ module _ (queues : List WorkerQueueModel) (w : ℕ) (queue later : WorkerQueueMo
   changed change e = ap (set queues w) (e ∙ ap change (sym queue_is))
 
   pub holds_here : (more : List PendingLeg) → HoldPost more queue later →
-      AllHold (only_at w more) queues (set queues w later)
+      QueuesHoldMore (only_at w more) queues (set queues w later)
   holds_here more h = λ v. elim (cases_eq v w) [
     | inl e ↦ rw (e, get_or-set_same queues w later unused_queue lt, queue_is, eq-eqb w w refl) h
     | inr n ↦ rw (get_or-set_other queues w v later unused_queue n, ne_eqb v w n) (record {

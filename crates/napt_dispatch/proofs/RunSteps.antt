@@ -5,7 +5,7 @@ use Rattle.napt_wire.specs.declared.{Way.Way, Side.Side}
 use Rattle.napt_config.specs.Rules.{Rules}
 use Rattle.napt_rules.specs.{declared.Leg.Leg, Prelude.{way_from, Arrival, State, effect_from, last_clock}}
 use Rattle.napt_pool.specs.{declared.pool.Pool.Pool, Pools.{accepted_items, taken_answers as taken}}
-use Rattle.napt_sequential.{specs.{Inputs.InputsCame, declared.{fault.RunFault.RunFault, passage.Passage.Passage}}, proofs.{JoinedSteps.input_there, TracedLegs.outside_alone}}
+use Rattle.napt_sequential.{specs.{Inputs.InputsCame, declared.{fault.RunFault.RunFault, passage.Passage.Passage}}, proofs.{StepsInOrder.input_there, TracedLegs.outside_alone}}
 use Rattle.napt_sequential.specs.declared.leg_trace.TracedAnswer.{TracedAnswer}
 use Rattle.napt_laws.{specs.SecondLegs.second_legs, proofs.OneMoreInput.clock_more}
 use Rattle.napt_dispatch.specs.{declared.{dispatcher.Dispatcher.Dispatcher, outcome_sink.InputResult.InputResult}, Dispatch.of_worker}
@@ -13,7 +13,7 @@ use Rattle.napt_dispatch.specs.RunProgresses.{RunProgressModel, OutcomesAreHande
 use Rattle.napt_dispatch.specs.DispatcherInvariants.{journal_of, dispatcher_state, IsSizedFor, DispatcherInvariant, DispatcherContinues, ContinuesOr, DispatcherHalts, Admits, DispatcherHasRoom, DispatcherIsDone}
 use Rattle.napt_dispatch.proofs.{QueueStates.held_none, Lanes.{grows_none, grows_both, halts_after}, InvariantSteps.known_stands}
 use Rattle.napt_dispatch.{proofs.KnownInputs.{known_push, times_long, expecting_times, expecting_progress}, specs.declared.faults.DispatchFault.DispatchFault}
-use Rattle.napt_dispatch.specs.declared.dispatcher.{reading.EndOfInputs.EndOfInputs, progress.InputProgress.TheVariants.Awaited}
+use Rattle.napt_dispatch.specs.declared.dispatcher.{reading.EndOfInputs.EndOfInputs, input_progress.InputProgress.TheVariants.Awaited}
 use Rattle.napt_dispatch.specs.RunsThrough.{DeparturesFail, DispatcherGoesOn, OutcomesLeave, RunThroughHalts, HaltsAt, ReadInputPost, ReadInputsPost, HasCome, ReadsToEnd, ReadsHalted}
 use Rattle.napt_dispatch.specs.declared.faults.DispatchFault.TheVariants as dispatch_faults
 

@@ -7,7 +7,7 @@ use Rattle.napt_rules.specs.{declared.Leg.Leg, Prelude.{Arrival, RunResult, Stat
 use Rattle.napt_pool.specs.{declared.pool.Pool.Pool, Pools.{accepted_items, taken_answers as taken}}
 use Rattle.napt_sequential.{proofs.Inputs.came_whole, specs.declared.{fault.RunFault.RunFault, leg_trace.{TracedAnswer.TracedAnswer, NoTrace.NoTrace}, passage.Passage.Passage}}
 use Rattle.napt_dispatch.specs.declared.{outcome_list.OutcomeList.OutcomeList, dispatcher.{DispatchResult.DispatchResult, DispatchEnd.DispatchEnd}, workers.RunSummary.RunSummary}
-use Rattle.napt_dispatch.specs.{OutcomeLists.{collected_outcome, Collects}, Dispatch.{IsDispatchedFrom, AnswersAreRight}, declared.outcome_sink.InputResult.InputResult}
+use Rattle.napt_dispatch.specs.{OutcomeLists.{collected_outcome, CollectsOutcomes}, Dispatch.{IsDispatchedFrom, AnswersAreRight}, declared.outcome_sink.InputResult.InputResult}
 use Rattle.napt_dispatch.specs.RunsThrough.{LeavesState, DispatchOk, DispatchDeparturesErr, DispatchErr, DispatchPost, RunThroughEnd, RunThroughOk, RunThroughDeparturesErr, RunThroughErr}
 use Rattle.napt_dispatch.specs.declared.dispatcher.DispatchEnd.TheVariants as endings
 
@@ -107,7 +107,7 @@ module _ {tells : Passage → NoTrace} {A F B M G : Type 0} (rules : Rules) (sta
     (from : A) (none : OutcomeList) (pool : Pool M G Leg (TracedAnswer NoTrace)) (left : A) (some : OutcomeList)
     (done : DispatchResult F B) (e : DispatchOk tells rules start (λ x xs y. list x ≡ xs ++ list y)
     (λ x end y. list x ≡ [])
-    Collects fails is_settled from none pool left some None done) where
+    CollectsOutcomes fails is_settled from none pool left some None done) where
   pub answered_whole : map length (taken pool) ≡ map length (accepted_items pool)
   answered_whole = e.answered
 

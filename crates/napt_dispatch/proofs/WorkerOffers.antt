@@ -3,11 +3,11 @@ use Rattle.std.{proofs.lemmas.{Grind.common_steps, Bool.{Decides.nat_tests, case
 use Rattle.std.proofs.Common.{◌≡◌, ◌≢◌, ◌⊎◌, ◌||◌, ℕ, zero, suc, ◌+◌, ◌<◌, ◌≤◌, min, Bool, true, false, List, [], ◌∷◌, ◌++◌, length, map, take, drop, length-append, length-drop, take-append-drop, Option, refl, sym, ◌∙◌, ap, subst, arith}
 use Rattle.napt_rules.specs.{Prelude.effect_from, declared.Leg.Leg}
 use Rattle.napt_pool.specs.{declared.pool.Pool.Pool, Pools.{initial_machines, accepted_items, taken_answers, capacity_of}}
-use Rattle.napt_dispatch.specs.declared.dispatcher.{Dispatcher.Dispatcher, holding.{QueueHead.QueueHead, PendingLeg.TheVariants.Ready}, progress.InputProgress.InputProgress}
-use Rattle.napt_dispatch.specs.{declared.{dispatcher.progress.InputProgress.TheVariants.{Returning, Answered}, outcome_sink.InputResult.InputResult}, Dispatch.of_worker}
+use Rattle.napt_dispatch.specs.declared.dispatcher.{Dispatcher.Dispatcher, pending_leg.{QueueHead.QueueHead, PendingLeg.TheVariants.Ready}, input_progress.InputProgress.InputProgress}
+use Rattle.napt_dispatch.specs.{declared.{dispatcher.input_progress.InputProgress.TheVariants.{Returning, Answered}, outcome_sink.InputResult.InputResult}, Dispatch.of_worker}
 use Rattle.napt_dispatch.specs.WorkerQueues.{WorkerQueueModel, queue_of, owed_count, front_of, queue_readied, queue_answered, with_offers, with_queue}
 use Rattle.napt_dispatch.specs.RunProgresses.{RunProgressModel, progress_in, ProgressIsWritten, InputIsMarked}
-use Rattle.napt_dispatch.specs.DispatcherInvariants.{journal_of, state_with, dispatcher_state, with_more_at, DispatcherKeeps, KeepsAt, IsSizedFor, DispatcherContinues, NoteAnswerPost, NoteAnswersPost, Forgets, NothingMoved, Resolves, queue_waits, waits_behind, ReadyLegsPost, HasTaken, HasOffered, OffersOnlyTo, MovesLegsAt}
+use Rattle.napt_dispatch.specs.DispatcherInvariants.{journal_of, state_with, dispatcher_state, with_more_at, DispatcherKeeps, KeepsAt, IsSizedFor, DispatcherContinues, NoteAnswerPost, NoteAnswersPost, StaysUnknown, NothingMoved, ResolvesFirstPlace, queue_waits, waits_behind, ReadyLegsPost, HasTaken, HasOffered, OffersOnlyTo, MovesLegsAt}
 use Rattle.napt_dispatch.proofs.Lanes.{grows_none, added_own, added_other, added_none, added_more, set_added}
 use Rattle.napt_dispatch.proofs.{QueueStates.{queue_own, queue_other, sum_with, nothing}, InvariantSteps.{queues_keep, offers_keep, readied_keeps, answer_keeps}}
 use Rattle.napt_sequential.specs.declared.{leg_trace.TracedAnswer.TracedAnswer, passage.Passage.Passage}
@@ -28,7 +28,7 @@ pub marked_same : {P : Type 0} (number : ℕ) (mark : Bool) (window later : RunP
 marked_same number mark window later m = journal_as m.times_stay m.left_stays
 
 set_forgets : {P : Type 0} (progress : List (InputProgress P)) (number : ℕ) (first : P) →
-    Forgets progress (slice_set progress number (Returning first))
+    StaysUnknown progress (slice_set progress number (Returning first))
 set_forgets [] number first i h = h
 set_forgets (p ∷ ps) zero first zero h = refl
 set_forgets (p ∷ ps) zero first (suc i) h = h
@@ -36,21 +36,22 @@ set_forgets (p ∷ ps) (suc number) first zero h = h
 set_forgets (p ∷ ps) (suc number) first (suc i) h = set_forgets ps number first i h
 
 resolved_on : {P : Type 0} (front : QueueHead) (second : Option Leg) (window later : RunProgressModel P) →
-    Resolves front window second later →
-    (journal_of later ≡ journal_of window) × Forgets (progress_in window) (progress_in later)
+    ResolvesFirstPlace front window second later →
+    (journal_of later ≡ journal_of window) × StaysUnknown (progress_in window) (progress_in later)
 resolved_on front second window later is =
     grind (arith, common_steps, nat_tests, marked_same, written_same, set_forgets)
 
 -- OFFERS
 
 -- An entry that waited still waits if no more is known.
-waits_on : {P : Type 0} (progress later : List (InputProgress P)) (front : QueueHead) → Forgets progress later →
+waits_on : {P : Type 0} (progress later : List (InputProgress P)) (front : QueueHead) → StaysUnknown progress later →
     queue_waits progress front ≡ true → queue_waits later front ≡ true
 waits_on progress later front forgets h = grind (arith, common_steps, nat_tests)
 
 pub readies_first : {P : Type 0} {tells : Passage → P} (w : ℕ) (d later : Dispatcher P) (second : Option Leg) →
     w < length d.queues →
-    waits_behind d w ≡ false → Resolves (front_of (queue_of d.queues w).held) d.progress second later.progress →
+    waits_behind d w ≡ false → ResolvesFirstPlace (front_of (queue_of d.queues w).held) d.progress second
+    later.progress →
     later.queues ≡ with_queue w (queue_readied second) d.queues → ReadyLegsPost tells w d later
 readies_first w d later second within goes is queues =
     let on = resolved_on (front_of (queue_of d.queues w).held) second d.progress later.progress is in

@@ -10,13 +10,13 @@ use Rattle.napt_pool.specs.{declared.pool.Pool.Pool, Pools.{initial_machines, ac
 use Rattle.napt_sequential.specs.{declared.{fault.RunFault.RunFault, passage.Passage.{Passage, TheVariants.Nothing}, leg_trace.TracedAnswer.TracedAnswer}, Steps.traced_replies}
 use Rattle.napt_wire.specs.declared.Way.{Way}
 use Rattle.napt_laws.specs.{Dispatching.IsFrontOf, SecondLegs.second_legs}
-use Rattle.napt_dispatch.specs.declared.{outcome_sink.InputResult.InputResult, dispatcher.{Dispatcher.Dispatcher, holding.{QueueHead.QueueHead, PendingLeg.PendingLeg}}}
-use Rattle.napt_dispatch.specs.declared.dispatcher.{holding.{PendingLeg.TheVariants.{Ready, Place}, AwaitedLeg.AwaitedLeg}, progress.{OpenInput.OpenInput, InputProgress.InputProgress}}
-use Rattle.napt_dispatch.specs.declared.dispatcher.{progress.InputProgress.TheVariants.{Returning, Answered}, taking.StopCondition.StopCondition}
+use Rattle.napt_dispatch.specs.declared.{outcome_sink.InputResult.InputResult, dispatcher.{Dispatcher.Dispatcher, pending_leg.{QueueHead.QueueHead, PendingLeg.PendingLeg}}}
+use Rattle.napt_dispatch.specs.declared.dispatcher.{pending_leg.{PendingLeg.TheVariants.{Ready, Place}, AwaitedLeg.AwaitedLeg}, input_progress.{OpenInput.OpenInput, InputProgress.InputProgress}}
+use Rattle.napt_dispatch.specs.declared.dispatcher.{input_progress.InputProgress.TheVariants.{Returning, Answered}, taking.StopCondition.StopCondition}
 use Rattle.napt_dispatch.specs.Dispatch.{of_worker, local_bindings, IsDispatchFault}
 use Rattle.napt_dispatch.specs.WorkerQueues.{WorkerQueueModel, AnswersAt, all_held, held_legs_count, front_of, queue_of, owed_of, owed_count, held_count, with_queue}
-use Rattle.napt_dispatch.specs.RunProgresses.{RunProgressModel, progress_in, times_in, is_unknown, passages_after, second_leg_asked, AsksForSecondLeg, first_in, whole_of, AllKnown, ProgressIsWritten, HasMark, InputIsMarked}
-use Rattle.napt_dispatch.specs.declared.dispatcher.holding.QueueHead.TheVariants as fronts
+use Rattle.napt_dispatch.specs.RunProgresses.{RunProgressModel, progress_in, times_in, is_unknown, passages_after, second_leg_asked, AsksForSecondLeg, first_in, whole_of, ProgressesAreKnown, ProgressIsWritten, HasMark, InputIsMarked}
+use Rattle.napt_dispatch.specs.declared.dispatcher.pending_leg.QueueHead.TheVariants as fronts
 use Rattle.napt_dispatch.specs.declared.dispatcher.taking.StopCondition.TheVariants as untils
 
 -- THE STATE OF A DISPATCHER
@@ -77,12 +77,12 @@ abbrev pub lane_legs : {P : Type 0} → List LegAct → Lane P → List Leg
 lane_legs acts lane = lane.offered ++ turned_legs acts lane.queue.ready lane.queue.held
 
 -- The answers of worker w, with the records of its legs, are the first ones that its translator gives.
-abbrev pub IsRight : {P : Type 0} → (Passage → P) → Rules → State → ℕ → Lane P → Type 0
-IsRight tells rules start w lane = let address : ℕ = slice_index rules.pool w in
+abbrev pub IsLaneRight : {P : Type 0} → (Passage → P) → Rules → State → ℕ → Lane P → Type 0
+IsLaneRight tells rules start w lane = let address : ℕ = slice_index rules.pool w in
     IsFrontOf lane.taken (traced_replies tells rules address lane.offered (local_bindings start address))
 
-abbrev pub AreRight : {P : Type 0} → (Passage → P) → Rules → State → DispatcherModel P → Type 0
-AreRight tells rules start state = (w : ℕ) → w < length rules.pool → IsRight tells rules start w (state.lane w)
+abbrev pub AreLanesRight : {P : Type 0} → (Passage → P) → Rules → State → DispatcherModel P → Type 0
+AreLanesRight tells rules start state = (w : ℕ) → w < length rules.pool → IsLaneRight tells rules start w (state.lane w)
 
 -- The consequence of right answers: each lane has the run's legs for `done`, and the progress agrees with the run.
 pub record DispatcherReaches {P : Type 0} (tells : Passage →
@@ -90,7 +90,7 @@ pub record DispatcherReaches {P : Type 0} (tells : Passage →
     (state : DispatcherModel P) : Type 0 where
   pub reached : (w : ℕ) → w < length rules.pool → lane_legs (effect_from rules start all).acts (state.lane w)
       ≡ legs_at (slice_index rules.pool w) (effect_from rules start done).acts
-  pub known : AllKnown (whole_of tells rules start all) state.progress
+  pub known : ProgressesAreKnown (whole_of tells rules start all) state.progress
 
 -- The invariant once the inputs `done`, which are the first of `all`, have been read.
 pub record DispatcherInvariant {P : Type 0} (tells : Passage →
@@ -100,7 +100,7 @@ pub record DispatcherInvariant {P : Type 0} (tells : Passage →
   pub whole : done ++ rest ≡ all
   pub many : state.many ≡ length rules.pool
   pub lanes : (w : ℕ) → w < length rules.pool → LaneStands (state.lane w)
-  pub reaches : AreRight tells rules start state → DispatcherReaches tells rules start done all state
+  pub reaches : AreLanesRight tells rules start state → DispatcherReaches tells rules start done all state
 
 -- If the invariant holds in a state, it holds in the later one, after the same inputs.
 abbrev pub DispatcherKeeps : {P : Type 0} → (Passage → P) → DispatcherModel P → DispatcherModel P → Type 0
@@ -167,13 +167,13 @@ pub record AnswersTo {P : Type 0} (none : P) (window : RunProgressModel P) (numb
 
 -- An answer of worker w was recorded as the progress of its input, with the record of its leg.
 pub record NoteAnswerPost {P : Type 0} (tells : Passage →
-    P) (w : ℕ) (told : TracedAnswer P) (d later : Dispatcher P) : Type 0 where
+    P) (w : ℕ) (traced : TracedAnswer P) (d later : Dispatcher P) : Type 0 where
   pub owed : AwaitedLeg
   pub answers : AnswersAt w owed d.queues later.queues
   pub passages : P × P
-  pub awaited : AnswersTo (tells Nothing) d.progress told.answer.number owed.way told.passage passages
-  pub written : ProgressIsWritten told.answer.number (Answered owed told.answer.end passages.0 passages.1) d.progress
-      later.progress
+  pub awaited : AnswersTo (tells Nothing) d.progress traced.answer.number owed.way traced.passage passages
+  pub written : ProgressIsWritten traced.answer.number (Answered owed traced.answer.end passages.0 passages.1)
+      d.progress later.progress
 
 -- The second leg of an open input was removed, or the input has none. In both cases its placeholder's mark is cleared.
 abbrev pub IsSecondOf : {P : Type 0} → ℕ → OpenInput P → OpenInput P → Option Leg → Type 0
@@ -184,7 +184,7 @@ IsSecondOf {P} number input later (Some leg) = (first : P)
     × (second_leg_asked number input.progress ≡ Some leg) × (first_in input.progress ≡ Some first)
 
 -- The same holds of an input that is given by its number and has this second leg.
-pub record Returns {P : Type 0} (number : ℕ) (window later : RunProgressModel P) (leg : Leg) : Type 0 where
+pub record ReturnsSecondLeg {P : Type 0} (number : ℕ) (window later : RunProgressModel P) (leg : Leg) : Type 0 where
   pub asks : AsksForSecondLeg number (progress_in window) (Some leg)
   pub first : P
   pub first_is : first_in asks.p ≡ Some first
@@ -192,14 +192,14 @@ pub record Returns {P : Type 0} (number : ℕ) (window later : RunProgressModel 
   pub mark : HasMark number false window later
 
 -- The input with this number has this second leg, which was removed, or it has none. The mark is cleared.
-abbrev pub IsSecond : {P : Type 0} → ℕ → RunProgressModel P → RunProgressModel P → Option Leg → Type 0
-IsSecond number window later None = InputIsMarked number false window later ×
+abbrev pub IsSecondLegOf : {P : Type 0} → ℕ → RunProgressModel P → RunProgressModel P → Option Leg → Type 0
+IsSecondLegOf number window later None = InputIsMarked number false window later ×
     AsksForSecondLeg number (progress_in window) None
-IsSecond number window later (Some leg) = Returns number window later leg
+IsSecondLegOf number window later (Some leg) = ReturnsSecondLeg number window later leg
 
 -- If it was unknown whether an input has a second leg, it still is.
-abbrev pub Forgets : {P : Type 0} → List (InputProgress P) → List (InputProgress P) → Type 0
-Forgets progress later = (number : ℕ) → is_unknown (slice_get progress number) ≡ true →
+abbrev pub StaysUnknown : {P : Type 0} → List (InputProgress P) → List (InputProgress P) → Type 0
+StaysUnknown progress later = (number : ℕ) → is_unknown (slice_get progress number) ≡ true →
     is_unknown (slice_get later number) ≡ true
 
 -- Neither the queues nor the progress changed.
@@ -217,10 +217,10 @@ abbrev pub waits_behind : {P : Type 0} → Dispatcher P → ℕ → Bool
 waits_behind d w = queue_waits (progress_in d.progress) (front_of (queue_of d.queues w).held)
 
 -- If the first held entry is a placeholder, `second` is the second leg of its input. Otherwise nothing changed.
-abbrev pub Resolves : {P : Type 0} → QueueHead → RunProgressModel P → Option Leg → RunProgressModel P → Type 0
-Resolves fronts.Nothing window second later = later ≡ window
-Resolves fronts.FirstLeg window second later = later ≡ window
-Resolves (fronts.FirstPlace number) window second later = IsSecond number window later second
+abbrev pub ResolvesFirstPlace : {P : Type 0} → QueueHead → RunProgressModel P → Option Leg → RunProgressModel P → Type 0
+ResolvesFirstPlace fronts.Nothing window second later = later ≡ window
+ResolvesFirstPlace fronts.FirstLeg window second later = later ≡ window
+ResolvesFirstPlace (fronts.FirstPlace number) window second later = IsSecondLegOf number window later second
 
 -- One more input was read at time `now`, in ns: the invariant for the inputs before it becomes the one with it.
 abbrev pub Admits : {P : Type 0} → (Passage → P) → Rules → ℕ → ℕ → Arrival → Dispatcher P → Dispatcher P → Type 0
@@ -266,7 +266,7 @@ pub record ReadyLegsPost {P : Type 0} (tells : Passage → P) (w : ℕ) (d later
   pub keeps : (offered : ℕ → List Leg) (taken : ℕ → List (TracedAnswer P)) →
       DispatcherKeeps tells (state_with offered taken d) (state_with offered taken later)
   pub others : (v : ℕ) → v ≢ w → queue_of later.queues v ≡ queue_of d.queues v
-  pub forgets : Forgets (progress_in d.progress) (progress_in later.progress)
+  pub forgets : StaysUnknown (progress_in d.progress) (progress_in later.progress)
 
 -- A worker was offered all that it can be offered: nothing is held for it, a waiting placeholder is first, or its ring
 -- is full until an answer is taken.
@@ -285,7 +285,7 @@ pub record OffersOnlyTo {P M G : Type 0} (w : ℕ) (pool : Pool M G Leg (TracedA
     (later_pool : Pool M G Leg (TracedAnswer P)) (later : Dispatcher P) : Type 0 where
   pub capacity_stays : capacity_of later_pool ≡ capacity_of pool
   pub others : (v : ℕ) → v ≢ w → (dispatcher_state later_pool later).lane v ≡ (dispatcher_state pool d).lane v
-  pub forgets : Forgets (progress_in d.progress) (progress_in later.progress)
+  pub forgets : StaysUnknown (progress_in d.progress) (progress_in later.progress)
 
 -- ROOM
 

@@ -8,5 +8,5 @@ abbrev pub collected_outcome : {P : Type 0} → ℕ × InputResult P → Outcome
 collected_outcome pair = pair.1.outcome
 
 -- The outcomes of these results were appended to the list.
-abbrev pub Collects : OutcomeList → List (ℕ × InputResult NoTrace) → OutcomeList → Type 0
-Collects before pairs after = after.outcomes.items ≡ before.outcomes.items ++ map collected_outcome pairs
+abbrev pub CollectsOutcomes : OutcomeList → List (ℕ × InputResult NoTrace) → OutcomeList → Type 0
+CollectsOutcomes before pairs after = after.outcomes.items ≡ before.outcomes.items ++ map collected_outcome pairs

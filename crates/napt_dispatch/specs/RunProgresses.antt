@@ -7,8 +7,8 @@ use Rattle.napt_rules.specs.declared.End.TheVariants as ends
 use Rattle.napt_laws.specs.{SecondLegs.second_legs, Dispatching.outcome_of_end}
 use Rattle.napt_rules.specs.declared.Outcome.TheVariants as outcomes
 use Rattle.napt_sequential.specs.{declared.passage.Passage.Passage, Traces.traces_of}
-use Rattle.napt_dispatch.specs.declared.{outcome_sink.InputResult.InputResult, dispatcher.progress.{OpenInput.OpenInput, InputProgress.InputProgress}}
-use Rattle.napt_dispatch.specs.{declared.dispatcher.progress.InputProgress.TheVariants.{Awaited, Returning, Answered}, Dispatch.input_results}
+use Rattle.napt_dispatch.specs.declared.{outcome_sink.InputResult.InputResult, dispatcher.input_progress.{OpenInput.OpenInput, InputProgress.InputProgress}}
+use Rattle.napt_dispatch.specs.{declared.dispatcher.input_progress.InputProgress.TheVariants.{Awaited, Returning, Answered}, Dispatch.input_results}
 
 -- The results that left the window, each with its arrival time in ns, and then the open inputs, all in input order.
 pub record RunProgressModel (P : Type 0) : Type 0 where
@@ -196,8 +196,9 @@ pub record ProgressIsKnown {P : Type 0} (whole : RunLegs P) (number : ℕ) (prog
   pub first : IfSome (first_in progress) (λ first. slice_get whole.firsts number ≡ Some first)
   pub second : KnowsSecond (second_legs number whole.acts) number progress
 
-abbrev pub AllKnown : {P : Type 0} → RunLegs P → List (InputProgress P) → Type 0
-AllKnown {P} whole progress = (i : ℕ) (p : InputProgress P) → slice_get progress i ≡ Some p → ProgressIsKnown whole i p
+abbrev pub ProgressesAreKnown : {P : Type 0} → RunLegs P → List (InputProgress P) → Type 0
+ProgressesAreKnown {P} whole progress = (i : ℕ) (p : InputProgress P) → slice_get progress i ≡ Some p →
+    ProgressIsKnown whole i p
 
 -- These results left the window. The arrival times and marks did not change, and the progress still agrees with a run.
 pub record OutcomesAreHandedOver {P : Type 0} (went : List (ℕ × InputResult P)) (window later : RunProgressModel P) :
@@ -205,4 +206,5 @@ pub record OutcomesAreHandedOver {P : Type 0} (went : List (ℕ × InputResult P
   pub left_is : later.left ≡ window.left ++ went
   pub times_stay : times_in later ≡ times_in window
   pub marks_stay : marks_in later ≡ marks_in window
-  pub known : (whole : RunLegs P) → AllKnown whole (progress_in window) → AllKnown whole (progress_in later)
+  pub known : (whole : RunLegs P) → ProgressesAreKnown whole (progress_in window) →
+      ProgressesAreKnown whole (progress_in later)

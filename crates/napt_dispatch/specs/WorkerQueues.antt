@@ -2,8 +2,8 @@
 use Rattle.std.specs.Prelude.{◌≡◌, ℕ, ◌+◌, ◌<◌, ◌≤◌, ◌^◌, ◌==◌, if◌then◌else◌, List, [], ◌∷◌, ◌++◌, drop, map, length, option_to_list, slice_set, slice_index_or, Option, Some, None}
 use Rattle.std.specs.List.{sum_by}
 use Rattle.napt_rules.specs.declared.Leg.{Leg}
-use Rattle.napt_dispatch.specs.declared.dispatcher.holding.{QueueHead.QueueHead, PendingLeg.{PendingLeg, TheVariants.{Ready, Place}}, AwaitedLeg.AwaitedLeg}
-use Rattle.napt_dispatch.specs.declared.dispatcher.holding.QueueHead.TheVariants as fronts
+use Rattle.napt_dispatch.specs.declared.dispatcher.pending_leg.{QueueHead.QueueHead, PendingLeg.{PendingLeg, TheVariants.{Ready, Place}}, AwaitedLeg.AwaitedLeg}
+use Rattle.napt_dispatch.specs.declared.dispatcher.pending_leg.QueueHead.TheVariants as fronts
 
 -- One worker: the number of legs offered, those not answered yet, the next message, and the entries held after it.
 pub record WorkerQueueModel : Type 0 where
@@ -67,8 +67,8 @@ pub record HoldPost (more : List PendingLeg) (q later : WorkerQueueModel) : Type
   pub held_is : all_held later ≡ all_held q ++ more
 
 -- More entries are held for each worker, after all others.
-abbrev pub AllHold : (ℕ → List PendingLeg) → List WorkerQueueModel → List WorkerQueueModel → Type 0
-AllHold more queues later = (v : ℕ) → HoldPost (more v) (queue_of queues v) (queue_of later v)
+abbrev pub QueuesHoldMore : (ℕ → List PendingLeg) → List WorkerQueueModel → List WorkerQueueModel → Type 0
+QueuesHoldMore more queues later = (v : ℕ) → HoldPost (more v) (queue_of queues v) (queue_of later v)
 
 -- Returns the entries for worker w, and none for any other worker.
 abbrev pub only_at : ℕ → List PendingLeg → ℕ → List PendingLeg

@@ -10,10 +10,10 @@ ghost use Rattle.napt_rules.specs.Prelude.{State, initial_state};
 ghost use Rattle.napt_dispatch.specs.{Dispatch.{started_translators, IsDispatchFault, IsDispatchedFrom}, RunsThrough.{DispatchPost, DispatchErr}, WorkerQueues.unused_queue};
 
 mod buffer_pool;
-mod holding;
+mod input_progress;
 mod offering;
+mod pending_leg;
 mod placing;
-mod progress;
 mod reading;
 mod run_progress;
 mod taking;

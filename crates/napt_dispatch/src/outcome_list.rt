@@ -26,13 +26,13 @@ impl OutcomeList {
 impl OutcomeSink for OutcomeList {
     ghost use Rattle.std.specs.Prelude.{⊤, ◌∷◌, ◌++◌, map, MatchResult};
     ghost use Rattle.std.proofs.{Common.{ap, sym, ◌∙◌, append-nil, append_assoc}, lemmas.List.map-append};
-    ghost use Rattle.napt_dispatch.specs.OutcomeLists.{Collects, collected_outcome};
+    ghost use Rattle.napt_dispatch.specs.OutcomeLists.{CollectsOutcomes, collected_outcome};
 
     type Fault = AllocError;
 
     type Trace = NoTrace;
 
-    ghost takes = { Collects };
+    ghost takes = { CollectsOutcomes };
 
     ghost fails = { λ before pairs fault after. ⊤ };
 
@@ -50,7 +50,8 @@ impl OutcomeSink for OutcomeList {
         _time: u64,
         departed: InputResult<NoTrace>,
     ) -> Result<Option<Vec<u8>>, AllocError>
-        ensures { MatchResult result (λ _. Collects self.old ((_time, departed) ∷ []) self.new)
+        ensures { MatchResult result
+            (λ _. CollectsOutcomes self.old ((_time, departed) ∷ []) self.new)
             (λ fault. ⊤) }
     {
         self.outcomes.push(departed.outcome)?;
@@ -58,7 +59,7 @@ impl OutcomeSink for OutcomeList {
     }
 
     fn settle(&mut self) -> Result<(), AllocError>
-        ensures { MatchResult result (λ _. Collects self.old [] self.new × ⊤) (λ fault. ⊤) }
+        ensures { MatchResult result (λ _. CollectsOutcomes self.old [] self.new × ⊤) (λ fault. ⊤) }
     {
         Ok(())
     }

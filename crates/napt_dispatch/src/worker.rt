@@ -15,7 +15,7 @@ use std::marker::{Model, PhantomData};
 pub struct Worker<P> {
     pub translator: Translator,
     /// The type of the worker's records of its legs.
-    pub told: PhantomData<P>,
+    pub trace: PhantomData<P>,
 }
 
 impl<P> Model for Worker<P> {

@@ -44,7 +44,7 @@ fn workers<P: LegTrace>(
         let translator = Translator::from_state(alloc, index, config.copy(alloc)?, state)?;
         made.push(Worker {
             translator,
-            told: PhantomData,
+            trace: PhantomData,
         })?;
     }
     Ok(made)
@@ -194,7 +194,7 @@ impl RunSummary {
         }
         let mut list = Vec::new(alloc);
         for translator in &self.translators {
-            list.append(&mut translator.final_bindings(alloc, self.clock)?)?;
+            list.append(&mut translator.state_bindings(alloc, self.clock)?)?;
         }
         Ok(Some(State {
             clock: self.clock,

@@ -2,7 +2,7 @@
 use Rattle.std.proofs.Common.{arith, rules, ◌≡◌, ℕ, Bool, true, cond, List, Some, None, Ok, refl, sym, ◌∙◌, ap, subst, eqb-true, find, unwrap_or}
 use Rattle.std.proofs.lemmas.{Grind.common_steps, Bool.{Decides.nat_tests, and_parts}}
 use Rattle.napt_rules.specs.Prelude.{Binding, purge, is_of_inside, has_number, by_inside, row, IsNumber, IsPaired, IsSound, PurgeStaysSound, Protocol, Endpoint, Kind, Outside, Incoming, source, kind, local_of, local_end, CanCarry, reading, LastDestinationCounts, LastReversionCounts, DestinationsAreGiven, kind_with_inner_source, SourcesAreGiven, Rules, pair_of, is_inside}
-use Rattle.napt_laws.proofs.{Endpoints.{inside_it, has_protocol, number_of_it, once_inside}, Finds.{passes, find_same}}
+use Rattle.napt_laws.proofs.{Endpoints.{inside_it, has_protocol, number_of_it, once_inside}, UniqueSearches.{passes, find_same}}
 use Rattle.napt_follow.specs.{Following.{protocol_by, readdressed, external_of, reply_target, packet_followed}, Laws.DeliveredPacketsFollowBack}
 use Rattle.napt_follow.proofs.Replies.{carries, found_has, sent_as, sent_again}
 

@@ -5,7 +5,7 @@ use Rattle.std.proofs.lemmas.List.Sorted.{IsPermutation-refl, IsPermutation-sym,
 use Rattle.napt_config.specs.declared.settings.Timers.{Timers}
 use Rattle.napt_rules.specs.Prelude.{Binding, change_first, is_live, with_live_flows, purge, hold_ago, live_and_held, row, AreAlike}
 use Rattle.napt_rules.specs.declared.Row.{Row}
-use Rattle.napt_laws.proofs.{Lists.{filter_swap, filter_map}, Finds.{Once, any_found}, SeenElements.{ago_later, purge_taken}, Purges.purge_purge, Shuffles.filter_moved}
+use Rattle.napt_laws.proofs.{Lists.{filter_swap, filter_map}, UniqueSearches.{Once, any_found}, SeenElements.{ago_later, purge_taken}, Purges.purge_purge, Permutations.filter_moved}
 
 -- TESTS OF ROWS
 

@@ -3,13 +3,13 @@ use Rattle.std.proofs.Common.{◌≡◌, ℕ, Bool, true, false, cond, List, Opt
 use Rattle.std.specs.Option.{option_map}
 use Rattle.napt_wire.specs.declared.Kind.TheVariants.{Udp, Tcp, Echo, ErrorOf}
 use Rattle.napt_rules.specs.declared.{AssignmentRules.AssignmentRules, InboundRules.InboundRules, OutboundPacket.OutboundPacket, InboundPacket.InboundPacket, Leg.Leg, End.TheVariants.Dropped}
-use Rattle.napt_rules.specs.Prelude.{Binding, purge, live_and_held, permits, inbound_rules, is_of_source, binding_after_out, new_binding, OutboundEffect, out_made, granted_again, out_found, step_out, is_of_destination, binding_after_in, InboundEffect, in_found, step_in, AreTimers, Timers, onward_end, end_out, end_in, outbound_packet, inbound_packet, LegEffect, act_by, Cause, Way, Outgoing, Incoming, Kind, kind, is_error, Rules, assignment_rules}
-use Rattle.napt_laws.{specs.BindingUses.{BindingUseIsSaid, OutboundNamesItsBinding, InboundNamesItsBinding, ErrorsGoThroughNone, DroppedGoThroughNone}, proofs.Acts.of_act}
-use Rattle.napt_laws.proofs.{Endpoints.inside_it, Finds.{find_changed, find_pushed}, StepCases.in_passed, StepsLive.{sent_seen, made_is_seen, received_seen}, SeenElements.purge_taken}
+use Rattle.napt_rules.specs.Prelude.{Binding, purge, live_and_held, permits, inbound_rules, is_of_source, binding_after_out, new_binding, OutboundEffect, out_made, held_or_new_number, out_found, step_out, is_of_destination, binding_after_in, InboundEffect, in_found, step_in, AreTimers, Timers, onward_end, end_out, end_in, outbound_packet, inbound_packet, LegEffect, act_by, Cause, Way, Outgoing, Incoming, Kind, kind, is_error, Rules, assignment_rules}
+use Rattle.napt_laws.{specs.BindingUses.{BindingUseIsSaid, OutboundNamesItsBinding, InboundNamesItsBinding, ErrorsGoThroughNone, DroppedGoThroughNone}, proofs.LegCases.of_act}
+use Rattle.napt_laws.proofs.{Endpoints.inside_it, UniqueSearches.{find_changed, find_pushed}, StepCases.in_passed, StepsLive.{sent_seen, made_is_seen, received_seen}, SeenElements.purge_taken}
 
 -- OUTGOING PACKETS
 
-module _ (timers : Timers) (t : AreTimers timers) (granting : AssignmentRules) (address : ℕ) (packet : OutboundPacket)
+module _ (timers : Timers) (t : AreTimers timers) (assignment : AssignmentRules) (address : ℕ) (packet : OutboundPacket)
     (list : List Binding) where
   abbrev at_source : List Binding → Option Binding
   at_source list = find (is_of_source address packet) (purge timers packet.now list)
@@ -33,9 +33,9 @@ module _ (timers : Timers) (t : AreTimers timers) (granting : AssignmentRules) (
       }
 
   out_says : (found : Option Binding) → at_source list ≡ found →
-      OutSays (out_found timers granting list address packet found)
+      OutSays (out_found timers assignment list address packet found)
   out_says None none = made_says none
-      (granted_again granting list address packet (find (is_of_source address packet) list))
+      (held_or_new_number assignment list address packet (find (is_of_source address packet) list))
   out_says (Some b) is = record {
     went = record { binding = binding_after_out packet b; made = false };
     is = refl;
@@ -47,13 +47,13 @@ module _ (timers : Timers) (t : AreTimers timers) (granting : AssignmentRules) (
   }
 
 pub out_says_its_binding : OutboundNamesItsBinding
-out_says_its_binding timers t granting address packet list =
+out_says_its_binding timers t assignment address packet list =
     let all : List Binding = live_and_held timers packet.now list in
-    let out : OutboundEffect = step_out timers granting address packet list in
+    let out : OutboundEffect = step_out timers assignment address packet list in
     subst (λ (live : List Binding). BindingUseIsSaid out.number (find (is_of_source address packet) live)
     (find (is_of_source address packet) (purge timers packet.now out.list)) out.through)
     (purge_taken timers packet.now list)
-    (out_says timers t granting address packet all (find (is_of_source address packet) (purge timers packet.now all))
+    (out_says timers t assignment address packet all (find (is_of_source address packet) (purge timers packet.now all))
     refl)
 
 -- INCOMING PACKETS
@@ -122,7 +122,7 @@ module _ (rules : Rules) (address : ℕ) (leg : Leg) (list : List Binding) where
           (let out : OutboundEffect = out_found rules.timers (assignment_rules rules) live address packet found in
           end_out rules address leg.packet out.number ≡ Dropped cause → out.through ≡ None)
       sent_none None h = made_none
-          (granted_again (assignment_rules rules) live address packet (find (is_of_source address packet) live)) h
+          (held_or_new_number (assignment_rules rules) live address packet (find (is_of_source address packet) live)) h
       sent_none (Some b) h = absurd (onward_goes _ _ h)
 
     module _ (packet : InboundPacket) (live : List Binding) where

@@ -2,10 +2,10 @@
 use Rattle.std.proofs.Common.{◌≡◌, ℕ, ◌<◌, ◌≤◌, Bool, true, false, not, ◌&&◌, cond, nat_le, List, [], ◌∷◌, ◌++◌, map, Option, Some, None, Result, Ok, Err, ◌⊎◌, inl, inr, refl, sym, ◌∙◌, ap, subst, arith, append_assoc, filter, find, true≢false}
 use Rattle.std.{specs.Option.option_map, proofs.lemmas.Bool.{and_parts, and_from, leb-true, leb-false}}
 use Rattle.napt_rules.specs.declared.{AssignmentRules.AssignmentRules, InboundRules.InboundRules, OutboundPacket.OutboundPacket, InboundPacket.InboundPacket, Row.Row}
-use Rattle.napt_rules.specs.Prelude.{Binding, Each, change_first, same_protocol, same_endpoint, is_live, with_live_flows, purge, hold_ago, live_and_held, permits, is_of_source, is_of_live_source, binding_after_out, live_binding_after_out, other_bindings, new_binding, OutboundEffect, out_made, granted_again, out_found, out_taken, is_of_destination, is_of_live_destination, live_binding_after_in, InboundEffect, in_found, row, AreRowsApart, AreBindingsApart, IsSound, AreTimers, Timers, Cause}
+use Rattle.napt_rules.specs.Prelude.{Binding, Each, change_first, same_protocol, same_endpoint, is_live, with_live_flows, purge, hold_ago, live_and_held, permits, is_of_source, is_of_live_source, binding_after_out, live_binding_after_out, other_bindings, new_binding, OutboundEffect, out_made, held_or_new_number, out_found, out_taken, is_of_destination, is_of_live_destination, live_binding_after_in, InboundEffect, in_found, row, AreRowsApart, AreBindingsApart, IsSound, AreTimers, Timers, Cause}
 use Rattle.napt_rules.proofs.Life.{lived, live_same}
 use Rattle.napt_laws.specs.HoldTimes.{Holder, HaveSameEnds, have_same_ends, holder_after, holders_after, AreHoldersApart, HoldersStayApart, HasOne, HolderCoversBinding, IsAccounted, AreBindingsAccounted, OutKeepsAccounts, InKeepsAccounts, AccountsBegin, HeldTimesAreFar}
-use Rattle.napt_laws.proofs.{Lists.{each_pushed, each_weaker, find_passes, find_none, any_none, each_true}, Finds.Once, HeldNumbers.each_rows, StepCases.in_passed}
+use Rattle.napt_laws.proofs.{Lists.{each_pushed, each_weaker, find_passes, find_none, any_none, each_true}, UniqueSearches.Once, HeldNumbers.each_rows, StepCases.in_passed}
 use Rattle.napt_laws.proofs.Endpoints.{inside_parts, protocol_is, same_itself, end_itself, end_is, once_inside}
 use Rattle.napt_laws.proofs.{SeenElements.{ago_before, ago_later, find_seen}, StepRows.rows_push, StepsSound.{purge_stays_sound, out_stays_sound}}
 use Rattle.napt_laws.proofs.StepsLive.{sent_is_fresh, made_is_fresh, received_is_fresh}
@@ -344,7 +344,8 @@ held_push timers [] h a e = (tt, tt)
 held_push timers (x ∷ hs) h a e =
     (each_pushed (AreHoldersApart timers x) hs h a.0 e.0, held_push timers hs h a.1 e.1)
 
-module _ (granting : AssignmentRules) (timers : Timers) (tm : AreTimers timers) (address : ℕ) (packet : OutboundPacket)
+module _ (assignment : AssignmentRules) (timers : Timers) (tm : AreTimers timers) (address : ℕ)
+    (packet : OutboundPacket)
     (all : List Binding) (apart : AreBindingsApart (map row all)) (holders : List Holder)
     (a : AreBindingsAccounted timers packet.now all holders) where
   abbrev t : Binding → Bool
@@ -451,14 +452,14 @@ module _ (granting : AssignmentRules) (timers : Timers) (tm : AreTimers timers) 
 
     -- By whether a number is held for the source or a free one is chosen.
     granted_number : (found : Option Binding) → find t all ≡ found → (n : ℕ) →
-        granted_again granting all address packet found ≡ Ok n → (b : Binding) → find t all ≡ Some b →
+        held_or_new_number assignment all address packet found ≡ Ok n → (b : Binding) → find t all ≡ Some b →
         b.row.external.number ≡ n
     granted_number (Some c) is n e b also =
         let same : c ≡ b = cc in ap (λ (x : Binding). x.row.external.number) (sym same) ∙ cc
     granted_number None is n e b also = cc
 
     pub none_kept : (number : Result ℕ Cause) →
-        granted_again granting all address packet (find t all) ≡ number →
+        held_or_new_number assignment all address packet (find t all) ≡ number →
         AreBindingsApart (map row (out_made all address packet number).list) →
         AreBindingsAccounted timers packet.now (out_made all address packet number).list
         (holders_after timers packet.now (out_made all address packet number).through holders)
@@ -466,25 +467,25 @@ module _ (granting : AssignmentRules) (timers : Timers) (tm : AreTimers timers) 
     none_kept (Ok n) is sound = made_kept n sound (granted_number (find t all) refl n is)
 
   pub found_or_made : (found : Option Binding) → find (is_of_live_source timers address packet) all ≡ found →
-      (let out : OutboundEffect = out_found timers granting all address packet
+      (let out : OutboundEffect = out_found timers assignment all address packet
       (option_map (with_live_flows timers packet.now) found) in
       AreBindingsApart (map row out.list) → AreBindingsAccounted timers packet.now out.list
       (holders_after timers packet.now out.through holders))
   found_or_made (Some b) is sound = found_kept b is
-  found_or_made None is sound = none_kept is (granted_again granting all address packet (find t all)) refl sound
+  found_or_made None is sound = none_kept is (held_or_new_number assignment all address packet (find t all)) refl sound
 
 pub out_keeps_accounts : OutKeepsAccounts
-out_keeps_accounts pair timers tm granting address packet list s pairs numbered keeps now le holders a =
+out_keeps_accounts pair timers tm assignment address packet list s pairs numbered keeps now le holders a =
     let all : List Binding = live_and_held timers packet.now list in
     let sound : IsSound pair all = purge_stays_sound pair timers (hold_ago timers packet.now) list s in
-    let left : IsSound pair (out_taken timers granting address packet all).list =
-    out_stays_sound pair timers granting address packet list s pairs numbered keeps in
-    subst (λ (o : Option Binding). (let out : OutboundEffect = out_found timers granting all address packet o in
+    let left : IsSound pair (out_taken timers assignment address packet all).list =
+    out_stays_sound pair timers assignment address packet list s pairs numbered keeps in
+    subst (λ (o : Option Binding). (let out : OutboundEffect = out_found timers assignment all address packet o in
     AreBindingsApart (map row out.list) → AreBindingsAccounted timers packet.now out.list
     (holders_after timers packet.now out.through holders)))
     (sym (find_seen (is_live timers packet.now) (is_of_source address packet) (with_live_flows timers packet.now)
     (λ b. refl) all))
-    (found_or_made granting timers tm address packet all sound.apart holders
+    (found_or_made assignment timers tm address packet all sound.apart holders
     (taken_accounted timers now packet.now le list holders a) (find (is_of_live_source timers address packet) all) refl)
     left.apart
 

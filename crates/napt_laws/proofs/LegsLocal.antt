@@ -5,7 +5,7 @@ use Rattle.napt_wire.specs.declared.Kind.TheVariants.{Udp, Tcp, Echo, ErrorOf}
 use Rattle.napt_rules.specs.Prelude.{Binding, same_protocol, same_endpoint, is_at, bindings_at, is_of_inside, has_number, purge, hold_ago, live_and_held, inbound_rules, OutboundEffect, out_taken, step_out, InboundEffect, in_taken, step_in, no_flags, LegEffect, end_out, end_in, error_out, error_in, outbound_packet, inbound_packet, act_out, act_in, act_by, act, Protocol, Way, Outgoing, Incoming, Flags, Kind, kind, Rules, assignment_rules}
 use Rattle.napt_rules.specs.declared.{OutboundPacket.OutboundPacket, InboundPacket.InboundPacket, Leg.Leg}
 use Rattle.napt_laws.{proofs.{Lists.find_filter, Purges.of_purge, SeenElements.{taken_later, taken_twice, purge_taken}, StepsLocal.{out_local, out_other, in_local, in_other}}, specs.LocalAgreement.LocalListAgrees}
-use Rattle.napt_laws.proofs.Acts.{of_act}
+use Rattle.napt_laws.proofs.LegCases.{of_act}
 
 -- The effects of a leg on the two lists agree.
 pub record ActsAlike (rules : Rules) (address now : ℕ) (own whole : LegEffect) : Type 0 where

@@ -1,7 +1,7 @@
 -- LISTS
 
 pub mod Lists
-pub mod Finds
+pub mod UniqueSearches
 -- ONE BINDING, AND ITS NUMBER
 
 pub mod Purges
@@ -14,7 +14,7 @@ pub mod Endpoints
 
 pub mod HeldNumbers
 pub mod StepCases
-pub mod Shuffles
+pub mod Permutations
 pub mod AlikeLists
 pub mod StepRows
 pub mod Quotas
@@ -30,7 +30,7 @@ pub mod Orders
 -- LEGS
 
 pub mod Pools
-pub mod Acts
+pub mod LegCases
 pub mod LegLaws
 pub mod OnwardForeseen
 pub mod OnwardLegs
@@ -58,5 +58,5 @@ pub mod SavedStates
 pub mod LegInduction
 pub mod DispatchLaws
 pub mod OneInput
-pub mod Places
+pub mod SecondLegsByNumber
 pub mod Holders

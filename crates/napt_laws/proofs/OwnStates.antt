@@ -5,7 +5,7 @@ use Rattle.std.{specs.List.list_any, proofs.lemmas.{List.map-append, Bool.{and_f
 use Rattle.napt_rules.specs.declared.{Flow.Flow, Row.Row, InboundRules.InboundRules, OutboundPacket.OutboundPacket, InboundPacket.InboundPacket, Leg.Leg, Misfit.Misfit}
 use Rattle.napt_rules.specs.Prelude.{Binding, Each, change_first, same_protocol, same_endpoint, is_of_inside, with_live_flows, purge, hold_ago, live_and_held, redirect_binding, opening, inbound_rules, assignment_rules, binding_after_out, is_of_live_source, live_binding_after_out, other_bindings, new_binding, binding_after_in, is_of_live_destination, live_binding_after_in, LegEffect, outbound_packet, inbound_packet, act_out, act_in, act, Arrival, last_clock, State, taken_at_clock, effect_from, dynamic_bindings, with_redirects, row, AreRowsApart, AreBindingsApart, IsNumber, IsPaired, IsSound, IsBlockNumber, IsInItsBlock, is_number, is_its_number, clashes, clashes_with_any, misfit_of, misfit_or, misfit_in, TakesState, IsBindingOwn, AreAllOwn, OwnStatesStay, OwnStatesAreTaken, Protocol, Icmp, Tcp, Udp, Flags, kind, Endpoint, PacketsCarryNumbers, Timers, Rules, RulesInvariant, pair_of, block_of, PortBlock, Redirect}
 use Rattle.napt_rules.proofs.Lists.{each_filter, filter_all}
-use Rattle.napt_laws.proofs.{Acts.of_act, Endpoints.{end_is, protocol_is}, OpeningList.redirect_stays, StepCases.{of_out, of_in}, Purges.each_purged, SeenElements.taken_twice, StepRows.purge_keeps, RunInduction.run_keeps}
+use Rattle.napt_laws.proofs.{LegCases.of_act, Endpoints.{end_is, protocol_is}, OpeningList.redirect_stays, StepCases.{of_out, of_in}, Purges.each_purged, SeenElements.taken_twice, StepRows.purge_keeps, RunInduction.run_keeps}
 use Rattle.napt_laws.proofs.{Lists.{each_changed, each_pushed, each_kept, each_less, each_mid}, StepsSound.{out_stays_sound, in_stays_sound, purge_stays_sound}}
 use Rattle.napt_laws.proofs.{RunsSound.run_sound, RunsBlocks.blocks_run, OwnBindings.{or_none, IsKept, owned_taken, taken_own}, TakenStates.{turned, state_sound, state_blocks}}
 

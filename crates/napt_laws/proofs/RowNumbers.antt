@@ -2,7 +2,7 @@
 use Rattle.std.proofs.Common.{◌≡◌, ℕ, Bool, true, false, List, Option, Some, None, Result, Ok, Err, refl, eqb-true, find, IfOk, IfSome}
 use Rattle.std.{specs.Option.option_map, proofs.lemmas.Bool.and_parts}
 use Rattle.napt_rules.specs.declared.{AssignmentRules.AssignmentRules, InboundRules.InboundRules}
-use Rattle.napt_rules.specs.Prelude.{Binding, same_protocol, is_of_inside, has_number, purge, permits, is_of_source, granted_again, out_made, out_found, out_taken, is_of_destination, in_found, in_taken, row, Timers, IsNumber, IsPaired, IsSound, IsPortBlock, Protocol, Icmp, Tcp, Udp, Cause, Endpoint}
+use Rattle.napt_rules.specs.Prelude.{Binding, same_protocol, is_of_inside, has_number, purge, permits, is_of_source, held_or_new_number, out_made, out_found, out_taken, is_of_destination, in_found, in_taken, row, Timers, IsNumber, IsPaired, IsSound, IsPortBlock, Protocol, Icmp, Tcp, Udp, Cause, Endpoint}
 use Rattle.napt_rules.specs.declared.{OutboundPacket.OutboundPacket, InboundPacket.InboundPacket}
 use Rattle.napt_laws.proofs.{StepCases.in_passed, HeldNumbers.each_rows, Lists.find_passes, StepsSound.{granted_apart, purge_stays_sound}}
 
@@ -89,23 +89,23 @@ module _ (pair : ℕ → ℕ) (address : ℕ) where
         IsNumber packet.protocol inside.number)
     in_named = found_named (find (is_of_destination address packet) (purge timers packet.now list)) refl
 
-  module _ (timers : Timers) (granting : AssignmentRules) (packet : OutboundPacket)
+  module _ (timers : Timers) (assignment : AssignmentRules) (packet : OutboundPacket)
       (keeps : IfSome packet.block IsPortBlock)
       (list : List Binding) (s : IsSound pair list) where
     made_named : (number : Result ℕ Cause) →
-        granted_again granting list address packet (find (is_of_source address packet) list) ≡ number →
+        held_or_new_number assignment list address packet (find (is_of_source address packet) list) ≡ number →
         IfOk (out_made list address packet number).number (IsNumber packet.protocol)
     made_named (Err cause) e = tt
     made_named (Ok n) e =
-        (granted_apart pair granting address packet keeps list n s (find (is_of_source address packet) list) refl e).0
+        (granted_apart pair assignment address packet keeps list n s (find (is_of_source address packet) list) refl e).0
 
     left_named : (found : Option Binding) → find (is_of_source address packet) (purge timers packet.now list) ≡ found →
-        IfOk (out_found timers granting list address packet found).number (IsNumber packet.protocol)
+        IfOk (out_found timers assignment list address packet found).number (IsNumber packet.protocol)
     left_named (Some b) e =
         (found_inside pair address packet.protocol packet.inside (purge timers packet.now list)
         (purge_stays_sound pair timers packet.now list s) b e).0
     left_named None e =
-        made_named (granted_again granting list address packet (find (is_of_source address packet) list)) refl
+        made_named (held_or_new_number assignment list address packet (find (is_of_source address packet) list)) refl
 
-    pub out_named : IfOk (out_taken timers granting address packet list).number (IsNumber packet.protocol)
+    pub out_named : IfOk (out_taken timers assignment address packet list).number (IsNumber packet.protocol)
     out_named = left_named (find (is_of_source address packet) (purge timers packet.now list)) refl

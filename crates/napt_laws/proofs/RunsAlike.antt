@@ -3,13 +3,13 @@ use Rattle.std.proofs.Common.{◌≡◌, ℕ, ◌+◌, ◌*◌, ◌^◌, ◌<◌
 use Rattle.std.{specs.List.{list_any, Sorted.IsPermutation}, proofs.lemmas.List.Sorted.{IsPermutation-sym, IsPermutation-map}}
 use Rattle.napt_rules.specs.Prelude.{Binding, Each, bindings_at, is_at, purge, row, protocol_rank, rows, sorted_rows, act, Arrival, LegAct, RunEffect, run_from, last_clock, legs_at, run_result_of, AreRowsApart, AreBindingsApart, IsSound, AreAlike, AlikeRunGoesOn, AlikeStatesGoOn, Protocol, Icmp, Tcp, Udp, PacketsCarryNumbers, Rules, RulesInvariant, pair_of}
 use Rattle.napt_rules.{specs.declared.{Row.Row, Leg.Leg, Outcome.Outcome}, proofs.Lists.each_filter}
-use Rattle.napt_laws.proofs.{Lists.{each_weaker, each_parts}, Finds.Once, Orders.{same_rank, same_rank-true, in_order_alike, in_order-moves}, OpeningList.sound_at, StepsSound.{purge_stays_sound, out_stays_sound, in_stays_sound}}
-use Rattle.napt_laws.proofs.{Shuffles.{filter_once, each_moved}, AlikeLists.{filter_of, purge_some, alike_some, alike_later, alike_taken}, StepsAlike.acts_alike, RunInduction.IsServed, RunsBeside.{AreActsBeside, AreBeside, run_both}, RunsSound.sound_by}
+use Rattle.napt_laws.proofs.{Lists.{each_weaker, each_parts}, UniqueSearches.Once, Orders.{same_rank, same_rank-true, in_order_alike, in_order-moves}, OpeningList.sound_at, StepsSound.{purge_stays_sound, out_stays_sound, in_stays_sound}}
+use Rattle.napt_laws.proofs.{Permutations.{filter_once, each_moved}, AlikeLists.{filter_of, purge_some, alike_some, alike_later, alike_taken}, StepsAlike.acts_alike, RunInduction.IsServed, RunsBeside.{AreActsBeside, AreBeside, run_both}, RunsSound.sound_by}
 
 -- THE ROWS of one address differ in rank, where numbers are below 2 ^ 16
 
-abbrev IsSmall : Row → Type 0
-IsSmall r = r.external.number < 2 ^ 16
+abbrev HasPortNumber : Row → Type 0
+HasPortNumber r = r.external.number < 2 ^ 16
 
 ranks : (p q : Protocol) (m n : ℕ) → m < 65536 → n < 65536 →
     protocol_rank p * 65536 + m ≡ protocol_rank q * 65536 + n → (p ≡ q) × (m ≡ n)
@@ -25,9 +25,9 @@ ranks Udp Udp m n lt less e = (refl, omega arith)
 
 module _ (address : ℕ) (x : Row) where
   abbrev AreHere : List Row → Type 0
-  AreHere list = Each (λ r. r.external.address ≡ address) list × Each IsSmall list
+  AreHere list = Each (λ r. r.external.address ≡ address) list × Each HasPortNumber list
 
-  none_ranked : (r : Row) → r.external.address ≡ address → IsSmall r → same_rank x r ≡ true → (list : List Row) →
+  none_ranked : (r : Row) → r.external.address ≡ address → HasPortNumber r → same_rank x r ≡ true → (list : List Row) →
       Each (AreRowsApart r) list → AreHere list → list_any (same_rank x) list ≡ false
   none_ranked r at small is [] apart here = refl
   none_ranked r at small is (y ∷ list) apart here =
@@ -64,11 +64,11 @@ module _ (rules : Rules) (now : ℕ) (pair : ℕ → ℕ) (a b : List Binding) (
         (each_weaker (λ r. is_at address r ≡ true) (λ r. r.external.address ≡ address) (λ r e. eqb-true _ _ e) _
         (each_filter (is_at address) (map row (purge rules.timers now a)))))
 
-    rows_one : Each IsSmall (rows_at a address) → rows_at b address ≡ rows_at a address
+    rows_one : Each HasPortNumber (rows_at a address) → rows_at b address ≡ rows_at a address
     rows_one small =
         let moved : IsPermutation (here a) (here b) =
         IsPermutation-map row _ _ (alike_some rules.timers now (is_at address) a b alike).live in
-        let low : Each IsSmall (here a) = each_moved IsSmall (sorted_rows (here a)) (here a)
+        let low : Each HasPortNumber (here a) = each_moved HasPortNumber (sorted_rows (here a)) (here a)
         (IsPermutation-sym _ _ (in_order-moves (here a))) small in
         let apart : AreBindingsApart (here a) =
         (purge_stays_sound (λ host. address) rules.timers now (bindings_at address a)
@@ -76,11 +76,11 @@ module _ (rules : Rules) (now : ℕ) (pair : ℕ → ℕ) (a b : List Binding) (
         sym (in_order_alike (here a) (here b) (λ x. filter_once (same_rank x) (here a) (here b) moved
         (once_ranked address x (here a) apart (at_address, low))))
 
-  all_rows : (pool : List ℕ) → Each IsSmall (flat_map (rows_at a) pool) → flat_map (rows_at b) pool
+  all_rows : (pool : List ℕ) → Each HasPortNumber (flat_map (rows_at a) pool) → flat_map (rows_at b) pool
       ≡ flat_map (rows_at a) pool
   all_rows [] small = refl
   all_rows (address ∷ pool) small =
-      let parts = each_parts IsSmall (rows_at a address) (flat_map (rows_at a) pool) small in
+      let parts = each_parts HasPortNumber (rows_at a address) (flat_map (rows_at a) pool) small in
       ap (λ (l : List Row). l ++ flat_map (rows_at b) pool) (rows_one address parts.0)
       ∙ ap (λ (l : List Row). rows_at a address ++ l) (all_rows pool parts.1)
 

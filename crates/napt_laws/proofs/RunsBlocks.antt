@@ -1,9 +1,9 @@
 -- After each step, every binding except redirects has a number of its host's port block, if it had one before.
 use Rattle.std.proofs.Common.{◌≡◌, ℕ, Bool, false, not, List, [], ◌∷◌, map, Option, Some, None, Ok, refl, sym, subst, filter, find, IfSome}
 use Rattle.std.proofs.lemmas.Bool.{or_parts}
-use Rattle.napt_rules.specs.Prelude.{Binding, Each, is_live, with_live_flows, purge, is_of_source, other_bindings, granted_again, block_of, inbound_rules, candidates, is_free, redirect_binding, opening, new_binding, row, LegEffect, outbound_packet, inbound_packet, act_out, act_in, act_by, Arrival, run_from, IsBlockNumber, IsInItsBlock, RunsKeepToBlocks, Protocol, Way, Flags, Kind, kind, Rules, RulesInvariant, IsPortBlock, pair_of, PortBlock, NumberAssignment, Endpoint, Redirect, assignment_rules}
+use Rattle.napt_rules.specs.Prelude.{Binding, Each, is_live, with_live_flows, purge, is_of_source, other_bindings, held_or_new_number, block_of, inbound_rules, candidates, is_free, redirect_binding, opening, new_binding, row, LegEffect, outbound_packet, inbound_packet, act_out, act_in, act_by, Arrival, run_from, IsBlockNumber, IsInItsBlock, RunsKeepToBlocks, Protocol, Way, Flags, Kind, kind, Rules, RulesInvariant, IsPortBlock, pair_of, PortBlock, NumberAssignment, Endpoint, Redirect, assignment_rules}
 use Rattle.napt_rules.specs.declared.{OutboundPacket.OutboundPacket, Row.Row, Leg.Leg}
-use Rattle.napt_laws.proofs.{Acts.of_act, Blocks.each_of_block, Lists.{each_pushed, each_kept, find_passes}, Quotas.granted_is_chosen, HeldNumbers.each_rows, Endpoints.inside_parts, SeenElements.ended}
+use Rattle.napt_laws.proofs.{LegCases.of_act, Blocks.each_of_block, Lists.{each_pushed, each_kept, find_passes}, Quotas.granted_is_chosen, HeldNumbers.each_rows, Endpoints.inside_parts, SeenElements.ended}
 use Rattle.napt_laws.proofs.{StepRows.{out_keeps, in_keeps}, RunInduction.run_keeps}
 
 -- A candidate is a number of the host's block, if it has one.
@@ -34,7 +34,7 @@ module _ (rules : Rules) (keeps : RulesInvariant rules) where
       (list : List Binding) (none : find (is_of_source address packet) (purge rules.timers packet.now list) ≡ None)
       (h : AreInBlocks (map row list)) (n : ℕ) where
     granted_in_block : (held : Option Binding) → find (is_of_source address packet) list ≡ held →
-        granted_again (assignment_rules rules) list address packet held ≡ Ok n →
+        held_or_new_number (assignment_rules rules) list address packet held ≡ Ok n →
         IsInItsBlock rules (row (new_binding address packet n))
     granted_in_block None is e = λ loose. subst (λ (b : Option PortBlock). IfSome b (λ block. IsBlockNumber block n))
         its

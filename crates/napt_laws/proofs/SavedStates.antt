@@ -7,8 +7,8 @@ use Rattle.napt_config.specs.Rules.{contains_address}
 use Rattle.napt_config.proofs.Pools.{paired_in_pool}
 use Rattle.napt_rules.specs.Prelude.{Binding, Each, bindings_at, is_at, hold_ago, live_and_held, row, opening, dynamic_bindings, with_redirects, last_clock, RunResult, State, effect_from, next_state, run_result_from, act_behind, run_then, Arrival, LegAct, IsPaired, IsSound, IsInItsBlock, misfit_in, TakesState, AreFlowsOwn, IsBindingOwn, AreAlike, AreBindingsLeft, IsStateInOrder, AlikeRunGoesOn, RunGoesOn, OrderedStatesAreAlike, OrderedStatesAreTaken, SavedRunGoesOn, SavedRunsGoOn, PacketsCarryNumbers, is_inside, Rules, RulesInvariant, pair_of}
 use Rattle.napt_rules.{specs.declared.{Row.Row, Outcome.Outcome}, proofs.Lists.each_filter}
-use Rattle.napt_laws.proofs.{Lists.{each_weaker, each_less, each_append, each_both, each_mapped, filter_swap}, Finds.Once, SeenElements.taken_twice, Purges.of_purge, StepsSound.purge_stays_sound, HeldNumbers.each_rows}
-use Rattle.napt_laws.proofs.{Shuffles.{each_moved, apart_moved}, AlikeLists.{purge_joined, purge_some, alike_moved, alike_then, alike_some, alike_both, alike_taken}, OneMoreInput.clock_on, ContinuedRuns.runs_go_on, RunsAlike.alike_go_on}
+use Rattle.napt_laws.proofs.{Lists.{each_weaker, each_less, each_append, each_both, each_mapped, filter_swap}, UniqueSearches.Once, SeenElements.taken_twice, Purges.of_purge, StepsSound.purge_stays_sound, HeldNumbers.each_rows}
+use Rattle.napt_laws.proofs.{Permutations.{each_moved, apart_moved}, AlikeLists.{purge_joined, purge_some, alike_moved, alike_then, alike_some, alike_both, alike_taken}, OneMoreInput.clock_on, ContinuedRuns.runs_go_on, RunsAlike.alike_go_on}
 use Rattle.napt_laws.proofs.{TakenStates.{all, state_sound, taken_sound}, OwnStates.{all_fit, own_states_stay, own_states_are_taken}}
 
 -- A LIST, SPLIT BY ADDRESS

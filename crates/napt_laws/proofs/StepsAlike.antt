@@ -3,12 +3,12 @@ use Rattle.std.proofs.Common.{◌≡◌, ℕ, Bool, true, false, not, ◌&&◌, 
 use Rattle.std.{specs.{List.{Sorted.IsPermutation}, Option.option_map}, proofs.lemmas.{List.{length-map, Sorted.{IsPermutation-refl, length_permutation, list_any-IsPermutation}}, Option.same_Some, Bool.and_parts}}
 use Rattle.napt_wire.specs.declared.Protocol.TheVariants as protocols
 use Rattle.napt_wire.specs.declared.Kind.TheVariants.{Udp, Tcp, Echo, ErrorOf}
-use Rattle.napt_rules.specs.Prelude.{Binding, change_first, has_number, is_of_inside, is_live, with_live_flows, purge, hold_ago, live_and_held, permits, row, counts_for, count_for, reaches_quota, choice, is_free, candidates, assignment_rules, inbound_rules, is_of_source, binding_after_out, OutboundEffect, out_made, granted_again, out_found, step_out, is_of_destination, binding_after_in, is_of_live_destination, live_binding_after_in, InboundEffect, in_found, step_in, no_flags, LegEffect, end_out, end_in, error_out, error_in, outbound_packet, inbound_packet, act_out, act_in, act_by, act, AreBindingsApart, IsSound, AreAlike, Protocol, Way, Outgoing, Incoming, Flags, Kind, kind, Rules, Cause, OverQuota, NoPort, Filtered}
+use Rattle.napt_rules.specs.Prelude.{Binding, change_first, has_number, is_of_inside, is_live, with_live_flows, purge, hold_ago, live_and_held, permits, row, counts_for, count_for, reaches_quota, choice, is_free, candidates, assignment_rules, inbound_rules, is_of_source, binding_after_out, OutboundEffect, out_made, held_or_new_number, out_found, step_out, is_of_destination, binding_after_in, is_of_live_destination, live_binding_after_in, InboundEffect, in_found, step_in, no_flags, LegEffect, end_out, end_in, error_out, error_in, outbound_packet, inbound_packet, act_out, act_in, act_by, act, AreBindingsApart, IsSound, AreAlike, Protocol, Way, Outgoing, Incoming, Flags, Kind, kind, Rules, Cause, OverQuota, NoPort, Filtered}
 use Rattle.napt_rules.specs.Quota.{assigned_number}
 use Rattle.napt_rules.specs.declared.{AssignmentRules.AssignmentRules, InboundRules.InboundRules, OutboundPacket.OutboundPacket, InboundPacket.InboundPacket, Leg.Leg, Row.Row}
 use Rattle.napt_config.specs.declared.settings.Timers.{Timers}
-use Rattle.napt_laws.proofs.{Lists.find_agree, Finds.{Once, passes}, SeenElements.{find_seen, purge_taken}, Endpoints.{once_inside, once_number}, StepsSound.purge_stays_sound}
-use Rattle.napt_laws.proofs.{Shuffles.{filter_moved, find_once}, AlikeLists.{filter_of, any_of_all, find_of, once_of, changed_last, alike_taken, alike_put}}
+use Rattle.napt_laws.proofs.{Lists.find_agree, UniqueSearches.{Once, passes}, SeenElements.{find_seen, purge_taken}, Endpoints.{once_inside, once_number}, StepsSound.purge_stays_sound}
+use Rattle.napt_laws.proofs.{Permutations.{filter_moved, find_once}, AlikeLists.{filter_of, any_of_all, find_of, once_of, changed_last, alike_taken, alike_put}}
 
 -- THE ROWS OF A LIST, in any order, determine whether a number is assigned and which
 
@@ -24,34 +24,34 @@ module _ (a b : List Binding) (rows : IsPermutation (map row a) (map row b)) whe
       let long = λ (l : List Binding). sym (length-map (filter (λ b. q b.row) l) row) ∙ ap length (filter_of row q l) in
       long a ∙ (sym (length_permutation _ _ (filter_moved q _ _ rows)) ∙ sym (long b))
 
-  granted_same : (granting : AssignmentRules) (address : ℕ) (packet : OutboundPacket) →
-      assigned_number granting a address packet
-      ≡ assigned_number granting b address packet
-  granted_same granting address packet =
-      ap (λ n. cond (reaches_quota granting.quota n) (Err OverQuota)
-      (ok_or (choice granting.choosing packet.block a packet.protocol address packet.inside) NoPort))
+  granted_same : (assignment : AssignmentRules) (address : ℕ) (packet : OutboundPacket) →
+      assigned_number assignment a address packet
+      ≡ assigned_number assignment b address packet
+  granted_same assignment address packet =
+      ap (λ n. cond (reaches_quota assignment.quota n) (Err OverQuota)
+      (ok_or (choice assignment.choosing packet.block a packet.protocol address packet.inside) NoPort))
       (count_same address packet.inside.address)
-      ∙ ap (λ (o : Option ℕ). cond (reaches_quota granting.quota (count_for address packet.inside.address b))
+      ∙ ap (λ (o : Option ℕ). cond (reaches_quota assignment.quota (count_for address packet.inside.address b))
       (Err OverQuota) (ok_or o NoPort))
       (find_agree (is_free a address packet.protocol) (is_free b address packet.protocol)
-      (candidates granting.choosing packet.block packet.protocol packet.inside)
+      (candidates assignment.choosing packet.block packet.protocol packet.inside)
       (free_same address packet.protocol))
 
-  again_by : (granting : AssignmentRules) (address : ℕ) (packet : OutboundPacket) (x y : Option Binding) →
+  again_by : (assignment : AssignmentRules) (address : ℕ) (packet : OutboundPacket) (x y : Option Binding) →
       option_map row x ≡ option_map row y →
-      granted_again granting a address packet x ≡ granted_again granting b address packet y
-  again_by granting address packet (Some x) (Some y) e =
+      held_or_new_number assignment a address packet x ≡ held_or_new_number assignment b address packet y
+  again_by assignment address packet (Some x) (Some y) e =
       ap (λ (r : Row). let n : Result ℕ Cause = Ok r.external.number in n) (same_Some _ _ e)
-  again_by granting address packet (Some x) None e = cc
-  again_by granting address packet None (Some y) e = cc
-  again_by granting address packet None None e = granted_same granting address packet
+  again_by assignment address packet (Some x) None e = cc
+  again_by assignment address packet None (Some y) e = cc
+  again_by assignment address packet None None e = granted_same assignment address packet
 
-  again_same : AreBindingsApart (map row a) → (granting : AssignmentRules) (address : ℕ) (packet : OutboundPacket) →
-      granted_again granting a address packet (find (is_of_source address packet) a)
-      ≡ granted_again granting b address packet (find (is_of_source address packet) b)
-  again_same apart granting address packet =
+  again_same : AreBindingsApart (map row a) → (assignment : AssignmentRules) (address : ℕ) (packet : OutboundPacket) →
+      held_or_new_number assignment a address packet (find (is_of_source address packet) a)
+      ≡ held_or_new_number assignment b address packet (find (is_of_source address packet) b)
+  again_same apart assignment address packet =
       let q : Row → Bool = is_of_inside address packet.protocol packet.inside in
-      again_by granting address packet (find (is_of_source address packet) a) (find (is_of_source address packet) b)
+      again_by assignment address packet (find (is_of_source address packet) a) (find (is_of_source address packet) b)
       (find_of row q a ∙ (find_once q _ _ rows (once_of row q a
       (once_inside address packet.protocol packet.inside a apart)) ∙ sym (find_of row q b)))
 
@@ -102,7 +102,7 @@ module _ (timers : Timers) (now : ℕ) (q : Row → Bool) (g : Binding → Bindi
 module _ (timers : Timers) (a b : List Binding) (one : AreBindingsApart (map row a))
     (other : AreBindingsApart (map row b))
     (rows : IsPermutation (map row a) (map row b)) where
-  module _ (granting : AssignmentRules) (address : ℕ) (packet : OutboundPacket)
+  module _ (assignment : AssignmentRules) (address : ℕ) (packet : OutboundPacket)
       (alike : AreAlike timers packet.now a b) where
     abbrev source : Row → Bool
     source = is_of_inside address packet.protocol packet.inside
@@ -119,12 +119,13 @@ module _ (timers : Timers) (a b : List Binding) (one : AreBindingsApart (map row
 
     out_alike : (o : Option Binding) → find (is_of_source address packet) (purge timers packet.now a) ≡ o →
         find (is_of_source address packet) (purge timers packet.now b) ≡ o → AreOutAlike timers packet.now
-        (out_found timers granting a address packet o) (out_found timers granting b address packet o)
+        (out_found timers assignment a address packet o) (out_found timers assignment b address packet o)
     out_alike None in_a in_b =
         subst (λ (r : Result ℕ Cause). AreOutAlike timers packet.now
-        (out_made a address packet (granted_again granting a address packet (find (is_of_source address packet) a)))
-        (out_made b address packet r)) (again_same a b rows one granting address packet)
-        (made_alike (granted_again granting a address packet (find (is_of_source address packet) a)))
+        (out_made a address packet (held_or_new_number assignment a address packet
+        (find (is_of_source address packet) a)))
+        (out_made b address packet r)) (again_same a b rows one assignment address packet)
+        (made_alike (held_or_new_number assignment a address packet (find (is_of_source address packet) a)))
     out_alike (Some binding) in_a in_b = record {
       number = refl;
       through = refl;

@@ -2,7 +2,7 @@
 use Rattle.std.proofs.Common.{◌≡◌, ◌≢◌, ℕ, Bool, true, false, not, ◌&&◌, cond, List, [], ◌∷◌, ◌++◌, Option, Some, None, Result, Ok, Err, refl, sym, ◌∙◌, ap, eqb, eq-eqb, append-nil, find}
 use Rattle.std.proofs.lemmas.{Bool.{ne_eqb, eqb-true, and_parts, true≢false}, List.Elements.filter-append}
 use Rattle.napt_rules.specs.declared.{AssignmentRules.AssignmentRules, InboundRules.InboundRules}
-use Rattle.napt_rules.specs.Prelude.{Binding, same_protocol, same_endpoint, is_at, bindings_at, is_live, purge, permits, is_of_source, is_of_live_source, binding_after_out, live_binding_after_out, other_bindings, new_binding, out_made, granted_again, out_found, out_taken, is_of_destination, is_of_live_destination, live_binding_after_in, in_found, in_taken, Cause, Timers}
+use Rattle.napt_rules.specs.Prelude.{Binding, same_protocol, same_endpoint, is_at, bindings_at, is_live, purge, permits, is_of_source, is_of_live_source, binding_after_out, live_binding_after_out, other_bindings, new_binding, out_made, held_or_new_number, out_found, out_taken, is_of_destination, is_of_live_destination, live_binding_after_in, in_found, in_taken, Cause, Timers}
 use Rattle.napt_rules.specs.declared.{Row.Row, OutboundPacket.OutboundPacket, InboundPacket.InboundPacket}
 use Rattle.napt_laws.proofs.{Lists.{find_filter, filter_swap, filter_narrow, filter_change, filter_change_other}, Purges.of_purge, StepCases.{in_passed, of_out, of_in}, Quotas.granted_local}
 
@@ -27,7 +27,7 @@ seen_local timers now address q list =
 
 -- OUTGOING PACKETS
 
-module _ (timers : Timers) (granting : AssignmentRules) (address : ℕ) (packet : OutboundPacket) where
+module _ (timers : Timers) (assignment : AssignmentRules) (address : ℕ) (packet : OutboundPacket) where
   abbrev is_its : Binding → Bool
   is_its b = same_protocol packet.protocol b.row.protocol && same_endpoint packet.inside b.row.inside
 
@@ -54,38 +54,40 @@ module _ (timers : Timers) (granting : AssignmentRules) (address : ℕ) (packet 
       ∙ sym (of_push address (other_bindings address packet list) new (eq-eqb address address refl)))
 
   again_local : (list : List Binding) (held : Option Binding) →
-      granted_again granting (bindings_at address list) address packet held
-      ≡ granted_again granting list address packet held
+      held_or_new_number assignment (bindings_at address list) address packet held
+      ≡ held_or_new_number assignment list address packet held
   again_local list (Some held) = refl
-  again_local list None = granted_local granting list address packet
+  again_local list None = granted_local assignment list address packet
 
   out_found_local : (list : List Binding) (found : Option Binding) →
-      out_found timers granting (bindings_at address list) address packet found ≡ record {
-        number = (out_found timers granting list address packet found).number;
-        through = (out_found timers granting list address packet found).through;
-        list = bindings_at address (out_found timers granting list address packet found).list;
+      out_found timers assignment (bindings_at address list) address packet found ≡ record {
+        number = (out_found timers assignment list address packet found).number;
+        through = (out_found timers assignment list address packet found).through;
+        list = bindings_at address (out_found timers assignment list address packet found).list;
       }
   out_found_local list (Some b) =
-      ap (λ (l : List Binding). record (out_found timers granting list address packet (Some b)) { list = l })
+      ap (λ (l : List Binding). record (out_found timers assignment list address packet (Some b)) { list = l })
       (sym (filter_change (λ b. is_at address b.row) (is_of_live_source timers address packet)
       (live_binding_after_out timers packet)
       list is_there (λ b. refl)))
   out_found_local list None =
       ap (λ (held : Option Binding). out_made (bindings_at address list) address packet
-      (granted_again granting (bindings_at address list) address packet held))
+      (held_or_new_number assignment (bindings_at address list) address packet held))
       (find_filter (λ b. is_at address b.row) is_its list)
       ∙ (ap (out_made (bindings_at address list) address packet)
       (again_local list (find (is_of_source address packet) list))
-      ∙ out_made_local list (granted_again granting list address packet (find (is_of_source address packet) list)))
+      ∙ out_made_local list (held_or_new_number assignment list address packet
+      (find (is_of_source address packet) list)))
 
   -- An outgoing packet depends on the bindings of its address alone.
-  pub out_local : (list : List Binding) → out_taken timers granting address packet (bindings_at address list) ≡ record {
-    number = (out_taken timers granting address packet list).number;
-    through = (out_taken timers granting address packet list).through;
-    list = bindings_at address (out_taken timers granting address packet list).list;
-  }
+  pub out_local : (list : List Binding) → out_taken timers assignment address packet (bindings_at address list)
+      ≡ record {
+        number = (out_taken timers assignment address packet list).number;
+        through = (out_taken timers assignment address packet list).through;
+        list = bindings_at address (out_taken timers assignment address packet list).list;
+      }
   out_local list =
-      ap (out_found timers granting (bindings_at address list) address packet)
+      ap (out_found timers assignment (bindings_at address list) address packet)
       (seen_local timers packet.now address is_its list)
       ∙ out_found_local list (find (is_of_source address packet) (purge timers packet.now list))
 
@@ -101,9 +103,9 @@ module _ (timers : Timers) (granting : AssignmentRules) (address : ℕ) (packet 
 
     -- An outgoing packet changes no other address's bindings.
     pub out_other : (list : List Binding) →
-        bindings_at other (out_taken timers granting address packet list).list ≡ bindings_at other list
+        bindings_at other (out_taken timers assignment address packet list).list ≡ bindings_at other list
     out_other list =
-        of_out (λ (l : List Binding). bindings_at other l ≡ bindings_at other list) timers address list refl granting
+        of_out (λ (l : List Binding). bindings_at other l ≡ bindings_at other list) timers address list refl assignment
         packet
         (filter_change_other (λ b. is_at other b.row) (is_of_live_source timers address packet)
         (live_binding_after_out timers packet)

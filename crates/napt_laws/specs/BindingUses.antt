@@ -21,9 +21,9 @@ BindingUseIsSaid (Err cause) before after through = through ≡ None
 
 abbrev pub OutboundNamesItsBinding : Type 0
 OutboundNamesItsBinding = (timers : Timers) → AreTimers timers →
-    (granting : AssignmentRules) (address : ℕ) (packet : OutboundPacket)
+    (assignment : AssignmentRules) (address : ℕ) (packet : OutboundPacket)
     (list : List Binding) →
-    let out : OutboundEffect = step_out timers granting address packet list in
+    let out : OutboundEffect = step_out timers assignment address packet list in
     BindingUseIsSaid out.number (by_inside timers address packet.now packet.protocol packet.inside list)
     (by_inside timers address packet.now packet.protocol packet.inside out.list) out.through
 

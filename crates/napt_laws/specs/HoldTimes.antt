@@ -67,12 +67,12 @@ pub record AreBindingsAccounted (timers : Timers) (now : ℕ) (list : List Bindi
 
 -- Each step of an outgoing packet preserves the invariant, so that `apart` holds of all bindings that a run makes.
 abbrev pub OutKeepsAccounts : Type 0
-OutKeepsAccounts = (pair : ℕ → ℕ) (timers : Timers) → AreTimers timers → (granting : AssignmentRules) (address : ℕ)
+OutKeepsAccounts = (pair : ℕ → ℕ) (timers : Timers) → AreTimers timers → (assignment : AssignmentRules) (address : ℕ)
     (packet : OutboundPacket) (list : List Binding) → IsSound pair list → address ≡ pair packet.inside.address →
     IsNumber packet.protocol packet.inside.number → IfSome packet.block IsPortBlock → (now : ℕ) → now ≤ packet.now →
     (holders : List Holder) → AreBindingsAccounted timers now list holders →
-    AreBindingsAccounted timers packet.now (step_out timers granting address packet list).list
-    (holders_after timers packet.now (step_out timers granting address packet list).through holders)
+    AreBindingsAccounted timers packet.now (step_out timers assignment address packet list).list
+    (holders_after timers packet.now (step_out timers assignment address packet list).through holders)
 
 abbrev pub InKeepsAccounts : Type 0
 InKeepsAccounts = (timers : Timers) → AreTimers timers → (inbound : InboundRules) (address : ℕ) (packet : InboundPacket)

@@ -32,13 +32,13 @@ second_of leg (Onward place packet) = record leg { way = Incoming; packet = pack
 second_of leg _ = []
 
 -- The end of an outgoing leg determines the second leg of its input.
-abbrev pub IsSeconded : List LegAct → LegAct → Type 0
-IsSeconded acts a = a.leg.way ≡ Outgoing → second_legs a.leg.number acts ≡ second_of a.leg a.end
+abbrev pub HasItsSecondLeg : List LegAct → LegAct → Type 0
+HasItsSecondLeg acts a = a.leg.way ≡ Outgoing → second_legs a.leg.number acts ≡ second_of a.leg a.end
 
 abbrev pub AnswersFillPlaces : Type 0
 AnswersFillPlaces = (rules : Rules) (state : State) (inputs : List Arrival) →
     let course : RunEffect = effect_from rules state inputs in
-    Each (IsSeconded course.acts) course.acts
+    Each (HasItsSecondLeg course.acts) course.acts
 
 -- One more input from inside adds a first leg at its host's address, and perhaps a second leg at its destination's.
 abbrev pub PlacesStandForLegs : Type 0

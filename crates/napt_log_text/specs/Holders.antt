@@ -3,7 +3,7 @@ use Rattle.std.specs.Prelude.{ℕ, ◌-◌, ◌==◌, nat_le, Bool, true, false,
 use Rattle.napt_wire.specs.declared.Protocol.{Protocol}
 use Rattle.napt_config.specs.{Rules.{Rules, pool_place}, Text.address_text}
 use Rattle.napt_records.specs.Report.{protocol_name, endpoint_text}
-use Rattle.napt_account.specs.declared.{log.Entry.Entry, question.Party.Party}
+use Rattle.napt_account.specs.declared.{log.Entry.Entry, party.Party.Party}
 use Rattle.napt_log_text.specs.{declared.request.{Request.Request, NearestEntries.NearestEntries, TimeSpan.TimeSpan}, Times.{TimeText, seconds_text, moment_text}}
 
 -- An end after the last packet comes only if no packet does.

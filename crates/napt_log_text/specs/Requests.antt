@@ -2,7 +2,7 @@
 use Rattle.std.specs.Prelude.{ℕ, nat_lt, nat_le, Bool, true, false, ◌&&◌, Option, Some, None, List, filter, find, fold, if◌then◌else◌}
 use Rattle.napt_wire.specs.declared.Protocol.{Protocol}
 use Rattle.napt_rules.specs.Prelude.{same_protocol}
-use Rattle.napt_account.specs.{Questions.is_meant, declared.log.Entry.Entry}
+use Rattle.napt_account.specs.{Parties.is_meant, declared.log.Entry.Entry}
 use Rattle.napt_log_text.specs.declared.request.{Request.Request, TimeSpan.TimeSpan}
 
 -- Returns whether a protocol is the requested one; if none is requested, every protocol is.

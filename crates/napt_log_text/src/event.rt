@@ -3,7 +3,7 @@ ghost use Rattle.std.specs.Prelude.{◌≡◌, ◌++◌, OnOk, Some, decimal, co
 ghost use Rattle.napt_log_text.specs.Rows as rows;
 
 use crate::digits::{add_address, add_number};
-use crate::moment::TimeStamp;
+use crate::time_stamp::TimeStamp;
 use itoa::Buffer;
 use napt_account::{Entry, LogEntry, Shortage};
 use napt_config::Config;

@@ -3,8 +3,8 @@ ghost use Rattle.std.specs.Prelude.{◌≡◌, ◌++◌, OnOk, false, option_map
 ghost use Rattle.napt_log_text.specs.Holders as holders;
 
 use crate::digits::{add_address, add_endpoint, add_number};
-use crate::moment::TimeStamp;
 use crate::request::{NearestEntries, Request, TimeSpan};
+use crate::time_stamp::TimeStamp;
 use napt_account::{Entry, Party};
 use napt_config::Config;
 use napt_records::protocol_name;

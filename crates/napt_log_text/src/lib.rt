@@ -10,9 +10,9 @@ mod json_object;
 mod log_reader;
 mod log_row;
 mod log_rows;
-mod moment;
 mod request;
 mod suffix;
+mod time_stamp;
 
 pub use digits::{add_address, add_endpoint, add_number};
 pub use event::{LogEvent, header};
@@ -24,6 +24,6 @@ pub use log_rows::{
     add_first, add_living, add_opening, add_part, begins_piece, effects_have_the_rows, log_grows,
     logs_join,
 };
-pub use moment::TimeStamp;
 pub use napt_account::LogEntry;
 pub use request::{NearestEntries, Request, TimeSpan};
+pub use time_stamp::TimeStamp;

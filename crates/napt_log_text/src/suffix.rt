@@ -8,12 +8,12 @@ use std::marker::Model;
 use std::str;
 
 /// The capacity in bytes. An endpoint needs 21.
-const ROOM: usize = 40;
+const SUFFIX_BYTES: usize = 40;
 
 /// The end of an ASCII text, which grows to the front and takes no memory from the heap.
 #[derive(Drop)]
 pub(crate) struct Suffix {
-    bytes: [u8; ROOM],
+    bytes: [u8; SUFFIX_BYTES],
     start: usize,
 }
 
@@ -32,8 +32,8 @@ impl Suffix {
         ensures { result ≡ [] }
     {
         Suffix {
-            bytes: [0; ROOM],
-            start: ROOM,
+            bytes: [0; SUFFIX_BYTES],
+            start: SUFFIX_BYTES,
         }
     }
 

@@ -3,7 +3,7 @@
 ghost use Rattle.std.specs.Prelude.{◌≡◌, Bool, true, false, IsTrue};
 
 /// The largest number of times that a worker asks for one item.
-const MAX_REQUESTS: u32 = 1_000_000;
+const MOST_REQUESTS: u32 = 1_000_000;
 
 /// A gate that each worker asks before each step. It delays workers, but affects no result.
 pub trait Gate {
@@ -31,11 +31,11 @@ impl Gate for OpenGate {
     }
 }
 
-/// Asks the gate until it is open, at most `MOST_ASKS` times, and returns whether it is.
+/// Asks the gate until it is open, at most `MOST_REQUESTS` times, and returns whether it is.
 pub(crate) fn enter_gate<G: Gate>(gate: &G, worker: u32, turn: u64) -> bool
     ensures { G.is_open ≡ true → IsTrue result }
 {
-    for _ in 0..MAX_REQUESTS {
+    for _ in 0..MOST_REQUESTS {
         if gate.enter(worker, turn) {
             return true;
         }

@@ -16,9 +16,9 @@ can_fail streams named role.ToOutside = is_some named.to_outside || not streams.
 can_fail streams named other = names_file named other
 
 -- A fault of the outside capture requires that one is named.
-abbrev pub IsOfGiven : CommandLineFiles → Fault → Type 0
-IsOfGiven named (Capture Outside fault) = is_some named.outside ≡ true
-IsOfGiven named other = Unit {0}
+abbrev pub IsOfNamedCapture : CommandLineFiles → Fault → Type 0
+IsOfNamedCapture named (Capture Outside fault) = is_some named.outside ≡ true
+IsOfNamedCapture named other = Unit {0}
 
 -- A fault of the log comes only if a log is named.
 abbrev pub IsOfLog : CommandLineFiles → Fault → Type 0
@@ -41,7 +41,7 @@ IsRunStop streams named stop.Log = is_some named.log ≡ true
 IsRunStop streams named (stop.State refusal) = is_some named.resume ≡ true
 IsRunStop streams named stop.Save = is_some named.save ≡ true
 IsRunStop streams named (stop.Run fault) =
-    (is_shut_gate_fault fault ≡ false) × IsOfGiven named fault × IsOfLog named fault
+    (is_shut_gate_fault fault ≡ false) × IsOfNamedCapture named fault × IsOfLog named fault
 IsRunStop streams named other = ⊥
 
 -- The text of the help or the version could not be made or printed.

@@ -23,9 +23,9 @@ log_written contents pieces made = either (writer_contents contents) pieces (dev
 
 -- Each device reads or writes the bytes of its file, from the bytes of standard input and standard output, and those
 -- that a file has left to read and has written.
-abbrev pub AreOver : {S T F : Type 0} → (S → Bytes) → (T → Bytes) → (F → Bytes) → (F → Bytes)
+abbrev pub AreDevicesOfFiles : {S T F : Type 0} → (S → Bytes) → (T → Bytes) → (F → Bytes) → (F → Bytes)
     → RunFiles S T F → RunDevices S T F → Type 0
-AreOver input output remaining contents files devices =
+AreDevicesOfFiles input output remaining contents files devices =
     (device_bytes_left (either input remaining) devices.inside ≡ either input remaining files.inside)
     × (option_map (device_bytes_left (either input remaining)) (left devices.outside)
     ≡ option_map (either input remaining) files.outside)

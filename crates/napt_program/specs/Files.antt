@@ -7,8 +7,8 @@ use Rattle.napt_program.specs.declared.role.FileRole.TheVariants as role
 use Rattle.napt_program.specs.declared.stop.Stop.TheVariants as stop
 
 -- Exactly the named files are open, with a standard stream for `-` and in place of a capture that is not named.
-abbrev pub AreOpen : {S T F : Type 0} → CommandLineFiles → RunFiles S T F → Type 0
-AreOpen named files = (is_left files.inside ≡ is_standard named role.Inside)
+abbrev pub AreNamedFilesOpen : {S T F : Type 0} → CommandLineFiles → RunFiles S T F → Type 0
+AreNamedFilesOpen named files = (is_left files.inside ≡ is_standard named role.Inside)
     × (option_map is_left files.outside ≡ option_map is_dash named.outside)
     × (is_left files.to_outside ≡ is_standard named role.ToOutside)
     × (option_map is_left files.to_inside ≡ option_map is_dash named.to_inside)
@@ -21,7 +21,7 @@ is_stream_log device = either is_left (λ pieces. false) device
 -- Exactly the named files are open, with the log, which is in pieces if they are requested.
 abbrev pub AreOpenWithLog : {S T F P : Type 0} → CommandLineFiles → FilesWithLog S T F P → Type 0
 AreOpenWithLog named opened =
-    AreOpen named opened.files
+    AreNamedFilesOpen named opened.files
     × (option_map (λ log. is_stream_log log.device) opened.log ≡ option_map is_dash named.log)
     × IfSome opened.log (λ log. is_left log.device ≡ not (has_pieces named))
 

@@ -46,8 +46,8 @@ abbrev pub piece_name : List ℕ → ℕ → List ℕ
 piece_name log number = log ++ (codes "." ++ decimal number)
 
 -- No piece of the log has this name.
-abbrev pub IsOfNoPiece : List ℕ → List ℕ → Type 0
-IsOfNoPiece log name = (number : ℕ) → 0 < number → number < 2 ^ 64 → name ≢ piece_name log number
+abbrev pub IsNoPieceName : List ℕ → List ℕ → Type 0
+IsNoPieceName log name = (number : ℕ) → 0 < number → number < 2 ^ 64 → name ≢ piece_name log number
 
 -- Returns the number of the piece that is being written.
 abbrev pub piece_of : {R F A : Type 0} → LogPieces R F A → ℕ

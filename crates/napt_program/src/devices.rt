@@ -2,13 +2,13 @@
 
 ghost use Rattle.std.specs.{Prelude.{◌≡◌, IfErr, IfOk, is_some, option_map}, Io.Buffered.{reader_remaining, writer_contents}};
 ghost use Rattle.either.specs.Either.{either, is_left, left};
-ghost use Rattle.napt_program.specs.Devices.{AreOver, device_bytes_left, bytes_written, log_written};
+ghost use Rattle.napt_program.specs.Devices.{AreDevicesOfFiles, device_bytes_left, bytes_written, log_written};
 
 use crate::files::RunFiles;
 use crate::log_file::LogOutput;
 use crate::stop::{MEMORY, Stop};
 use either::{Either, Left, Right};
-use napt_capture::{EmptySource, NullSink, ROOM, Watched};
+use napt_capture::{EmptySource, NullSink, READ_AHEAD_BYTES, Watched};
 use std::alloc::Global;
 use std::io::{BufReader, BufWriter, Read, Write};
 
@@ -17,7 +17,7 @@ pub(crate) const BUFFERED: usize = 65_536;
 
 /// The size of an output's buffer in bytes if there is a log. Between two flushes no more bytes
 /// come than both captures read ahead, so none is written before the log has been flushed.
-pub(crate) const HELD: usize = 2 * ROOM;
+pub(crate) const HELD: usize = 2 * READ_AHEAD_BYTES;
 
 /// A device for each file of a run, as `RunFiles` names them. `EmptySource` replaces a capture that
 /// was not given, and `NullSink` an output that was not requested.
@@ -47,7 +47,7 @@ pub fn buffered<S: Read + Drop, T: Write + Drop, F: Read + Write + Drop>(
     held: usize,
 ) -> Result<RunDevices<S, T, F>, Stop>
     ensures over { IfOk result
-        (AreOver S.remaining T.contents F.remaining F.contents files) }
+        (AreDevicesOfFiles S.remaining T.contents F.remaining F.contents files) }
     ensures refused { IfErr result (λ stop. stop ≡ MEMORY) }
 {
     Ok(RunDevices {

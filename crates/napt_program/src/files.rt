@@ -2,7 +2,7 @@
 
 ghost use Rattle.std.specs.Prelude.{◌≡◌, IfErr, IfOk, IsSome, None, false, option_map, string_bytes, true};
 ghost use Rattle.either.specs.Either.{is_left};
-ghost use Rattle.napt_program.specs.{CommandLine.{files_of, files_with_log}, Files.{AreInputsOpen, AreOpen, AreOpenWithLog, IsFileStop, IsOpenStop}};
+ghost use Rattle.napt_program.specs.{CommandLine.{files_of, files_with_log}, Files.{AreInputsOpen, AreNamedFilesOpen, AreOpenWithLog, IsFileStop, IsOpenStop}};
 ghost use Rattle.napt_program.specs.{LogFiles.LogTextIsKept, Standard.{has_pieces, is_dash}};
 
 use crate::file_locations::{is_log_lost, lost_file};
@@ -120,7 +120,7 @@ fn with_outputs<'r, R: Files + Input + Print>(
     inputs: InputFiles<Box<R::Reader>, R::File>,
 ) -> Result<RunFiles<Box<R::Reader>, Printer<'r, R>, R::File>, Stop>
     ensures open { AreInputsOpen (files_of options.now) inputs
-        → IfOk result (AreOpen (files_of options.now)) }
+        → IfOk result (AreNamedFilesOpen (files_of options.now)) }
     ensures refused { IfErr result (IsFileStop (files_of options.now)) }
 {
     let InputFiles { inside, outside } = inputs;

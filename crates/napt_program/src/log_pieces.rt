@@ -1,7 +1,7 @@
 //! A log in pieces: the files FILE.1, FILE.2 and so on, each of which begins with the header.
 
 ghost use Rattle.std.specs.{Prelude.{◌≡◌, ◌⊎◌, ℕ, ◌<◌, ◌^◌, ◌&&◌, IfErr, IfOk, IfSome, None, decimal, false, nat_lt, slice_index, string_bytes, true}, Io.{KnownBytes.WriteAppends, WritesAtMost}};
-ghost use Rattle.napt_program.specs.LogFiles.{IsLogStop, IsOfNoPiece, needs_new_piece, piece_name, piece_of};
+ghost use Rattle.napt_program.specs.LogFiles.{IsLogStop, IsNoPieceName, needs_new_piece, piece_name, piece_of};
 
 use crate::devices::BUFFERED;
 use crate::file_location::folder_of;
@@ -154,7 +154,7 @@ pub(crate) fn last_piece<R: Files + AllocGlobal>(
     ensures anew { told ≡ None → IfOk result (λ last. last ≡ 0) }
     ensures piece { IfSome told (λ told. IfOk result (λ last. (last ≡ 0) ⊎ (last ≡ told.piece))) }
     ensures save { IfOk result (λ _.
-        IfSome save.entry (λ it. IsOfNoPiece path.now (string_bytes it.now))) }
+        IfSome save.entry (λ it. IsNoPieceName path.now (string_bytes it.now))) }
     ensures stop { IfErr result IsLogStop }
 {
     if let Some(save) = save {

@@ -319,11 +319,11 @@ fn name_of_misfit(misfit: Misfit) -> &'static str
     match misfit {
         Misfit::NotInside => "not-inside",
         Misfit::NotPaired => "not-paired",
-        Misfit::NotItsNumber => "not-its-number",
+        Misfit::BadNumber => "not-its-number",
         Misfit::UsedLater => "used-later",
-        Misfit::FlowsShare => "flows-share",
+        Misfit::FlowsShareRemote => "flows-share",
         Misfit::Redirected => "redirected",
-        Misfit::Shared => "shared",
+        Misfit::EndpointShared => "shared",
     }
 }
 
@@ -343,17 +343,17 @@ pub fn name_of_config_fault(fault: ConfigFault) -> &'static str
         ConfigFault::BadWord => "bad-word",
         ConfigFault::BadSeed => "bad-seed",
         ConfigFault::SeedUnused => "seed-unused",
-        ConfigFault::DoubleAddress => "double-address",
+        ConfigFault::DuplicateAddress => "double-address",
         ConfigFault::PoolInside => "pool-inside",
         ConfigFault::PrefixesOverlap => "prefixes-overlap",
         ConfigFault::BlockTooLarge => "block-too-large",
         ConfigFault::PairWithBlock => "pair-with-block",
         ConfigFault::HoldWithBlock => "hold-with-block",
-        ConfigFault::DoublePair => "double-pair",
+        ConfigFault::DuplicatePair => "double-pair",
         ConfigFault::NotInPool => "not-in-pool",
         ConfigFault::NotInside => "not-inside",
         ConfigFault::RedirectInBlock => "redirect-in-block",
-        ConfigFault::DoubleRedirect => "double-redirect",
+        ConfigFault::DuplicateRedirect => "double-redirect",
         ConfigFault::TimerTooShort => "timer-too-short",
         ConfigFault::Memory => "memory",
     }

@@ -172,11 +172,11 @@ pub fn misfit_reason(misfit: Misfit) -> &'static str {
     match misfit {
         Misfit::NotInside => "its host is in no prefix of inside",
         Misfit::NotPaired => "the configuration gives its host another external address",
-        Misfit::NotItsNumber =>
+        Misfit::BadNumber =>
             "one of its numbers is 0, or its external number is not in its host's block",
         Misfit::UsedLater => "it or one of its flows was used after the state's time",
-        Misfit::FlowsShare => "two of its flows have the same remote endpoint",
+        Misfit::FlowsShareRemote => "two of its flows have the same remote endpoint",
         Misfit::Redirected => "a redirect of the configuration has one of these endpoints",
-        Misfit::Shared => "another binding of the state has one of these endpoints",
+        Misfit::EndpointShared => "another binding of the state has one of these endpoints",
     }
 }

@@ -4,7 +4,7 @@ use Rattle.std.proofs.Common.{◌≡◌, ℕ, zero, suc, ◌≤◌, max, true, f
 use Rattle.napt_capture.specs.Contents.{RecordModel}
 use Rattle.napt_rules.specs.Prelude.{Arrival, Inside, Outside, inputs_from_clock, last_clock, raised}
 use Rattle.napt_records.specs.{MergeLaws.CapturesCanBeCut, RecordMerging.{input_of, is_outside_next, merged_inputs, merged_from}}
-use Rattle.napt_records.proofs.Merges.{Steps, hands, of_merged}
+use Rattle.napt_records.proofs.MergeSteps.{Steps, hands, of_merged}
 
 -- A cut after `count` inputs, with clocks from `clock` on, in ns.
 record CutFrom (ins : List RecordModel) (clock : ℕ) (outs : List RecordModel) (xs : List Arrival)

@@ -5,7 +5,7 @@ use Rattle.std.proofs.Common.{◌≡◌, ℕ, Bool, true, false, All, List, [], 
 use Rattle.napt_capture.specs.{declared.{device.Source.Ghosts, record_reader.RecordReader.RecordReader, fault.CaptureFault.CaptureFault}, Contents.RecordModel, Capture.CaptureReading}
 use Rattle.napt_capture.specs.Reading.{IsReadFault}
 use Rattle.napt_records.{specs.declared.{stream.RecordStream.RecordStream, stream_merger.StreamMerger.StreamMerger}, proofs.ReaderRests.StopsBy-then}
-use Rattle.napt_records.{proofs.Merges.{IsKnown, hands_until, takes_timely}, specs.Output.IsTimely}
+use Rattle.napt_records.{proofs.MergeSteps.{IsKnown, hands_until, takes_timely}, specs.Output.IsTimely}
 use Rattle.napt_records.specs.StreamMergers.{IsMergerLive, AreSame, MergeEndsWith, HandsOutInputs, ReadAheadPost, TakesAny, NextOk, cut_of}
 use Rattle.napt_records.specs.UnreadInputs.{InputsCameFirst, KnownStays, merger_rest, reader_rest, holds_by, inputs_of, stream_holds}
 use Rattle.napt_records.specs.RecordMerging.{MergedInputs, TakesRecord, at_fault, inputs_from, is_outside_next}

@@ -13,7 +13,7 @@ use Rattle.napt_records.{specs.{UnreadInputs.{InputsCameFirst, reader_rest, hold
 -- WHAT IS LEFT AFTER THE HEADER is all records of the capture
 
 left_behind : (records : RecordReader) (left : Option (List ℕ)) (bytes : List ℕ) →
-    LeavesBytes (Some bytes) left (λ bytes left. (format_in (take 24 bytes) ≡ Ok records.spelling) ×
+    LeavesBytes (Some bytes) left (λ bytes left. (format_in (take 24 bytes) ≡ Ok records.format) ×
     (left ≡ drop 24 bytes))
     → records.ahead ≡ [] → records.number ≡ 1
     → option_map (reader_rest records []) (remaining_text records left) ≡ Some (capture_of_bytes bytes)

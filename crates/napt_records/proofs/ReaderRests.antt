@@ -9,9 +9,9 @@ use Rattle.napt_records.specs.UnreadInputs.{KnownStays, reader_rest}
 
 pub held_whole : (old new : RecordReader) (a b : Option (List ℕ)) (entry : RecordModel) →
     LeavesBytes a b (HandsOutNext old (Ok (Whole entry))) → new.number ≡ number_behind old.number →
-    new.spelling ≡ old.spelling
+    new.format ≡ old.format
     → KnownStays (option_map (reader_rest old []) a) (option_map (reader_rest new (entry ∷ [])) b)
-held_whole old new a b entry told number spelling = grind (arith, common_steps, nat_tests, held_record)
+held_whole old new a b entry told number format = grind (arith, common_steps, nat_tests, held_record)
 
 pub held_told : (old : RecordReader) (a b : Option (List ℕ)) (cut : Bool) →
     LeavesBytes a b (HandsOutNext old (Ok (End cut))) →
@@ -23,7 +23,7 @@ pub held_refused : (old : RecordReader) (a b : Option (List ℕ)) (fault : Captu
     IfSome (option_map (reader_rest old []) a) (λ held. held ≡ record { records = []; end = Err fault })
 held_refused old None b fault told = tt
 held_refused old (Some text) None fault told = absurd told
-held_refused old (Some text) (Some left) fault told = held_fault old.spelling old.number text fault told.0
+held_refused old (Some text) (Some left) fault told = held_fault old.format old.number text fault told.0
 
 pub StopsBy-says : (T : Type 0) (fault : CaptureFault) {P Q : Type 0} → (P → Q) → IsReadResult {T = T} (Err fault) P →
     IsReadFault fault Q

@@ -7,7 +7,7 @@ use Rattle.napt_records.specs.declared.{stream.RecordStream.RecordStream, stream
 pub record IsStreamNew {R : Type 0} {G : Ghosts R} (stream : RecordStream R G) (bytes : Option (List ℕ)) : Type 0 where
   pub live : stream.live.fault ≡ None
   pub header : LeavesBytes bytes (G.remaining stream.live.source.now)
-      (λ bytes left. (format_in (take 24 bytes) ≡ Ok stream.records.spelling) × (left ≡ drop 24 bytes))
+      (λ bytes left. (format_in (take 24 bytes) ≡ Ok stream.records.format) × (left ≡ drop 24 bytes))
   pub ahead : stream.records.ahead ≡ []
   pub number : stream.records.number ≡ 1
   pub cut : stream.cut ≡ None

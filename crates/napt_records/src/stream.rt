@@ -45,7 +45,7 @@ impl<'a, R: Source> OpenCapture<'a, R> {
         ensures good { OnOk result (self.old.fault ≡ None) }
         ensures number { self.old.fault ≡ None →
             IfOk result (λ next. records.new.number ≡ next_number next records.old.number) }
-        ensures spelling { records.new.spelling ≡ records.old.spelling }
+        ensures format { records.new.format ≡ records.old.format }
         ensures live { OnOk result (self.new.fault ≡ self.old.fault) }
         ensures stays { IfErr result (λ fault. self.new.fault ≡ Some fault) }
         ensures kept { self.old.fault ≡ None → OnErr result (HandsOutNothing

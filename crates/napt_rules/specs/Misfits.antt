@@ -7,7 +7,7 @@ use Rattle.std.specs.{Prelude.{ℕ, ◌==◌, nat_lt, Bool, true, false, not, �
 use Rattle.napt_wire.specs.declared.Protocol.{Protocol, TheVariants.Icmp}
 use Rattle.napt_config.specs.{Rules.{Rules, pair_of, block_of, is_inside, block_has_number}, declared.settings.PortBlock.PortBlock}
 use Rattle.napt_rules.specs.{Bindings.{Binding, same_protocol, same_endpoint}, FlowUpdates.is_flow_of, Opening.opening, Sequential.{State, taken_at_clock}}
-use Rattle.napt_rules.specs.declared.{Flow.Flow, Row.Row, Misfit.{Misfit, TheVariants.{NotInside, NotPaired, NotItsNumber, UsedLater, FlowsShare, Redirected, Shared}}}
+use Rattle.napt_rules.specs.declared.{Flow.Flow, Row.Row, Misfit.{Misfit, TheVariants.{NotInside, NotPaired, BadNumber, UsedLater, FlowsShareRemote, Redirected, EndpointShared}}}
 
 -- UNDER A CONFIGURATION
 
@@ -59,11 +59,11 @@ misfit_of rules clock binding rest =
     let row : Row = binding.row in
     cond (not (is_inside rules row.inside.address)) (Some NotInside)
     (cond (not (row.external.address == pair_of rules row.inside.address)) (Some NotPaired)
-    (cond (not (is_numbered rules row)) (Some NotItsNumber)
+    (cond (not (is_numbered rules row)) (Some BadNumber)
     (cond (is_used_after clock binding) (Some UsedLater)
-    (cond (flows_share binding.flows) (Some FlowsShare)
+    (cond (flows_share binding.flows) (Some FlowsShareRemote)
     (cond (clashes_with_any row (opening rules)) (Some Redirected)
-    (cond (clashes_with_any row rest) (Some Shared) None))))))
+    (cond (clashes_with_any row rest) (Some EndpointShared) None))))))
 
 -- ALL BINDINGS
 

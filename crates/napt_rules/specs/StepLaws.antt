@@ -16,11 +16,11 @@ PurgeStaysSound = (pair : ℕ → ℕ) (timers : Timers) (now : ℕ) (list : Lis
 
 -- Law: at its host's paired address, an outgoing packet with a valid number and block keeps the list sound.
 abbrev pub OutboundStaysSound : Type 0
-OutboundStaysSound = (pair : ℕ → ℕ) (timers : Timers) (granting : AssignmentRules) (address : ℕ)
+OutboundStaysSound = (pair : ℕ → ℕ) (timers : Timers) (assignment : AssignmentRules) (address : ℕ)
     (packet : OutboundPacket)
     (list : List Binding) → IsSound pair list → address ≡ pair packet.inside.address →
     IsNumber packet.protocol packet.inside.number → IfSome packet.block IsPortBlock →
-    IsSound pair (step_out timers granting address packet list).list
+    IsSound pair (step_out timers assignment address packet list).list
 
 abbrev pub InboundStaysSound : Type 0
 InboundStaysSound = (pair : ℕ → ℕ) (timers : Timers) (inbound : InboundRules) (address : ℕ) (packet : InboundPacket)
@@ -33,9 +33,9 @@ SoundListsAreApart = (pair : ℕ → ℕ) (list : List Binding) → IsSound pair
 
 abbrev pub OutboundLeavesTaken : Type 0
 OutboundLeavesTaken = (timers : Timers) → AreTimers timers →
-    (granting : AssignmentRules) (address : ℕ) (packet : OutboundPacket)
-    (list : List Binding) → live_and_held timers packet.now (step_out timers granting address packet list).list
-    ≡ (step_out timers granting address packet list).list
+    (assignment : AssignmentRules) (address : ℕ) (packet : OutboundPacket)
+    (list : List Binding) → live_and_held timers packet.now (step_out timers assignment address packet list).list
+    ≡ (step_out timers assignment address packet list).list
 
 abbrev pub InboundLeavesTaken : Type 0
 InboundLeavesTaken = (timers : Timers) → AreTimers timers →
@@ -56,18 +56,18 @@ LaterPurgeCounts = (timers : Timers) (earlier later : ℕ) → earlier ≤ later
     purge timers later (purge timers earlier list) ≡ purge timers later list
 
 abbrev pub OutboundIsLocal : Type 0
-OutboundIsLocal = (timers : Timers) (granting : AssignmentRules) (address : ℕ) (packet : OutboundPacket)
+OutboundIsLocal = (timers : Timers) (assignment : AssignmentRules) (address : ℕ) (packet : OutboundPacket)
     (list : List Binding) →
-    out_taken timers granting address packet (bindings_at address list) ≡ record {
-      number = (out_taken timers granting address packet list).number;
-      through = (out_taken timers granting address packet list).through;
-      list = bindings_at address (out_taken timers granting address packet list).list;
+    out_taken timers assignment address packet (bindings_at address list) ≡ record {
+      number = (out_taken timers assignment address packet list).number;
+      through = (out_taken timers assignment address packet list).through;
+      list = bindings_at address (out_taken timers assignment address packet list).list;
     }
 
 abbrev pub OutboundLeavesOthers : Type 0
-OutboundLeavesOthers = (timers : Timers) (granting : AssignmentRules) (address : ℕ) (packet : OutboundPacket)
+OutboundLeavesOthers = (timers : Timers) (assignment : AssignmentRules) (address : ℕ) (packet : OutboundPacket)
     (other : ℕ) → other ≢ address →
-    (list : List Binding) → bindings_at other (out_taken timers granting address packet list).list
+    (list : List Binding) → bindings_at other (out_taken timers assignment address packet list).list
     ≡ bindings_at other list
 
 abbrev pub InboundIsLocal : Type 0
@@ -92,10 +92,10 @@ PurgeKeepsQuota = (timers : Timers) (now at host quota : ℕ) (list : List Bindi
     count_for at host list ≤ quota → count_for at host (purge timers now list) ≤ quota
 
 abbrev pub OutboundKeepsQuota : Type 0
-OutboundKeepsQuota = (timers : Timers) (granting : AssignmentRules) (quota : ℕ) → granting.quota ≡ Some quota →
+OutboundKeepsQuota = (timers : Timers) (assignment : AssignmentRules) (quota : ℕ) → assignment.quota ≡ Some quota →
     (address : ℕ)
     (packet : OutboundPacket) (list : List Binding) (at host : ℕ) → count_for at host list ≤ quota →
-    count_for at host (step_out timers granting address packet list).list ≤ quota
+    count_for at host (step_out timers assignment address packet list).list ≤ quota
 
 abbrev pub InboundKeepsQuota : Type 0
 InboundKeepsQuota = (timers : Timers) (inbound : InboundRules) (address : ℕ) (packet : InboundPacket)

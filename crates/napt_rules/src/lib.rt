@@ -179,13 +179,13 @@ pub enum Misfit {
     /// Its external address is not the one paired with its host.
     NotPaired,
     /// One of its ports is 0, or its external number is not in the block of its host.
-    NotItsNumber,
+    BadNumber,
     /// The binding, or one of its flows, was last used after the clock of the state.
     UsedLater,
     /// Two of its flows have the same remote endpoint.
-    FlowsShare,
+    FlowsShareRemote,
     /// It shares an endpoint with a redirect of the configuration.
     Redirected,
     /// It shares an endpoint with a later binding of the state.
-    Shared,
+    EndpointShared,
 }

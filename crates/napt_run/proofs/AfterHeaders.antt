@@ -15,12 +15,12 @@ use Rattle.napt_records.proofs.ReaderRests.{StopsBy-then}
 use Rattle.napt_laws.specs.Dispatching.{IsFrontOf}
 use Rattle.napt_rules.specs.Prelude.{Arrival}
 use Rattle.napt_sequential.specs.Inputs.{InputsCame}
-use Rattle.napt_run.{specs.OutputSinks.{AreTimes, FailsBy, FailsToBegin, IsNew, IsSettled, SinkBegins, SinkTakes, TimedOutcome, records_text}, proofs.Fronts.{capture_is, front_of, times_of}}
-use Rattle.napt_run.specs.{OutputSinkLaws.{appends_none, breaks_more, grows_more, grows_none, records_text-append, times_first, times_second}, Outputs.{Breaks, OutputGrows}}
+use Rattle.napt_run.{specs.OutcomeWriters.{AreTimes, FailsBy, FailsToBegin, IsNewOutcomeWriter, IsSettled, SinkBegins, SinkTakes, TimedOutcome, records_text}, proofs.OutcomePrefixes.{capture_is, front_of, times_of}}
+use Rattle.napt_run.specs.{OutcomeWriterLaws.{appends_none, breaks_more, grows_more, grows_none, records_text-append, times_first, times_second}, Outputs.{OutputBreaks, OutputGrows}}
 use Rattle.napt_run.specs.CaptureRuns.{FailsAfter, PassesAll, PassesOr, RunPassesHalted}
 use Rattle.napt_run.specs.{LogLaws.held, Posts.{AtMostOneMore, ExtentPost, FailedPost, OutputEnds, RunsTo, capture_to, may_have_ended, output_text_by}, Runs.{IfHeld, run_left_of}, Files.files_until}
-use Rattle.napt_run.specs.{Streams.{AreTaken, IsStreamFaultOf, IsOfRun, IsReading, IsSettledBy, capture_text, side_of}, declared.{output.Output.Output, output_sinks.OutcomeWriter.OutcomeWriter, capture_run.RunTotals.RunTotals}}
-use Rattle.napt_run.proofs.{OpenStreams.{ReadBy, read_somehow, read_to_fault, read_well, told}, Breaks.first_within, OutcomeCounts.all_counted, Ends.{IfHeld-by, IsCapture, broken, ends, grown, grown_if, headed, inside_is, none_held, outside_is, same_text}, Files.{begun_files, files_large}}
+use Rattle.napt_run.specs.{Streams.{AreInputsBeforeFault, IsStreamFaultOf, IsOfRun, IsReading, IsSettledBy, capture_text, side_of}, declared.{output.Output.Output, outcome_writer.OutcomeWriter.OutcomeWriter, capture_run.ReportData.ReportData}}
+use Rattle.napt_run.proofs.{OpenStreams.{ReadBy, read_somehow, read_to_fault, read_well, told}, LaterBreaks.first_within, OutcomeCounts.all_counted, BytesAtEnd.{IfHeld-by, IsCapture, broken, ends, grown, grown_if, headed, inside_is, none_held, outside_is, same_text}, Files.{begun_files, files_large}}
 
 -- WHAT IS KNOWN OF THE CAPTURES
 
@@ -39,7 +39,7 @@ fault_told side fault all inputs never stops = grind (arith, common_steps, nat_t
 
 -- The inputs that were taken before a fault, which is the fault of the files.
 pub record Refuses (side : Side) (fault : CaptureFault) (all : MergedInputs) (inputs : List Arrival) : Type 0 where
-  pub taken : AreTaken side fault all inputs
+  pub taken : AreInputsBeforeFault side fault all inputs
   pub is_fault : IsStreamFaultOf side fault all
 
 pub refuses : (side : Side) (fault : CaptureFault) (bytes others : List ℕ) (inputs : List Arrival) →
@@ -53,9 +53,9 @@ refuses side fault bytes others inputs front stops = record {
 
 pub taken_of : (side : Side) (fault : CaptureFault) (inputs : List Arrival) (inside outside : Option (List ℕ)) →
     IfHeld inside outside (λ all. Refuses side fault all inputs) →
-    IfHeld inside outside (λ all. AreTaken side fault all inputs)
+    IfHeld inside outside (λ all. AreInputsBeforeFault side fault all inputs)
 taken_of side fault inputs inside outside refused = held (λ all. Refuses side fault all inputs)
-    (λ all. AreTaken side fault all inputs) inside outside (λ all r. r.taken) refused
+    (λ all. AreInputsBeforeFault side fault all inputs) inside outside (λ all r. r.taken) refused
 
 pub fault_of : (side : Side) (fault : CaptureFault) (inputs : List Arrival) (inside outside : Option (List ℕ)) →
     IfHeld inside outside (λ all. Refuses side fault all inputs) →
@@ -74,10 +74,10 @@ module _ {D : Type 0} {S : sink.Ghosts D} (origin : OriginModel) (side : Side) (
   grown_behind p = subst (λ (l : List ℕ). OutputGrows old l new) (capture_is origin side inputs)
       (grows_more old mid new _ _ begun p)
 
-  pub broken_behind : (fault : WriteFault) → Breaks mid Left fault new →
-      (p : Breaks old (capture_text origin side inputs) fault new) × (length file_header ≤ p.count)
+  pub broken_behind : (fault : WriteFault) → OutputBreaks mid Left fault new →
+      (p : OutputBreaks old (capture_text origin side inputs) fault new) × (length file_header ≤ p.count)
   broken_behind fault p =
-      subst (λ (l : List ℕ). (p : Breaks old l fault new) × (length file_header ≤ p.count))
+      subst (λ (l : List ℕ). (p : OutputBreaks old l fault new) × (length file_header ≤ p.count))
       (capture_is origin side inputs)
       (breaks_more old mid new _ _ fault begun p, first_within old mid new _ _ fault begun p)
 
@@ -89,7 +89,7 @@ module _ {D : Type 0} {S : sink.Ghosts D} (origin : OriginModel) (inside outside
     pub inputs : List Arrival
     pub front : IfHeld inside outside (λ all. IsFrontOf inputs all.arrivals)
     pub left : OutputGrows old (capture_text origin (side_of which) inputs) new
-        ⊎ ((fault : WriteFault) × (p : Breaks old (capture_text origin (side_of which) inputs) fault new)
+        ⊎ ((fault : WriteFault) × (p : OutputBreaks old (capture_text origin (side_of which) inputs) fault new)
         × (length file_header ≤ p.count))
 
   halted_at : (result : Result (Unit {0}) Fault) → (IsSettledBy result → ⊥) →
@@ -99,7 +99,7 @@ module _ {D : Type 0} {S : sink.Ghosts D} (origin : OriginModel) (inside outside
       FailedPost which result (S.failed old.device.now) (S.failed new.device.now)) → (inputs : List Arrival) →
       IfHeld inside outside (λ all. IsFrontOf inputs all.arrivals) →
       OutputGrows old (capture_text origin (side_of which) inputs) new
-      ⊎ ((fault : WriteFault) × (p : Breaks old (capture_text origin (side_of which) inputs) fault new)
+      ⊎ ((fault : WriteFault) × (p : OutputBreaks old (capture_text origin (side_of which) inputs) fault new)
       × (length file_header ≤ p.count)) → OutputEnds (capture_to which origin) which inside outside result old new
   halted_at result never extent failed inputs front (inl p) =
       grown _ which inside outside result old new inputs _ (same_text origin which (may_have_ended result) inputs)
@@ -196,7 +196,7 @@ module _ {R Q : Type 0} {G : source.Ghosts R} {H : source.Ghosts Q} (begin end :
 
 module _ {W V : Type 0} {S : sink.Ghosts W} {T : sink.Ghosts V} (origin : OriginModel) (bytes others : Option (List ℕ))
     (start new : OutcomeWriter W V S T) where
-  abbrev pub To : Result RunTotals Fault → Type 0
+  abbrev pub To : Result ReportData Fault → Type 0
   To result = RunsTo origin bytes others start new result
 
   abbrev GrownOutside : List Arrival → Type 0
@@ -227,7 +227,7 @@ module _ {W V : Type 0} {S : sink.Ghosts W} {T : sink.Ghosts V} (origin : Origin
   -- The output to the outside failed, and the one to the inside has the text of some first inputs, or it was not begun.
   pub fails_outside : start.to_outside.written ≡ 0 → (fault : WriteFault) (inputs : List Arrival) →
       IfHeld bytes others (λ all. IsFrontOf inputs all.arrivals) →
-      Breaks start.to_outside (capture_text origin sides.Outside inputs) fault new.to_outside →
+      OutputBreaks start.to_outside (capture_text origin sides.Outside inputs) fault new.to_outside →
       OutputEnds (capture_to Inside origin) Inside bytes others (Err (Write Outside fault)) start.to_inside
       new.to_inside →
       To (Err (Write Outside fault))
@@ -242,7 +242,7 @@ module _ {W V : Type 0} {S : sink.Ghosts W} {T : sink.Ghosts V} (origin : Origin
   -- The output to the inside failed.
   pub fails_inside : start.to_inside.written ≡ 0 → (fault : WriteFault) (inputs : List Arrival) →
       IfHeld bytes others (λ all. IsFrontOf inputs all.arrivals) → GrownOutside inputs →
-      Breaks start.to_inside (capture_text origin sides.Inside inputs) fault new.to_inside →
+      OutputBreaks start.to_inside (capture_text origin sides.Inside inputs) fault new.to_inside →
       To (Err (Write Inside fault))
   fails_inside none fault inputs first ours broke = record {
     to_outside = grown _ Outside bytes others (Err (Write Inside fault)) start.to_outside new.to_outside inputs _ refl
@@ -254,11 +254,11 @@ module _ {W V : Type 0} {S : sink.Ghosts W} {T : sink.Ghosts V} (origin : Origin
   }
 
   -- The headers could not be written.
-  pub unheaded : IsNew start → (fault : Fault) → FailsToBegin start fault new → To (Err fault)
+  pub unheaded : IsNewOutcomeWriter start → (fault : Fault) → FailsToBegin start fault new → To (Err fault)
   unheaded is_new (Write Outside fault) (broke, same) =
       let none = none_held bytes others in
       let counted = broke.counted 0 (omega (arith, is_new.none_outside)) in
-      fails_outside is_new.none_outside fault [] none (subst (λ (l : List ℕ). Breaks start.to_outside l fault
+      fails_outside is_new.none_outside fault [] none (subst (λ (l : List ℕ). OutputBreaks start.to_outside l fault
       new.to_outside) (sym (append-nil file_header) ∙ capture_is origin sides.Outside []) broke)
       (subst (λ (o : Output V T). OutputEnds (capture_to Inside origin) Inside bytes others (Err (Write Outside fault))
       start.to_inside o) (sym same)
@@ -270,7 +270,7 @@ module _ {W V : Type 0} {S : sink.Ghosts W} {T : sink.Ghosts V} (origin : Origin
       fails_inside is_new.none_inside fault [] (none_held bytes others)
       (subst (λ (l : List ℕ). OutputGrows start.to_outside l new.to_outside)
       (sym (append-nil file_header) ∙ capture_is origin sides.Outside []) wrote)
-      (subst (λ (l : List ℕ). Breaks start.to_inside l fault new.to_inside)
+      (subst (λ (l : List ℕ). OutputBreaks start.to_inside l fault new.to_inside)
       (sym (append-nil file_header) ∙ capture_is origin sides.Inside []) broke)
   unheaded is_new (Write Report fault) p = absurd p
   unheaded is_new (Write Log fault) p = absurd p
@@ -280,7 +280,7 @@ module _ {W V : Type 0} {S : sink.Ghosts W} {T : sink.Ghosts V} (origin : Origin
 pub none_read : {W V : Type 0} {S : sink.Ghosts W} {T : sink.Ghosts V} (start new : OutcomeWriter W V S T)
     (fault : Fault) →
     FailsToBegin start fault new →
-    (let told : Result RunTotals Fault = Err fault in IsReading told (Ok tt))
+    (let told : Result ReportData Fault = Err fault in IsReading told (Ok tt))
 none_read start new (Write Outside fault) p = tt
 none_read start new (Write Inside fault) p = tt
 none_read start new (Write Report fault) p = absurd p
@@ -307,7 +307,7 @@ module _ {R Q W V : Type 0} {G : source.Ghosts R} {H : source.Ghosts Q} {S : sin
     (end : StreamMerger R Q G H)
     (new : OutcomeWriter W V S T) (bytes others : Option (List ℕ)) (live : IsMergerLive begin)
     (begun : (b o : List ℕ) → bytes ≡ Some b → others ≡ Some o → IsMergerNew begin b o)
-    (is_new : IsNew start) (begins : SinkBegins start mid) where
+    (is_new : IsNewOutcomeWriter start) (begins : SinkBegins start mid) where
   times : (inputs : List Arrival) (mid : StreamMerger R Q G H) → HandsOutInputs begin inputs mid → AreTimes
       (run_left_of origin inputs)
   times inputs mid handed = grind (arith, common_steps, nat_tests, times_of, handed_timely)
@@ -326,7 +326,7 @@ module _ {R Q W V : Type 0} {G : source.Ghosts R} {H : source.Ghosts Q} {S : sin
       new.to_inside begins.to_inside (subst (λ (l : List TimedOutcome). OutputGrows mid.to_inside
       (records_text sides.Inside l) new.to_inside) is p)
 
-  well : (totals : RunTotals) → PassesAll origin begin mid end new totals →
+  well : (totals : ReportData) → PassesAll origin begin mid end new totals →
       RunsTo origin bytes others start new (Ok totals)
   well totals p =
       let whole = p.well.whole in
@@ -413,10 +413,10 @@ module _ {R Q W V : Type 0} {G : source.Ghosts R} {H : source.Ghosts Q} {S : sin
   text_of_both side first later = sym (records_text-append side first later)
 
   outside_broke : (fault : WriteFault) (e : Early (Write Outside fault)) →
-      (p : Breaks start.to_outside (capture_text origin sides.Outside e.went_is) fault new.to_outside)
+      (p : OutputBreaks start.to_outside (capture_text origin sides.Outside e.went_is) fault new.to_outside)
       × (length file_header ≤ p.count)
   outside_broke fault e = broken_behind origin sides.Outside e.went_is start.to_outside mid.to_outside new.to_outside
-      begins.to_outside fault (subst (λ (l : List ℕ). Breaks mid.to_outside l fault new.to_outside)
+      begins.to_outside fault (subst (λ (l : List ℕ). OutputBreaks mid.to_outside l fault new.to_outside)
       (text_of_both sides.Outside e.first e.later
       ∙ ap (λ (l : List TimedOutcome). records_text sides.Outside l) e.both_are)
       (breaks_more mid.to_outside e.middle.to_outside new.to_outside _ _ fault e.took_outside e.failed.0))
@@ -435,10 +435,10 @@ module _ {R Q W V : Type 0} {G : source.Ghosts R} {H : source.Ghosts Q} {S : sin
       (grows_more mid.to_outside e.middle.to_outside new.to_outside _ _ e.took_outside e.failed.0))
 
   inside_broke : (fault : WriteFault) (e : Early (Write Inside fault)) →
-      (p : Breaks start.to_inside (capture_text origin sides.Inside e.went_is) fault new.to_inside)
+      (p : OutputBreaks start.to_inside (capture_text origin sides.Inside e.went_is) fault new.to_inside)
       × (length file_header ≤ p.count)
   inside_broke fault e = broken_behind origin sides.Inside e.went_is start.to_inside mid.to_inside new.to_inside
-      begins.to_inside fault (subst (λ (l : List ℕ). Breaks mid.to_inside l fault new.to_inside)
+      begins.to_inside fault (subst (λ (l : List ℕ). OutputBreaks mid.to_inside l fault new.to_inside)
       (text_of_both sides.Inside e.first e.later ∙
       ap (λ (l : List TimedOutcome). records_text sides.Inside l) e.both_are)
       (breaks_more mid.to_inside e.middle.to_inside new.to_inside _ _ fault e.took_inside e.failed.1))
@@ -505,7 +505,7 @@ module _ {R Q W V : Type 0} {G : source.Ghosts R} {H : source.Ghosts Q} {S : sin
     told = tt;
   }
 
-  pub runs_to : (result : Result RunTotals Fault) → PassesOr origin begin mid end new result →
+  pub runs_to : (result : Result ReportData Fault) → PassesOr origin begin mid end new result →
       RunsTo origin bytes others start new result
   runs_to (Ok totals) p = well totals p
   runs_to (Err (Capture side fault)) p =
@@ -534,7 +534,7 @@ module _ {R Q W V : Type 0} {G : source.Ghosts R} {H : source.Ghosts Q} {S : sin
     (origin : OriginModel) (begin end : StreamMerger R Q G H) (mid new : OutcomeWriter W V S T)
     (live : IsMergerLive begin)
   where
-    pub reads_of : (result : Result RunTotals Fault) → PassesOr origin begin mid end new result →
+    pub reads_of : (result : Result ReportData Fault) → PassesOr origin begin mid end new result →
         (¬ IsOfRun result) → (read : Result (Unit {0}) Fault) × IsReading result read × ReadBy begin end live read
     reads_of (Ok totals) p not_run = (Ok tt, refl, read_well begin end live p.well.whole.inputs p.well.whole.came)
     reads_of (Err (Capture side fault)) p not_run =

@@ -5,7 +5,7 @@ use Rattle.napt_wire.specs.declared.Side.{Side, TheVariants.{Inside, Outside}}
 use Rattle.napt_capture.specs.declared.{device.Source.Ghosts, fault.CaptureFault.{CaptureFault, TheVariants.TooLarge}, capture_format.CaptureFormat.CaptureFormat}
 use Rattle.napt_capture.{specs.{Capture.{capture_of_bytes, capture_by_format, format_in}, Reading.LeavesBytes}, proofs.FileContents.never_large}
 use Rattle.napt_records.specs.{NewStreams.IsMergerNew, MergeLaws.held_of, RecordMerging.{MergedInputs, inputs_until}}
-use Rattle.napt_records.{specs.declared.stream_merger.StreamMerger.StreamMerger, proofs.Merges.merge_meets}
+use Rattle.napt_records.{specs.declared.stream_merger.StreamMerger.StreamMerger, proofs.MergeSteps.merge_meets}
 use Rattle.napt_run.specs.Files.{files_until, unless_bad, unless_refused}
 
 -- A header that was read of known bytes.

@@ -6,7 +6,7 @@ use Rattle.napt_capture.specs.declared.{fault.CaptureFault.CaptureFault, capture
 use Rattle.napt_capture.specs.{Capture.{capture_of_bytes, format_in}, Reading.{LeavesBytes, IsReadResult, IsReadFault}}
 use Rattle.napt_records.{specs.{RecordMerging.{MergedInputs, at_fault, inputs_until}, declared.Fault.{Fault, TheVariants.{Capture, Run, Write}}}, proofs.ReaderRests.StopsBy-says}
 use Rattle.napt_run.specs.{Files.{files_until, unless_bad, unless_refused}, Runs.IfHeld, Streams.IsHeaderFault}
-use Rattle.napt_run.proofs.{AfterHeaders.{Refuses, refuses}, Ends.IfHeld-by, Files.spelled}
+use Rattle.napt_run.proofs.{AfterHeaders.{Refuses, refuses}, BytesAtEnd.IfHeld-by, Files.spelled}
 
 -- Reading a header of these bytes had this answer.
 abbrev pub Heads : Option (List ℕ) → Option (List ℕ) → Result CaptureFormat CaptureFault → Type 0
@@ -33,10 +33,10 @@ inside_refused inside left outside fault heads b o is same =
     (subst (λ (k : Option (List ℕ)). HeadsBadly k left fault) is heads)
 
 -- The header of the inside capture is then right.
-pub outside_refused : (inside left known other : Option (List ℕ)) (spelling : CaptureFormat) (fault : CaptureFault) →
-    Heads inside left (Ok spelling) → HeadsBadly known other fault → EndsAtHeader sides.Outside fault inside known
-outside_refused inside left known other spelling fault good bad b o is same =
-    let first = spelled b left (Ok spelling) (subst (λ (k : Option (List ℕ)). Heads k left (Ok spelling)) is good) in
+pub outside_refused : (inside left known other : Option (List ℕ)) (format : CaptureFormat) (fault : CaptureFault) →
+    Heads inside left (Ok format) → HeadsBadly known other fault → EndsAtHeader sides.Outside fault inside known
+outside_refused inside left known other format fault good bad b o is same =
+    let first = spelled b left (Ok format) (subst (λ (k : Option (List ℕ)). Heads k left (Ok format)) is good) in
     StopsBy-says RecordReader fault (λ (p : Heads (Some o) other (Err fault)).
     ap (λ r. unless_bad sides.Inside r (unless_refused sides.Outside o (all_of b o))) first
     ∙ ap (λ r. unless_bad sides.Outside r (all_of b o)) (spelled o other (Err fault) p))

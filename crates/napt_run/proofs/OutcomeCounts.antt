@@ -4,7 +4,7 @@ use Rattle.napt_capture.specs.declared.device.Sink.{Ghosts}
 use Rattle.napt_run.specs.Origins.{OriginModel, ran_by}
 use Rattle.napt_records.specs.Counts.{AreCountsOf}
 use Rattle.napt_rules.specs.{Prelude.{Arrival}, declared.Outcome.Outcome}
-use Rattle.napt_run.{specs.{OutputSinks.{SinkTakes, TimedOutcome}, Runs.run_left_of, declared.output_sinks.OutcomeWriter.OutcomeWriter}, proofs.Fronts.{as_many, outcomes_back}}
+use Rattle.napt_run.{specs.{OutcomeWriters.{SinkTakes, TimedOutcome}, Runs.run_left_of, declared.outcome_writer.OutcomeWriter.OutcomeWriter}, proofs.OutcomePrefixes.{as_many, outcomes_back}}
 
 -- All outcomes of a run left.
 pub all_counted : {W V : Type 0} {S : Ghosts W} {T : Ghosts V} (origin : OriginModel) (inputs : List Arrival)

@@ -10,21 +10,21 @@ use Rattle.napt_dispatch.specs.declared.workers.RunSummary.{RunSummary}
 use Rattle.napt_records.specs.{Counts.AreCountsOf, Output.IsTimely, Report.{report_of, report_text}, declared.report.OutcomeCounts.OutcomeCounts}
 use Rattle.napt_rules.specs.{Prelude.{Arrival}, declared.{Outcome.Outcome, Row.Row}}
 use Rattle.napt_sequential.{proofs.Inputs.came_whole, specs.declared.fault.RunFault.RunFault}
-use Rattle.napt_run.specs.{OutputSinks.SinkBegins, OutputSinkLaws.grows_more, Outputs.OutputGrows, CaptureRuns.RunPassesWell, Runs.text_after}
-use Rattle.napt_run.specs.{Streams.capture_text, WholeCaptures.{IsTallyOf, WritesAll}, declared.{output_sinks.OutcomeWriter.OutcomeWriter, output.Output.Output, whole_captures.RunTally.RunTally}}
-use Rattle.napt_run.proofs.{OutcomeCounts.all_counted, Fronts.{capture_is, times_of}}
+use Rattle.napt_run.specs.{OutcomeWriters.SinkBegins, OutcomeWriterLaws.grows_more, Outputs.OutputGrows, CaptureRuns.RunPassesWell, Runs.text_after}
+use Rattle.napt_run.specs.{Streams.capture_text, WholeCaptures.{IsTallyOf, WritesAll}, declared.{outcome_writer.OutcomeWriter.OutcomeWriter, output.Output.Output, whole_captures.ReportTally.ReportTally}}
+use Rattle.napt_run.proofs.{OutcomeCounts.all_counted, OutcomePrefixes.{capture_is, times_of}}
 
 -- The run over all inputs.
 pub passes_all : {F W V : Type 0} {S : Ghosts W} {T : Ghosts V} (origin : OriginModel) (from left : List Arrival)
-    (old new : OutcomeWriter W V S T) (passed : RunSummary) → AreCountsOf [] old.counts → All IsTimely from →
-    RunPassesWell {F = F} origin (λ x xs y. x ≡ xs ++ y) (λ x end y. x ≡ []) from old left new passed →
-    WritesAll [] origin from old new (record { counts = new.counts; passed = passed })
-passes_all origin from left old new passed none timely p =
+    (old new : OutcomeWriter W V S T) (summary : RunSummary) → AreCountsOf [] old.counts → All IsTimely from →
+    RunPassesWell {F = F} origin (λ x xs y. x ≡ xs ++ y) (λ x end y. x ≡ []) from old left new summary →
+    WritesAll [] origin from old new (record { counts = new.counts; summary = summary })
+passes_all origin from left old new summary none timely p =
     let inputs : List Arrival = p.whole.inputs in
     let whole : from ≡ inputs = came_whole (λ x. x) from left inputs None p.whole.came in
     let times = times_of inputs (ran_by origin inputs).outcomes (subst (λ (l : List Arrival). All IsTimely l) whole
     timely) in
-    let tally : RunTally = record { counts = new.counts; passed = passed } in
+    let tally : ReportTally = record { counts = new.counts; summary = summary } in
     subst (λ (l : List Arrival). WritesAll [] origin l old new tally) (sym whole) (record {
       to_outside = p.whole.took.to_outside times;
       to_inside = p.whole.took.to_inside times;
@@ -37,7 +37,7 @@ passes_all origin from left old new passed none timely p =
 
 -- The run after the headers.
 pub headed_all : {W V : Type 0} {S : Ghosts W} {T : Ghosts V} (origin : OriginModel) (inputs : List Arrival)
-    (old mid new : OutcomeWriter W V S T) → SinkBegins old mid → (r : Result RunTally RunFault) →
+    (old mid new : OutcomeWriter W V S T) → SinkBegins old mid → (r : Result ReportTally RunFault) →
     IfOk r (WritesAll [] origin inputs mid new) → IfOk r (WritesAll file_header origin inputs old new)
 headed_all origin inputs old mid new begins (Err fault) p = tt
 headed_all origin inputs old mid new begins (Ok tally) p = record {
@@ -56,19 +56,19 @@ capture_appended origin side inputs old new grown start last from at =
 
 module _ {W V : Type 0} {S : Ghosts W} {T : Ghosts V} (origin : OriginModel) (inputs : List Arrival)
     (old new : OutcomeWriter W V S T) where
-  pub told_outside : (r : Result RunTally RunFault) → IfOk r (WritesAll file_header origin inputs old new) →
+  pub told_outside : (r : Result ReportTally RunFault) → IfOk r (WritesAll file_header origin inputs old new) →
       (start last : W) → old.to_outside.device.now ≡ start →
       (new.to_outside.device.ghost_name ≡ old.to_outside.device.ghost_name → last ≡ new.to_outside.device.now) →
       OnOk r (Appends (S.contents start) (S.contents last) (capture_text origin sides.Outside inputs))
   told_outside r p start last from at = grind (arith, common_steps, nat_tests, capture_appended)
 
-  pub told_inside : (r : Result RunTally RunFault) → IfOk r (WritesAll file_header origin inputs old new) →
+  pub told_inside : (r : Result ReportTally RunFault) → IfOk r (WritesAll file_header origin inputs old new) →
       (start last : V) → old.to_inside.device.now ≡ start →
       (new.to_inside.device.ghost_name ≡ old.to_inside.device.ghost_name → last ≡ new.to_inside.device.now) →
       OnOk r (Appends (T.contents start) (T.contents last) (capture_text origin sides.Inside inputs))
   told_inside r p start last from at = grind (arith, common_steps, nat_tests, capture_appended)
 
-  pub told_tally : (r : Result RunTally RunFault) → IfOk r (WritesAll file_header origin inputs old new) →
+  pub told_tally : (r : Result ReportTally RunFault) → IfOk r (WritesAll file_header origin inputs old new) →
       IfOk r (IsTallyOf origin inputs)
   told_tally r p = grind (arith, common_steps, nat_tests)
 
@@ -82,10 +82,10 @@ pub kept_text : (origin : OriginModel) (side : Side) (inputs arrivals : List Arr
 kept_text origin side inputs arrivals none last kept empty are taken appended =
     grind (arith, common_steps, nat_tests, ℕ)
 
-pub told_report : (origin : OriginModel) (inputs arrivals : List Arrival) (tally : RunTally) (counts : OutcomeCounts)
+pub told_report : (origin : OriginModel) (inputs arrivals : List Arrival) (tally : ReportTally) (counts : OutcomeCounts)
     (rows : List Row)
     (cut_inside cut_outside : Bool) (told : List ℕ) → inputs ≡ arrivals → IsTallyOf origin inputs tally →
-    counts ≡ tally.counts → rows ≡ tally.passed.bindings.items → ((outcomes : List Outcome) →
+    counts ≡ tally.counts → rows ≡ tally.summary.bindings.items → ((outcomes : List Outcome) →
     AreCountsOf outcomes counts →
     told ≡ report_of cut_inside cut_outside outcomes rows) →
     told ≡ report_text cut_inside cut_outside (ran_by origin arrivals)

@@ -8,11 +8,11 @@ use Rattle.napt_capture.specs.{Capture.{CaptureReading, bytes_asked, capture_of_
 use Rattle.napt_capture.specs.declared.{TheConstants.MOST_ASKED, fault.CaptureFault.CaptureFault, capture_format.CaptureFormat.CaptureFormat}
 use Rattle.napt_run.specs.Origins.{OriginModel, ran_by}
 use Rattle.napt_records.specs.{declared.{Fault.Fault, stream_merger.{CutFlags.CutFlags, SideFault.SideFault}}, Report.report_text, RecordMerging.{MergedInputs, inputs_until}}
-use Rattle.napt_records.proofs.Merges.{merge_ends, merges_whole}
+use Rattle.napt_records.proofs.MergeSteps.{merge_ends, merges_whole}
 use Rattle.napt_rules.specs.Prelude.{Arrival}
 use Rattle.napt_run.specs.{Captures.{RunTexts, arrivals_of, both_by, texts_from, texts_by, texts_made}, Files.{files_until, unless_bad, unless_refused}}
 use Rattle.napt_records.specs.declared.Which.TheVariants.{Outside, Inside}
-use Rattle.napt_run.proofs.Ends.{all_of}
+use Rattle.napt_run.proofs.BytesAtEnd.{all_of}
 use Rattle.napt_run.specs.{StreamLaws.{OutputsAreTheSame, ReportsAreTheSame}, Streams.capture_text, declared.captures.CaptureFiles.CaptureFiles}
 
 -- The bytes of a file that reads as these contents.

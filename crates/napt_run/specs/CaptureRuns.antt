@@ -10,8 +10,8 @@ use Rattle.napt_records.specs.{StreamMergers.{MergeEndsWith, HandsOutInputs, cut
 use Rattle.napt_records.specs.declared.stream_merger.{StreamMerger.StreamMerger, SideFault.SideFault}
 use Rattle.napt_rules.specs.Prelude.{Arrival}
 use Rattle.napt_sequential.specs.{Inputs.InputsCame, declared.passage.Passage.Passage}
-use Rattle.napt_run.specs.{OutputSinks.{IsOfOutput, SinkFails, IsSettled, SinkTakes, TimedOutcome}, LogRuns.{IsLogFault, Legs, legs_told}, Runs.run_left_of, declared.output_sinks.OutcomeWriter.OutcomeWriter}
-use Rattle.napt_run.specs.declared.capture_run.RunTotals.{RunTotals}
+use Rattle.napt_run.specs.{OutcomeWriters.{IsOfOutput, SinkFails, IsSettled, SinkTakes, TimedOutcome}, LogRuns.{IsLogFault, Legs, legs_told}, Runs.run_left_of, declared.outcome_writer.OutcomeWriter.OutcomeWriter}
+use Rattle.napt_run.specs.declared.capture_run.ReportData.{ReportData}
 
 -- THE OUTPUTS
 
@@ -37,10 +37,10 @@ module _ {A F W V : Type 0} {S : sink.Ghosts W} {T : sink.Ghosts V} (origin : Or
     pub settled : IsSettled after
     pub few : length inputs < 2 ^ 64
 
-  pub record RunPassesWell (passed : RunSummary) : Type 0 where
+  pub record RunPassesWell (summary : RunSummary) : Type 0 where
     pub whole : RunPassesTo None
-    pub bindings : passed.bindings.items ≡ (ran_by origin whole.inputs).bindings
-    pub leaves : GivesState origin whole.inputs passed
+    pub bindings : summary.bindings.items ≡ (ran_by origin whole.inputs).bindings
+    pub leaves : GivesState origin whole.inputs summary
 
   -- An output failed, and the outcomes that left are the first outcomes of the run.
   pub record RunPassesEarly (fault : Fault) : Type 0 where
@@ -59,7 +59,7 @@ module _ {A F W V : Type 0} {S : sink.Ghosts W} {T : sink.Ghosts V} (origin : Or
     pub took : SinkTakes before went after ⊎ ((fault : Fault) × FailsAfter before went fault after)
 
   abbrev pub PassesBy : Result RunSummary (PassFault F Fault) → Type 0
-  PassesBy (Ok passed) = RunPassesWell passed
+  PassesBy (Ok summary) = RunPassesWell summary
   PassesBy (Err (pass_faults.Arrival fault)) = RunPassesTo (Some fault)
   PassesBy (Err (pass_faults.Departure fault)) =
       (IsOfOutput fault × RunPassesEarly fault) ⊎ (IsLogFault fault × RunPassesHalted)
@@ -69,13 +69,13 @@ module _ {R Q W V : Type 0} {G : source.Ghosts R} {H : source.Ghosts Q} {S : sin
     (origin : OriginModel) (from : StreamMerger R Q G H) (before : OutcomeWriter W V S T)
     (left : StreamMerger R Q G H) (after : OutcomeWriter W V S T) where
   -- The run succeeded, with these totals for the report.
-  pub record PassesAll (totals : RunTotals) : Type 0 where
-    pub well : RunPassesWell origin HandsOutInputs MergeEndsWith from before left after totals.passed
+  pub record PassesAll (totals : ReportData) : Type 0 where
+    pub well : RunPassesWell origin HandsOutInputs MergeEndsWith from before left after totals.summary
     pub counts : totals.counts ≡ after.counts
     pub cut_inside : totals.cuts.inside ≡ cut_of left.inside
     pub cut_outside : totals.cuts.outside ≡ cut_of left.outside
 
-  abbrev pub PassesOr : Result RunTotals Fault → Type 0
+  abbrev pub PassesOr : Result ReportData Fault → Type 0
   PassesOr (Ok totals) = PassesAll totals
   PassesOr (Err (Capture side fault)) =
       RunPassesTo origin HandsOutInputs MergeEndsWith from before left after
@@ -117,7 +117,7 @@ module _ {P A F K : Type 0} (tells : Passage → P) (origin : OriginModel) (hand
     pub failed : fails old (legs_told tells origin first) fault new
 
   abbrev pub EntersBy : Result RunSummary (PassFault F Fault) → Type 0
-  EntersBy (Ok passed) = EntersTo None
+  EntersBy (Ok summary) = EntersTo None
   EntersBy (Err (pass_faults.Arrival fault)) = EntersTo (Some fault)
   EntersBy (Err (pass_faults.Departure fault)) = (IsOfOutput fault × EntersFirst) ⊎ FailsFirst fault
   EntersBy (Err (pass_faults.Run fault)) = EntersFirst ⊎ ((fault : Fault) × FailsFirst fault)
@@ -127,7 +127,7 @@ module _ {P A K : Type 0} (open_gate : Bool) (tells : Passage → P) (origin : O
     (enters : K → List (Legs P) → K → Type 0) (fails : K → List (Legs P) → Fault → K → Type 0)
     (is_settled : K → Type 0) (from : A) (old : K) (left : A) (new : K) where
   -- The same is true for a run over captures, whose fault may be one of its log.
-  abbrev pub EntersOr : Result RunTotals Fault → Type 0
+  abbrev pub EntersOr : Result ReportData Fault → Type 0
   EntersOr (Ok totals) = EntersTo tells origin hands ends enters fails is_settled from old left new None
   EntersOr (Err (Capture side fault)) =
       EntersTo tells origin hands ends enters fails is_settled from old left new

@@ -111,8 +111,8 @@ GetsFrom origin which share inside outside old new = IfKnown inside outside (λ 
 
 -- The returned summary gives the state at the end of the run.
 abbrev pub OutputIsLeft : OriginModel → Option (List ℕ) → Option (List ℕ) → RunSummary → Type 0
-OutputIsLeft origin inside outside passed = IfKnown inside outside (λ bytes others.
-    IsOkAnd (read_both bytes others) (λ captures. GivesState origin (arrivals_of captures) passed))
+OutputIsLeft origin inside outside summary = IfKnown inside outside (λ bytes others.
+    IsOkAnd (read_both bytes others) (λ captures. GivesState origin (arrivals_of captures) summary))
 
 -- THE RESULT
 
@@ -182,7 +182,7 @@ pub record AreOutputs (origin : OriginModel) (captures : CaptureFiles) (outputs 
   pub to_outside : outputs.to_outside ≡ (texts_made origin captures).outside
   pub to_inside : outputs.to_inside ≡ (texts_made origin captures).inside
   pub report : string_bytes outputs.report ≡ (texts_made origin captures).report
-  pub leaves : GivesState origin (arrivals_of captures) outputs.passed
+  pub leaves : GivesState origin (arrivals_of captures) outputs.summary
 
 -- Returns the output that goes to a side.
 abbrev pub output_to : Side → Which

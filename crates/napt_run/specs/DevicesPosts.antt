@@ -22,7 +22,7 @@ module _ {R Q W V U L : Type 0} (A : source.Ghosts R) (B : source.Ghosts Q) (S :
 module _ {R Q W V U L : Type 0} (A : source.Ghosts R) (B : source.Ghosts Q) where
   -- The result gives the state at the end of the run.
   abbrev pub EndPost : OriginModel → Devices R Q W V U L → RunEnd → Type 0
-  EndPost origin old end = LeavesInTheEnd origin (A.remaining old.inside) (B.remaining old.outside) end.passed
+  EndPost origin old end = LeavesInTheEnd origin (A.remaining old.inside) (B.remaining old.outside) end.summary
 
   -- The fault is one of the captures, or its cause is memory, a thread, a worker or an output.
   abbrev pub ExplainedBy : Bool → Bool → Devices R Q W V U L → Fault → Type 0

@@ -6,7 +6,7 @@ use Rattle.napt_records.specs.RecordMerging.{MergedInputs, at_fault, inputs_unti
 
 -- Returns the inputs, or none of them if the header of a file has a fault.
 abbrev pub unless_bad : Side → Result CaptureFormat CaptureFault → MergedInputs → MergedInputs
-unless_bad side (Ok spelling) inputs = inputs
+unless_bad side (Ok format) inputs = inputs
 unless_bad side (Err fault) inputs = at_fault side fault
 
 abbrev pub unless_refused : Side → List ℕ → MergedInputs → MergedInputs

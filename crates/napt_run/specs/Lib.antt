@@ -13,12 +13,12 @@ pub mod Origins
 pub mod Captures
 pub mod Files
 pub mod Outputs
-pub mod OutputSinks
-pub mod OutputSinkLaws
+pub mod OutcomeWriters
+pub mod OutcomeWriterLaws
 pub mod Streams
 pub mod Runs
 pub mod LogRuns
-pub mod LoggedOutputSinks
+pub mod LoggedOutcomeWriters
 pub mod CaptureRuns
 pub mod WholeCaptures
 pub mod StreamLaws

@@ -8,7 +8,7 @@ use Rattle.napt_laws.specs.Dispatching.{IsFrontOf}
 use Rattle.napt_records.specs.declared.{Fault.{Fault, TheVariants.{Capture, Run, Write}}, Which.TheVariants.{Outside, Inside, Report, Log}, stream_merger.CutFlags.CutFlags}
 use Rattle.napt_rules.specs.Prelude.{Arrival}
 use Rattle.napt_sequential.specs.{Traces.traces_of, declared.passage.{Passage.Passage, Trace.Trace}}
-use Rattle.napt_run.specs.{Runs.IfHeld, Streams.{AreTaken, IsStreamFaultOf}, declared.capture_run.RunTotals.RunTotals}
+use Rattle.napt_run.specs.{Runs.IfHeld, Streams.{AreInputsBeforeFault, IsStreamFaultOf}, declared.capture_run.ReportData.ReportData}
 
 -- The time of an input's legs, and the traces of the first and the second.
 abbrev pub Legs : Type 0 → Type 0
@@ -41,7 +41,7 @@ module _ {P K : Type 0} (tells : Passage → P) (origin : OriginModel) (enters :
   -- The inputs before a fault of a capture were recorded, and the log is flushed.
   pub record EntersToFault (side : Side) (fault : CaptureFault) : Type 0 where
     pub inputs : List Arrival
-    pub taken : IfHeld inside outside (λ all. AreTaken side fault all inputs)
+    pub taken : IfHeld inside outside (λ all. AreInputsBeforeFault side fault all inputs)
     pub is_fault : IfHeld inside outside (IsStreamFaultOf side fault)
     pub entered : enters old (legs_told tells origin inputs) new
     pub settled : is_settled new
@@ -60,7 +60,7 @@ module _ {P K : Type 0} (tells : Passage → P) (origin : OriginModel) (enters :
     pub failed : fails old (legs_told tells origin inputs) fault new
 
   -- If the run failed, the log may have failed too.
-  abbrev pub LogsTo : Bool → Result RunTotals Fault → Type 0
+  abbrev pub LogsTo : Bool → Result ReportData Fault → Type 0
   LogsTo open_gate (Ok totals) = EntersAll totals.cuts
   LogsTo open_gate (Err (Capture side fault)) = EntersToFault side fault
   LogsTo open_gate (Err (Write Outside fault)) = EntersFront

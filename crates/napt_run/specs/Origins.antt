@@ -26,4 +26,4 @@ ran_by origin inputs = run_result_from origin.rules origin.state inputs
 
 -- The returned summary gives the state at the end of the run.
 abbrev pub GivesState : OriginModel → List Arrival → RunSummary → Type 0
-GivesState origin inputs passed = LeavesState origin.rules (next_state origin.rules origin.state inputs) passed
+GivesState origin inputs summary = LeavesState origin.rules (next_state origin.rules origin.state inputs) summary

@@ -12,7 +12,7 @@ pub record OutputGrows {W : Type 0} {S : Ghosts W} (old : Output W S) (text : Li
   pub kept : S.failed new.device.now ≡ S.failed old.device.now
 
 -- A prefix of the text was written, and a call failed.
-pub record Breaks {W : Type 0} {S : Ghosts W} (old : Output W S) (text : List ℕ) (fault : WriteFault)
+pub record OutputBreaks {W : Type 0} {S : Ghosts W} (old : Output W S) (text : List ℕ) (fault : WriteFault)
     (new : Output W S) : Type 0 where
   pub same : new.device.ghost_name ≡ old.device.ghost_name
   pub count : ℕ

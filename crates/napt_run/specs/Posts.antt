@@ -8,7 +8,7 @@ use Rattle.napt_laws.specs.Dispatching.{IsFrontOf}
 use Rattle.napt_records.specs.{Faults.is_shut_gate_fault, RecordMerging.MergedInputs, declared.{Fault.{Fault, TheVariants.{Capture, Run, Write}}, Which.{Which, TheVariants.{Outside, Inside, Report, Log}}}}
 use Rattle.napt_rules.specs.Prelude.{Arrival}
 use Rattle.napt_sequential.specs.declared.fault.RunFault.TheVariants as reasons
-use Rattle.napt_run.specs.{LogOrigins.LogTexts, Origins.OriginModel, Runs.{IfHeld, IsToldOf}, declared.{capture_run.RunTotals.RunTotals, output.Output.Output, output_sinks.OutcomeWriter.OutcomeWriter, run_end.RunEnd.RunEnd}}
+use Rattle.napt_run.specs.{LogOrigins.LogTexts, Origins.OriginModel, Runs.{IfHeld, IsToldOf}, declared.{capture_run.ReportData.ReportData, output.Output.Output, outcome_writer.OutcomeWriter.OutcomeWriter, run_end.RunEnd.RunEnd}}
 use Rattle.napt_run.specs.Streams.{IsStreamFaultOf, IsOfRun, IsSettledBy, capture_text, side_of, stream_ended}
 
 -- THE TEXT OF AN OUTPUT
@@ -175,7 +175,7 @@ pub record OutputEnds {D : Type 0} {S : Ghosts D} (texts : LogTexts) (which : Wh
 
 -- A run over captures ends with these outputs, and with these counts for the report.
 pub record RunsTo {W V : Type 0} {S : Ghosts W} {T : Ghosts V} (origin : OriginModel) (inside outside : Option (List ℕ))
-    (old new : OutcomeWriter W V S T) (result : Result RunTotals Fault) : Type 0 where
+    (old new : OutcomeWriter W V S T) (result : Result ReportData Fault) : Type 0 where
   pub to_outside : OutputEnds (capture_to Outside origin) Outside inside outside (stream_ended result) old.to_outside
       new.to_outside
   pub to_inside : OutputEnds (capture_to Inside origin) Inside inside outside (stream_ended result) old.to_inside

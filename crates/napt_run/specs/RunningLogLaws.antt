@@ -6,7 +6,7 @@ use Rattle.napt_account.{specs.{Effects.log_after, Log.{LogModel, after_input}, 
 use Rattle.napt_log_text.specs.{Logs.{part_rows, piece_opening, rows_by}, Times.TimeText}
 use Rattle.napt_records.specs.declared.{Fault.{Fault, TheVariants.{Capture, Run, Write}}, Which.TheVariants.{Outside, Inside, Report, Log}}
 use Rattle.napt_sequential.specs.declared.passage.{Passage.Passage, Trace.Trace}
-use Rattle.napt_run.specs.{OutputSinkLaws.{breaks_more, grows_more, grows_none}, LogRuns.Legs, Outputs.{Breaks, OutputGrows}}
+use Rattle.napt_run.specs.{OutcomeWriterLaws.{breaks_more, grows_more, grows_none}, LogRuns.Legs, Outputs.{OutputBreaks, OutputGrows}}
 use Rattle.napt_run.specs.{LogOrigins.LoggedOrigin, RunningLogs.{Enters, LogFails, FailsBy, LogIsAt, known_logs, last_time, rows_in, running_log_traces, last_trace_time}, declared.log_writer.LogWriter.LogWriter}
 
 traces_join : (xs ys : List (Legs Passage)) → running_log_traces (xs ++ ys) ≡ running_log_traces xs
@@ -69,7 +69,7 @@ module _ {L : Type 0} {S : Ghosts L} where
       OutputGrows x.output (rows_in from before xs) y.output → FailsBy from (before ++ xs) ys fault y z →
       FailsBy from before (xs ++ ys) fault x z
   fails_by from before xs ys x y z (Write Log fault) one two =
-      subst (λ (l : TimeText). Breaks x.output l fault z.output) (sym (rows_in-append from before xs ys))
+      subst (λ (l : TimeText). OutputBreaks x.output l fault z.output) (sym (rows_in-append from before xs ys))
       (breaks_more x.output y.output z.output _ _ fault one two)
   fails_by from before xs ys x y z (Run fault) one two = record {
     first = xs ++ two.first;

@@ -9,10 +9,10 @@ use Rattle.napt_records.specs.declared.{Fault.{Fault, TheVariants.{Capture, Run,
 use Rattle.napt_sequential.specs.declared.fault.RunFault.TheVariants as reasons
 use Rattle.napt_sequential.specs.declared.{fault.RunFault.RunFault, passage.{Passage.Passage, Trace.Trace}}
 use Rattle.napt_rules.specs.Prelude.{Arrival}
-use Rattle.napt_run.specs.{LogOrigins.LoggedOrigin, LogRuns.{Legs, traces_by}, Origins.OriginModel, Outputs.{Breaks, OutputGrows}, declared.{output.Output.Output, log_writer.LogWriter.LogWriter}}
+use Rattle.napt_run.specs.{LogOrigins.LoggedOrigin, LogRuns.{Legs, traces_by}, Origins.OriginModel, Outputs.{OutputBreaks, OutputGrows}, declared.{output.Output.Output, log_writer.LogWriter.LogWriter}}
 
 -- The laws of a log that follow from the effects of the legs of inputs.
-pub record AreLaws (origin : OriginModel) (log : LogModel) : Type 0 where
+pub record LogLawsHold (origin : OriginModel) (log : LogModel) : Type 0 where
   pub rows : (each : Option ℕ) (inputs : List Arrival) →
       rows_by origin.rules each None origin.state.clock log (traces_by origin inputs)
       ≡ rows_from origin.rules origin.state each log inputs
@@ -95,7 +95,7 @@ module _ {L : Type 0} {S : Ghosts L} where
   -- No trace was recorded, and nothing was written.
   pub record IsReady (origin : OriginModel) (it : LogWriter L S) : Type 0 where
     pub at : LogIsAt (running_log_of origin it) [] it
-    pub laws : AreLaws origin it.log.log
+    pub laws : LogLawsHold origin it.log.log
     pub written : it.output.written ≡ 0
 
   -- The log has recorded these traces too, and this text was written.
@@ -120,7 +120,8 @@ module _ {L : Type 0} {S : Ghosts L} where
     pub of_traces : IsBuilderFault (known_logs from (before ++ first)) next fault
 
   abbrev pub FailsBy : LoggedOrigin → List Trace → List Trace → Fault → LogWriter L S → LogWriter L S → Type 0
-  FailsBy from before traces (Write Log fault) old new = Breaks old.output (rows_in from before traces) fault new.output
+  FailsBy from before traces (Write Log fault) old new = OutputBreaks old.output (rows_in from before traces) fault
+      new.output
   FailsBy from before traces (Run fault) old new = LogHalts from before traces fault old new
   FailsBy from before traces other old new = ⊥
 
@@ -135,23 +136,24 @@ module _ {L : Type 0} {S : Ghosts L} where
     pub on : LogGoesOnFrom from traces text old new
     pub flushed : S.is_flushed new.output.device.now
 
-  abbrev pub Adds : LoggedOrigin → List Trace → TimeText → Output L S → Result (Unit {0}) Fault → LogWriter L S → Type 0
-  Adds from traces text old (Ok done) new = LogFlushes from traces text old new
-  Adds from traces text old (Err (Write Log fault)) new = Breaks old text fault new.output
-  Adds from traces text old (Err other) new = ⊥
+  abbrev pub LogAdds : LoggedOrigin → List Trace → TimeText → Output L S → Result (Unit {0}) Fault → LogWriter L S →
+      Type 0
+  LogAdds from traces text old (Ok done) new = LogFlushes from traces text old new
+  LogAdds from traces text old (Err (Write Log fault)) new = OutputBreaks old text fault new.output
+  LogAdds from traces text old (Err other) new = ⊥
 
   -- The same is true for a text that is made first. If making it fails, nothing was written.
-  abbrev pub Closes : {T : Type 0} → LoggedOrigin → List Trace → TimeText → Output L S → Result T Fault →
+  abbrev pub LogCloses : {T : Type 0} → LoggedOrigin → List Trace → TimeText → Output L S → Result T Fault →
       LogWriter L S →
       Type 0
-  Closes from traces text old (Ok left) new = LogFlushes from traces text old new
-  Closes from traces text old (Err (Write Log fault)) new = Breaks old text fault new.output
-  Closes from traces text old (Err (Run reasons.Memory)) new = new.output ≡ old
-  Closes from traces text old (Err other) new = ⊥
+  LogCloses from traces text old (Ok left) new = LogFlushes from traces text old new
+  LogCloses from traces text old (Err (Write Log fault)) new = OutputBreaks old text fault new.output
+  LogCloses from traces text old (Err (Run reasons.Memory)) new = new.output ≡ old
+  LogCloses from traces text old (Err other) new = ⊥
 
   -- The opening of its text was written and flushed.
-  abbrev pub Opens : LogWriter L S → LogWriter L S → Type 0
-  Opens old new = (from : LoggedOrigin) → LogIsAt from [] old →
+  abbrev pub LogOpens : LogWriter L S → LogWriter L S → Type 0
+  LogOpens old new = (from : LoggedOrigin) → LogIsAt from [] old →
       LogFlushes from [] (string_bytes old.opening) old.output new
 
   -- After a fault the log is flushed, unless a call of it failed before or fails now.

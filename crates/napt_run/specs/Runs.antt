@@ -4,7 +4,7 @@ use Rattle.napt_wire.specs.declared.Side.{Side}
 use Rattle.napt_run.specs.Origins.{GivesState, OriginModel, ran_by}
 use Rattle.napt_dispatch.specs.RunsThrough.{timed_results}
 use Rattle.napt_records.specs.{Counts.AreCountsOf, RecordMerging.MergedInputs}
-use Rattle.napt_run.specs.{Captures.IfKnown, OutputSinks.{TimedOutcome, records_text}, Files.files_until, declared.capture_run.RunTotals.RunTotals}
+use Rattle.napt_run.specs.{Captures.IfKnown, OutcomeWriters.{TimedOutcome, records_text}, Files.files_until, declared.capture_run.ReportData.ReportData}
 use Rattle.napt_rules.specs.Prelude.{Arrival}
 
 -- The fact is true for the inputs of the captures, if their bytes are known.
@@ -20,9 +20,9 @@ abbrev pub text_after : List ℕ → OriginModel → Side → List Arrival → L
 text_after front origin side inputs = front ++ records_text side (run_left_of origin inputs)
 
 -- The report has the counts of all inputs.
-pub record IsToldOf (origin : OriginModel) (inside outside : Option (List ℕ)) (totals : RunTotals) : Type 0 where
+pub record IsToldOf (origin : OriginModel) (inside outside : Option (List ℕ)) (totals : ReportData) : Type 0 where
   pub inputs : List Arrival
   pub all : IfHeld inside outside (λ all. all ≡ record { arrivals = inputs; end = Ok totals.cuts })
   pub counts : AreCountsOf (ran_by origin inputs).outcomes totals.counts
-  pub bindings : totals.passed.bindings.items ≡ (ran_by origin inputs).bindings
-  pub leaves : GivesState origin inputs totals.passed
+  pub bindings : totals.summary.bindings.items ≡ (ran_by origin inputs).bindings
+  pub leaves : GivesState origin inputs totals.summary

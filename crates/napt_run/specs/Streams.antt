@@ -28,8 +28,8 @@ side_of Report = sides.Inside
 side_of Log = sides.Inside
 
 -- These are the inputs before a fault of a side, or some first inputs if its device or memory failed.
-abbrev pub AreTaken : Side → CaptureFault → MergedInputs → List Arrival → Type 0
-AreTaken side fault all inputs =
+abbrev pub AreInputsBeforeFault : Side → CaptureFault → MergedInputs → List Arrival → Type 0
+AreInputsBeforeFault side fault all inputs =
     IsFrontOf inputs all.arrivals
     × IsReadFault fault (all ≡ record { arrivals = inputs; end = Err (record { side = side; fault = fault }) })
 
@@ -118,8 +118,8 @@ pub record ReportGetsFrom {D : Type 0} (S : sink.Ghosts D) (origin : OriginModel
 
 -- The returned summary gives the state at the end of the run.
 abbrev pub LeavesInTheEnd : OriginModel → Option (List ℕ) → Option (List ℕ) → RunSummary → Type 0
-LeavesInTheEnd origin inside outside passed =
-    IfKnown inside outside (λ bytes others. GivesState origin (files_until bytes others).arrivals passed)
+LeavesInTheEnd origin inside outside summary =
+    IfKnown inside outside (λ bytes others. GivesState origin (files_until bytes others).arrivals summary)
 
 -- STEPS
 
@@ -128,7 +128,7 @@ pub record IsAfterHeader {R : Type 0} (G : Ghosts R) (records : RecordReader) (b
     : Type
     0 where
   pub header : LeavesBytes bytes (G.remaining source)
-      (λ bytes left. (format_in (take 24 bytes) ≡ Ok records.spelling) × (left ≡ drop 24 bytes))
+      (λ bytes left. (format_in (take 24 bytes) ≡ Ok records.format) × (left ≡ drop 24 bytes))
   pub ahead : records.ahead ≡ []
   pub number : records.number ≡ 1
 

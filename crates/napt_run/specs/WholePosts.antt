@@ -32,7 +32,7 @@ module _ {R Q W V U L : Type 0} (A : source.Ghosts R) (B : source.Ghosts Q) wher
       (λ bytes others. Answers (texts_from origin bytes others) result)
 
   abbrev pub WholeEndPost : OriginModel → Devices R Q W V U L → RunEnd → Type 0
-  WholeEndPost origin old end = OutputIsLeft origin (A.remaining old.inside) (B.remaining old.outside) end.passed
+  WholeEndPost origin old end = OutputIsLeft origin (A.remaining old.inside) (B.remaining old.outside) end.summary
 
   -- The fault is explained, and a gate that is always open is not reported as shut.
   pub record WholeFaultPost (open_gate : Bool) (old : Devices R Q W V U L) (fault : Fault) : Type 0 where

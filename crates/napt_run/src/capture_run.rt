@@ -2,10 +2,10 @@
 ghost use Rattle.std.specs.Prelude.{IfErr};
 ghost use Rattle.napt_dispatch.specs.RunsThrough.{IsStoppedUnder};
 ghost use Rattle.napt_records.specs.StreamMergers.{MergeEndsWith, HandsOutInputs};
-ghost use Rattle.napt_run.specs.{LoggedOutputSinks.IsSameSinkPlace, Origins.origin_of, CaptureRuns.{EntersBy, EntersOr, PassesBy, PassesOr}};
+ghost use Rattle.napt_run.specs.{LoggedOutcomeWriters.IsSameSinkPlace, Origins.origin_of, CaptureRuns.{EntersBy, EntersOr, PassesBy, PassesOr}};
 
-use crate::logged_output_sinks::LoggedOutcomeWriter;
-use crate::start::{OriginSetting, Start};
+use crate::logged_outcome_writer::LoggedOutcomeWriter;
+use crate::start::{RunSetting, Start};
 use crate::stream_log::StreamLog;
 use napt_capture::{Sink, Source};
 use napt_dispatch::{PassFault, RunSummary, run_through};
@@ -17,16 +17,18 @@ use std::thread::Threads;
 
 /// The data from which the report of a run is made.
 #[derive(Drop)]
-pub struct RunTotals {
+pub struct ReportData {
     pub(crate) counts: OutcomeCounts,
-    pub(crate) passed: RunSummary,
+    pub(crate) summary: RunSummary,
     pub(crate) cuts: CutFlags,
 }
 
-impl<
-    T: Threads + Wait + Copy + Send + 'static,
-    G: Gate + Send + Sync + Drop + 'static,
-> OriginSetting<'_, '_, T, G> {
+impl<T: Threads + Wait + Copy + Send + 'static, G: Gate + Send + Sync + Drop + 'static> RunSetting<
+    '_,
+    '_,
+    T,
+    G,
+> {
     /// Runs until the inputs end or something fails.
     pub(crate) fn run_all<A: InputSource, W: Sink, V: Sink, K: StreamLog>(
         self,
@@ -40,7 +42,7 @@ impl<
         ensures same { IsSameSinkPlace both.old both.new }
         ensures stop { IfErr result (IsStoppedUnder G.is_open) }
     {
-        let OriginSetting {
+        let RunSetting {
             rt,
             alloc,
             start,
@@ -55,7 +57,7 @@ impl<
         self,
         inputs: &mut StreamMerger<'_, '_, R, Q>,
         both: &mut LoggedOutcomeWriter<'_, '_, '_, W, V, K>,
-    ) -> Result<RunTotals, Fault>
+    ) -> Result<ReportData, Fault>
         ensures outputs { PassesOr (origin_of self.entry.start) inputs.old both.old.leaving inputs.new
             both.new.leaving result }
         ensures log { EntersOr G.is_open K.Told.tells (origin_of self.entry.start) HandsOutInputs
@@ -64,9 +66,9 @@ impl<
         ensures same { IsSameSinkPlace both.old both.new }
     {
         match self.run_all(inputs, both) {
-            Ok(passed) => Ok(RunTotals {
+            Ok(summary) => Ok(ReportData {
                 counts: both.leaving.counts,
-                passed,
+                summary,
                 cuts: inputs.cuts(),
             }),
             Err(PassFault::Run(fault)) => Err(Fault::Run(fault)),

@@ -10,9 +10,9 @@ ghost use Rattle.napt_records.specs.Faults.{is_shut_gate_fault};
 use crate::buffered_text::BufferedText;
 use crate::devices::Devices;
 use crate::run_end::RunEnd;
-use crate::start::{OriginSetting, Start};
+use crate::start::{RunSetting, Start};
 use crate::stream_log::NoLog;
-use crate::whole_captures::RunTally;
+use crate::whole_captures::ReportTally;
 use napt_account::OpenLog;
 use napt_capture::{Capture, Sink, Source, Watched, read_capture, write_text};
 use napt_dispatch::RunSummary;
@@ -37,11 +37,11 @@ struct CaptureOutputs {
     to_outside: BufferedText,
     to_inside: BufferedText,
     report: String,
-    passed: RunSummary,
+    summary: RunSummary,
 }
 
 /// Reads the capture of a side.
-#[tactic(auto, using(crate::proofs::Received::read_known, crate::proofs::Received::unread, crate::proofs::Received::own_readings))]
+#[tactic(auto, using(crate::proofs::DeviceClauses::read_known, crate::proofs::DeviceClauses::unread, crate::proofs::DeviceClauses::own_readings))]
 fn read_side<R: Source>(alloc: Global, side: Side, source: &mut R) -> Result<Capture, Fault>
     ensures ok { IfOk result (IsReadFrom (R.remaining source.old)) }
     ensures err { IfErr result (CaptureIsUnread side (R.remaining source.old)) }
@@ -72,7 +72,7 @@ impl CaptureFiles {
 
 /// Runs over the captures, and makes all outputs in memory.
 fn make_outputs<T: Threads + Wait + Copy + Send + 'static, G: Gate + Send + Sync + Drop + 'static>(
-    setting: OriginSetting<'_, '_, T, G>,
+    setting: RunSetting<'_, '_, T, G>,
     captures: CaptureFiles,
 ) -> Result<CaptureOutputs, RunFault>
     requires inside { All IsWritable captures.inside.records }
@@ -89,13 +89,17 @@ fn make_outputs<T: Threads + Wait + Copy + Send + 'static, G: Gate + Send + Sync
     let inputs = RecordMerger::new(inside.records, outside.records);
     let mut to_outside = Watched::new(BufferedText::new(alloc)?);
     let mut to_inside = Watched::new(BufferedText::new(alloc)?);
-    let RunTally { counts, passed } = setting.run_into(inputs, &mut to_outside, &mut to_inside)?;
-    let report = report_of(alloc, &counts, &passed.bindings, inside.cut, outside.cut)?;
+    let ReportTally { counts, summary } = setting.run_into(
+        inputs,
+        &mut to_outside,
+        &mut to_inside,
+    )?;
+    let report = report_of(alloc, &counts, &summary.bindings, inside.cut, outside.cut)?;
     Ok(CaptureOutputs {
         to_outside: to_outside.into_inner(),
         to_inside: to_inside.into_inner(),
         report,
-        passed,
+        summary,
     })
 }
 
@@ -181,7 +185,7 @@ pub fn run_captures<
     ensures fault { IfErr result (WholeFaultPost R.Source Q.Source G.is_open devices.old) }
     ensures reads { WholeReadsPost R.Source Q.Source devices.old (stream_ended result) devices.new }
 {
-    let passed = run_whole(
+    let summary = run_whole(
         rt,
         alloc,
         start,
@@ -193,7 +197,7 @@ pub fn run_captures<
         gate,
     )?;
     Ok(RunEnd {
-        passed,
+        summary,
         log: OpenLog::none(alloc),
     })
 }
@@ -256,7 +260,7 @@ fn run_whole<
     let inside = read_side(alloc, Side::Inside, inside)?;
     let outside = read_side(alloc, Side::Outside, outside)?;
     let captures = CaptureFiles { inside, outside };
-    let setting = OriginSetting {
+    let setting = RunSetting {
         rt,
         alloc,
         start,
@@ -266,5 +270,5 @@ fn run_whole<
     write_side(Side::Outside, &outputs.to_outside, to_outside)?;
     write_side(Side::Inside, &outputs.to_inside, to_inside)?;
     write_report(report, &outputs.report)?;
-    Ok(outputs.passed)
+    Ok(outputs.summary)
 }

@@ -4,7 +4,7 @@ ghost use Rattle.std.specs.Prelude.{◌≡◌, IfOk, string_bytes, true};
 ghost use Rattle.napt_rules.specs.Prelude.{TakesState};
 ghost use Rattle.napt_account.specs.{Log.LogModel, LogStarts.is_saved_log_state, ResumedLogRuns.IsLogOf};
 ghost use Rattle.napt_log_text.specs.Logs.{first_text};
-ghost use Rattle.napt_run.specs.{LogOrigins.{IsResumedFrom, origin_from}, Origins.origin_of, RunningLogs.AreLaws};
+ghost use Rattle.napt_run.specs.{LogOrigins.{IsResumedFrom, origin_from}, Origins.origin_of, RunningLogs.LogLawsHold};
 
 use crate::start::Start;
 use napt_account::{
@@ -83,7 +83,7 @@ pub(crate) fn resume_log<'a>(
 pub(crate) fn log_laws(start: Start<'_>)
     requires { TakesState start.config.now start.state.now }
     ensures { (log : LogModel) → IsLogOf start.entry.config.now (origin_of start.entry).state log →
-        AreLaws (origin_of start.entry) log }
+        LogLawsHold (origin_of start.entry) log }
 {
     effects_are_the_log();
     effects_have_the_rows();

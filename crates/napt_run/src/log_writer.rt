@@ -4,7 +4,7 @@ ghost use Rattle.std.specs.Prelude.{◌≡◌, [], List, true, IfErr, IfOk, Matc
 ghost use Rattle.napt_rules.specs.Prelude.{TakesState};
 ghost use Rattle.napt_account.specs.{LogBuilders.part_in, LogStarts.is_saved_log_state};
 ghost use Rattle.napt_sequential.specs.declared.passage.Trace.{Trace as Did};
-ghost use Rattle.napt_run.specs.{LogOrigins.{LoggedOrigin, log_origin, texts_from, texts_of}, LogRuns.IsLogFault, Origins.origin_of, OutputSinks.named, Posts.IsTextFault, RunningLogs.{IsReady, ending_with, running_log_of}};
+ghost use Rattle.napt_run.specs.{LogOrigins.{LoggedOrigin, log_origin, texts_from, texts_of}, LogRuns.IsLogFault, Origins.origin_of, OutcomeWriters.result_of_output, Posts.IsTextFault, RunningLogs.{IsReady, ending_with, running_log_of}};
 ghost use Rattle.napt_records.specs.declared.Which.TheVariants.{Log};
 
 use crate::log_start::{LogStart, ResumedLog, log_laws, resume_log};
@@ -44,7 +44,7 @@ pub struct LogWriter<'a, 'b, L: Sink> {
 }
 
 impl<'a, 'b, L: Sink> LogWriter<'a, 'b, L> {
-    ghost use Rattle.napt_run.specs.RunningLogs.{Adds, Closes, EntersNot, EntersWith, FlushPost, IsAfterFault, LogIsAt, left_with, opening_before};
+    ghost use Rattle.napt_run.specs.RunningLogs.{LogAdds, LogCloses, EntersNot, EntersWith, FlushPost, IsAfterFault, LogIsAt, left_with, opening_before};
 
     /// Begins the log of a run from a state, to be written to a device, and writes nothing yet.
     /// Fails only if memory is refused.
@@ -94,12 +94,12 @@ impl<'a, 'b, L: Sink> LogWriter<'a, 'b, L> {
     /// Writes a text, and flushes it.
     fn write(&mut self, text: &str) -> Result<(), Fault>
         ensures text { (from : LoggedOrigin) (before : List Did) → LogIsAt from before self.old →
-            Adds from before text.now self.old.output result self.new }
+            LogAdds from before text.now self.old.output result self.new }
         ensures fault { IfErr result (IsTextFault true) }
         ensures flushed { OnOk result (L.is_flushed self.new.output.device.now) }
     {
         match self.output.write_text(text.as_bytes()) {
-            Ok(()) => named(self.output.flush()),
+            Ok(()) => log_result(self.output.flush()),
             Err(fault) => Err(Fault::Write(Which::Log, fault)),
         }
     }
@@ -160,7 +160,7 @@ impl<'a, 'b, L: Sink> LogWriter<'a, 'b, L> {
     /// Writes and flushes the rows of the bindings live at the end, if no run continues it.
     fn finish(&mut self) -> Result<OpenLog, Fault>
         ensures text { (from : LoggedOrigin) (all : List Did) → LogIsAt from all self.old →
-            Closes from all (ending_with from all) self.old.output result self.new }
+            LogCloses from all (ending_with from all) self.old.output result self.new }
         ensures left { (from : LoggedOrigin) (all : List Did) → LogIsAt from all self.old →
             IfOk result (λ left. left ≡ left_with from all) }
         ensures fault { IfErr result (IsTextFault true) }
@@ -182,8 +182,8 @@ fn is_quiet(part: &InputPart) -> bool
 
 /// Returns an answer of the output as an answer of the log.
 #[inline(always)]
-fn named(answer: Result<(), WriteFault>) -> Result<(), Fault>
-    ensures { result ≡ named Log answer }
+fn log_result(answer: Result<(), WriteFault>) -> Result<(), Fault>
+    ensures { result ≡ result_of_output Log answer }
 {
     match answer {
         Ok(()) => Ok(()),
@@ -192,7 +192,7 @@ fn named(answer: Result<(), WriteFault>) -> Result<(), Fault>
 }
 
 impl<L: Sink> StreamLog for LogWriter<'_, '_, L> {
-    ghost use Rattle.napt_run.specs.{Logs.LogPost, LogLaws.log_unreported, RunningLogs.{Enters, LogFails, Opens, running_log_traces}};
+    ghost use Rattle.napt_run.specs.{Logs.LogPost, LogLaws.log_unreported, RunningLogs.{Enters, LogFails, LogOpens, running_log_traces}};
     ghost use Rattle.napt_run.specs.RunningLogLaws.{enters_more, enters_none, fails_more};
 
     type Told = Passage;
@@ -201,7 +201,7 @@ impl<L: Sink> StreamLog for LogWriter<'_, '_, L> {
 
     ghost is_ready = { λ origin it. IsReady origin it };
 
-    ghost opens = { λ old new. Opens old new };
+    ghost opens = { λ old new. LogOpens old new };
 
     ghost enters = { λ old all new. Enters old (running_log_traces all) new };
 

@@ -21,7 +21,7 @@ pub(crate) struct Output<'a, W: Sink> {
 
 impl<'a, W: Sink> Output<'a, W> {
     ghost use Rattle.napt_records.specs.Output.{IsTime};
-    ghost use Rattle.napt_run.specs.Outputs.{OutputGrows, Breaks};
+    ghost use Rattle.napt_run.specs.Outputs.{OutputGrows, OutputBreaks};
 
     /// Returns an output over a device, with nothing written yet.
     pub(crate) fn over(device: &'a mut W) -> Output<'a, W>
@@ -41,7 +41,7 @@ impl<'a, W: Sink> Output<'a, W> {
     fn begin(&mut self) -> Result<(), WriteFault>
         ensures ok { OnOk result (OutputGrows self.old file_header self.new) }
         ensures err { IfErr result (λ fault. self.old.is_broken ≡ false →
-            Breaks self.old file_header fault self.new) }
+            OutputBreaks self.old file_header fault self.new) }
     {
         let before = self.written;
         if self.is_broken {
@@ -64,7 +64,7 @@ impl<'a, W: Sink> Output<'a, W> {
         ensures ok { OnOk result (OutputGrows self.old file_header self.new) }
         ensures flushed { OnOk result (W.is_flushed self.new.device.now) }
         ensures err { IfErr result (λ fault. self.old.is_broken ≡ false →
-            Breaks self.old file_header fault self.new) }
+            OutputBreaks self.old file_header fault self.new) }
     {
         self.begin()?;
         self.flush()
@@ -77,7 +77,7 @@ impl<'a, W: Sink> Output<'a, W> {
         ensures ok { IsTime time → OnOk result (OutputGrows self.old
             (record_text (entry_of_packet time bytes.now)) self.new) }
         ensures err { IsTime time → IfErr result (λ fault. self.old.is_broken ≡ false →
-            Breaks self.old (record_text (entry_of_packet time bytes.now))
+            OutputBreaks self.old (record_text (entry_of_packet time bytes.now))
             fault self.new) }
     {
         let before = self.written;
@@ -100,7 +100,7 @@ impl<'a, W: Sink> Output<'a, W> {
     pub(crate) fn write_text(&mut self, text: &[u8]) -> Result<(), WriteFault>
         ensures ok { OnOk result (OutputGrows self.old text.now self.new) }
         ensures err { IfErr result (λ fault. self.old.is_broken ≡ false →
-            Breaks self.old text.now fault self.new) }
+            OutputBreaks self.old text.now fault self.new) }
     {
         let before = self.written;
         if self.is_broken {
@@ -124,7 +124,7 @@ impl<'a, W: Sink> Output<'a, W> {
         ensures ok { OnOk result (OutputGrows self.old [] self.new) }
         ensures flushed { OnOk result (W.is_flushed self.new.device.now) }
         ensures err { IfErr result (λ fault. self.old.is_broken ≡ false →
-            Breaks self.old [] fault self.new) }
+            OutputBreaks self.old [] fault self.new) }
     {
         let written = self.written;
         if self.is_broken {

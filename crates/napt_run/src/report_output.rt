@@ -4,7 +4,7 @@ ghost use Rattle.napt_rules.specs.declared.Outcome.{Outcome};
 ghost use Rattle.napt_records.specs.{Counts.AreCountsOf, Report.report_of};
 ghost use Rattle.napt_run.specs.{Captures.failed_writings, Streams.{GetsReport, IsReportFault}};
 
-use crate::capture_run::RunTotals;
+use crate::capture_run::ReportData;
 use napt_capture::{Sink, write_text};
 use napt_records::{Fault, Which, report_of};
 use napt_sequential::RunFault;
@@ -14,22 +14,22 @@ use std::alloc::Global;
 pub(crate) fn write_report<U: Sink>(
     alloc: Global,
     output: &mut U,
-    totals: &RunTotals,
+    totals: &ReportData,
 ) -> Result<(), Fault>
     ensures written { (outcomes : List Outcome) → AreCountsOf outcomes totals.now.counts →
         GetsReport (report_of totals.now.cuts.inside totals.now.cuts.outside outcomes
-        totals.now.passed.bindings.items) result (U.contents output.old) (U.contents output.new) }
+        totals.now.summary.bindings.items) result (U.contents output.old) (U.contents output.new) }
     ensures fault { IfErr result IsReportFault }
     ensures flushed { OnOk result (U.is_flushed output.new) }
     ensures count { U.failed output.new ≡ U.failed output.old
         + failed_writings Which.Report result }
 {
-    let RunTotals {
+    let ReportData {
         counts,
-        passed,
+        summary,
         cuts,
     } = totals;
-    let Ok(text) = report_of(alloc, counts, &passed.bindings, cuts.inside, cuts.outside) else {
+    let Ok(text) = report_of(alloc, counts, &summary.bindings, cuts.inside, cuts.outside) else {
         return Err(Fault::Run(RunFault::Memory));
     };
     match write_text(output, text.as_bytes()) {

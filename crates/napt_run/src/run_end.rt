@@ -7,7 +7,7 @@ use napt_dispatch::RunSummary;
 #[derive(Drop)]
 pub struct RunEnd {
     /// The counts of the run, with the bindings at its end, from which its state is made.
-    pub passed: RunSummary,
+    pub summary: RunSummary,
     /// The open entries of the log, which are saved with the state. A run without a log has none.
     pub log: OpenLog,
 }

@@ -1,11 +1,11 @@
 //! The captures that a run reads.
 ghost use Rattle.std.specs.Prelude.{◌≡◌, ◌+◌, List, Option, ℕ, IfErr, IfOk};
-ghost use Rattle.napt_run.specs.{Captures.failed_readings, OutputSinks.{IsNew, IsSettled, SinkBegins}, Origins.origin_of, Posts.RunsTo, LoggedOutputSinks.IsSameSinkPlace, LogRuns.LogsTo, declared.output_sinks.OutcomeWriter.OutcomeWriter as KnownLeaving};
+ghost use Rattle.napt_run.specs.{Captures.failed_readings, OutcomeWriters.{IsNewOutcomeWriter, IsSettled, SinkBegins}, Origins.origin_of, Posts.RunsTo, LoggedOutcomeWriters.IsSameSinkPlace, LogRuns.LogsTo, declared.outcome_writer.OutcomeWriter.OutcomeWriter as KnownLeaving};
 ghost use Rattle.napt_run.specs.Streams.{HasRead, IsAfterHeader, IsHeaderFault, IsOfRun};
 
-use crate::capture_run::RunTotals;
-use crate::logged_output_sinks::LoggedOutcomeWriter;
-use crate::start::OriginSetting;
+use crate::capture_run::ReportData;
+use crate::logged_outcome_writer::LoggedOutcomeWriter;
+use crate::start::RunSetting;
 use crate::stream_log::StreamLog;
 use napt_capture::{RecordReader, Sink, Source};
 use napt_pool::Gate;
@@ -22,19 +22,22 @@ struct BothReaders {
     outside: RecordReader,
 }
 
-impl<
-    T: Threads + Wait + Copy + Send + 'static,
-    G: Gate + Send + Sync + Drop + 'static,
-> OriginSetting<'_, '_, T, G> {
+impl<T: Threads + Wait + Copy + Send + 'static, G: Gate + Send + Sync + Drop + 'static> RunSetting<
+    '_,
+    '_,
+    T,
+    G,
+> {
     /// Reads the headers of the captures, and runs over them.
     pub(crate) fn run_over<R: Source, Q: Source, W: Sink, V: Sink, K: StreamLog>(
         self,
         inside: &mut R,
         outside: &mut Q,
         both: &mut LoggedOutcomeWriter<'_, '_, '_, W, V, K>,
-    ) -> Result<RunTotals, Fault>
+    ) -> Result<ReportData, Fault>
         requires log { K.is_settled both.old.log.now }
-        ensures runs { (begun : KnownLeaving W V W.Sink V.Sink) → IsNew begun → SinkBegins begun both.old.leaving →
+        ensures runs { (begun : KnownLeaving W V W.Sink V.Sink) →
+            IsNewOutcomeWriter begun → SinkBegins begun both.old.leaving →
             IsSettled both.old.leaving → RunsTo (origin_of self.entry.start) (R.remaining inside.old)
             (Q.remaining outside.old) begun both.new.leaving result }
         ensures readings { (¬ IsOfRun result) → HasRead R.failed Q.failed
@@ -60,10 +63,10 @@ impl<
         outside: &mut Q,
         records: BothReaders,
         both: &mut LoggedOutcomeWriter<'_, '_, '_, W, V, K>,
-    ) -> Result<RunTotals, Fault>
+    ) -> Result<ReportData, Fault>
         ensures runs { (bytes others : Option (List ℕ)) (begun : KnownLeaving W V W.Sink V.Sink) →
             IsAfterHeader R.Source records.inside bytes inside.old →
-            IsAfterHeader Q.Source records.outside others outside.old → IsNew begun →
+            IsAfterHeader Q.Source records.outside others outside.old → IsNewOutcomeWriter begun →
             SinkBegins begun both.old.leaving →
             RunsTo (origin_of self.entry.start) bytes others begun both.new.leaving result }
         ensures readings { (¬ IsOfRun result) → HasRead R.failed Q.failed

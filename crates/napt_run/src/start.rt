@@ -16,7 +16,7 @@ pub struct Start<'a> {
 
 /// The setting of a run: all that it needs in addition to its devices.
 #[derive(Drop)]
-pub struct OriginSetting<'a, 'b, T, G> {
+pub struct RunSetting<'a, 'b, T, G> {
     pub(crate) rt: &'a T,
     pub(crate) alloc: Global,
     pub(crate) start: Start<'b>,

@@ -1,13 +1,13 @@
 //! A run from devices to devices, headers included.
 ghost use Rattle.std.specs.Prelude.{◌≡◌, IfErr, IfOk};
-ghost use Rattle.napt_run.specs.{OutputSinks.IsNew, Origins.origin_of, Posts.{CapturePost, FaultPost, IsBeforeReport, RunsTo, SinkPost, capture_to, log_by}, LoggedOutputSinks.IsSameSinkPlace, LogRuns.LogsTo, Runs.IsToldOf};
+ghost use Rattle.napt_run.specs.{OutcomeWriters.IsNewOutcomeWriter, Origins.origin_of, Posts.{CapturePost, FaultPost, IsBeforeReport, RunsTo, SinkPost, capture_to, log_by}, LoggedOutcomeWriters.IsSameSinkPlace, LogRuns.LogsTo, Runs.IsToldOf};
 ghost use Rattle.napt_run.specs.Streams.{HasRead, IsOfRun, stream_ended};
 
-use crate::capture_run::RunTotals;
-use crate::logged_output_sinks::LoggedOutcomeWriter;
+use crate::capture_run::ReportData;
+use crate::logged_outcome_writer::LoggedOutcomeWriter;
+use crate::outcome_writer::OutcomeWriter;
 use crate::output::Output;
-use crate::output_sinks::OutcomeWriter;
-use crate::start::OriginSetting;
+use crate::start::RunSetting;
 use crate::stream_log::StreamLog;
 use napt_account::OpenLog;
 use napt_capture::{Sink, Source};
@@ -16,10 +16,12 @@ use napt_records::{Fault, Which};
 use std::sync::Wait;
 use std::thread::Threads;
 
-impl<
-    T: Threads + Wait + Copy + Send + 'static,
-    G: Gate + Send + Sync + Drop + 'static,
-> OriginSetting<'_, '_, T, G> {
+impl<T: Threads + Wait + Copy + Send + 'static, G: Gate + Send + Sync + Drop + 'static> RunSetting<
+    '_,
+    '_,
+    T,
+    G,
+> {
     /// Runs over the captures and writes both outputs, and the log if there is one. Returns the
     /// data of the report, and the accounts of the log that are saved.
     pub(crate) fn stream<R: Source, Q: Source, W: Sink, V: Sink, K: StreamLog>(
@@ -29,7 +31,7 @@ impl<
         to_outside: &mut W,
         to_inside: &mut V,
         log: &mut K,
-    ) -> Result<(RunTotals, OpenLog), Fault>
+    ) -> Result<(ReportData, OpenLog), Fault>
         requires ready { K.is_ready (origin_of self.start) log.old }
         ensures to_outside { CapturePost W.Sink K.is_kept Which.Outside (origin_of self.entry.start)
             (R.remaining inside.old) (Q.remaining outside.old) (stream_ended result)
@@ -69,7 +71,7 @@ impl<
         to_outside: &mut W,
         to_inside: &mut V,
         log: &mut K,
-    ) -> Result<RunTotals, Fault>
+    ) -> Result<ReportData, Fault>
         requires log { K.is_settled log.old }
         ensures to_outside { SinkPost W.Sink (capture_to Which.Outside (origin_of self.entry.start))
             Which.Outside (R.remaining inside.old) (Q.remaining outside.old) (stream_ended result)
@@ -108,8 +110,8 @@ impl<
         inside: &mut R,
         outside: &mut Q,
         both: &mut LoggedOutcomeWriter<'_, '_, '_, W, V, K>,
-    ) -> Result<RunTotals, Fault>
-        requires new { IsNew both.old.leaving }
+    ) -> Result<ReportData, Fault>
+        requires new { IsNewOutcomeWriter both.old.leaving }
         requires log { K.is_settled both.old.log.now }
         ensures runs { RunsTo (origin_of self.entry.start) (R.remaining inside.old)
             (Q.remaining outside.old) both.old.leaving both.new.leaving result }

@@ -6,7 +6,7 @@ ghost use Rattle.napt_run.specs.{DevicesPosts.{EndPost, ExplainedBy, OutputsPost
 use crate::devices::Devices;
 use crate::report_output::write_report;
 use crate::run_end::RunEnd;
-use crate::start::{OriginSetting, Start};
+use crate::start::{RunSetting, Start};
 use crate::stream_log::StreamLog;
 use napt_capture::{Sink, Source};
 use napt_pool::Gate;
@@ -74,7 +74,7 @@ pub fn run_streams<
     ensures fault { IfErr result (ExplainedBy R.Source Q.Source L.is_kept G.is_open devices.old) }
     ensures reads { ReadsPost R.Source Q.Source devices.old (stream_ended result) devices.new }
 {
-    let setting = OriginSetting {
+    let setting = RunSetting {
         rt,
         alloc,
         start,
@@ -90,7 +90,7 @@ pub fn run_streams<
     let (totals, log) = ran;
     write_report(alloc, &mut devices.report, &totals)?;
     Ok(RunEnd {
-        passed: totals.passed,
+        summary: totals.summary,
         log,
     })
 }

@@ -5,10 +5,10 @@ ghost use Rattle.napt_dispatch.specs.Dispatch.{IsFaultUnder};
 ghost use Rattle.napt_records.specs.{Counts.AreCountsOf, Output.IsTimely};
 ghost use Rattle.napt_run.specs.{Origins.origin_of, Streams.capture_text, WholeCaptures.{IsTallyOf, WritesAll}};
 
-use crate::logged_output_sinks::LoggedOutcomeWriter;
+use crate::logged_outcome_writer::LoggedOutcomeWriter;
+use crate::outcome_writer::OutcomeWriter;
 use crate::output::Output;
-use crate::output_sinks::OutcomeWriter;
-use crate::start::OriginSetting;
+use crate::start::RunSetting;
 use crate::stream_log::NoLog;
 use napt_capture::Sink;
 use napt_dispatch::{PassFault, RunSummary};
@@ -21,22 +21,24 @@ use std::thread::Threads;
 
 /// The data of a run's report, except which captures were cut, and of the state at its end.
 #[derive(Drop)]
-pub(crate) struct RunTally {
+pub(crate) struct ReportTally {
     pub(crate) counts: OutcomeCounts,
-    pub(crate) passed: RunSummary,
+    pub(crate) summary: RunSummary,
 }
 
-impl<
-    T: Threads + Wait + Copy + Send + 'static,
-    G: Gate + Send + Sync + Drop + 'static,
-> OriginSetting<'_, '_, T, G> {
+impl<T: Threads + Wait + Copy + Send + 'static, G: Gate + Send + Sync + Drop + 'static> RunSetting<
+    '_,
+    '_,
+    T,
+    G,
+> {
     /// Runs over the inputs, and writes both captures. If an output fails, the fault is `Memory`.
     pub(crate) fn run_into<W: Sink, V: Sink>(
         self,
         inputs: RecordMerger,
         to_outside: &mut W,
         to_inside: &mut V,
-    ) -> Result<RunTally, RunFault>
+    ) -> Result<ReportTally, RunFault>
         requires timely { All IsTimely inputs }
         ensures to_outside { OnOk result (Appends (W.contents to_outside.old)
             (W.contents to_outside.new) (capture_text (origin_of self.entry.start) Side.Outside
@@ -70,7 +72,7 @@ impl<
         self,
         inputs: RecordMerger,
         both: &mut LoggedOutcomeWriter<'_, '_, '_, W, V, NoLog>,
-    ) -> Result<RunTally, RunFault>
+    ) -> Result<ReportTally, RunFault>
         requires timely { All IsTimely inputs }
         requires counts { AreCountsOf [] both.old.leaving.counts }
         ensures ok { IfOk result
@@ -89,7 +91,7 @@ impl<
         self,
         mut inputs: RecordMerger,
         both: &mut LoggedOutcomeWriter<'_, '_, '_, W, V, NoLog>,
-    ) -> Result<RunTally, RunFault>
+    ) -> Result<ReportTally, RunFault>
         requires timely { All IsTimely inputs }
         requires counts { AreCountsOf [] both.old.leaving.counts }
         ensures ok { IfOk result
@@ -97,9 +99,9 @@ impl<
         ensures fault { IfErr result (IsFaultUnder G.is_open) }
     {
         match self.run_all(&mut inputs, both) {
-            Ok(passed) => Ok(RunTally {
+            Ok(summary) => Ok(ReportTally {
                 counts: both.leaving.counts,
-                passed,
+                summary,
             }),
             Err(PassFault::Run(fault)) => Err(fault),
             Err(PassFault::Arrival(none)) => match none {},

@@ -4,7 +4,7 @@
 
 use crate::calls::TestRuntime;
 use crate::captures::{Call, HEADER, RunInput, RunOutput, captured, push_packet};
-use crate::gates::{GateMode, Hold, MOST_ASKS};
+use crate::gates::{GateMode, Hold, MOST_REQUESTS};
 use crate::packets::udp;
 use crate::sample_inputs::THREE_ADDRESSES;
 use crate::samples::hosts::{CLIENT, RESOLVER, SECOND_CLIENT, external, host};
@@ -84,7 +84,7 @@ fn gate_of_a_call_stays_shut(rt: HostRuntime) -> Result<(), Fail> {
         let (shut, asks) = under_gate(&rt, call, TWO_ADDRESSES, &packets, GateMode::Shut(1, 3))?;
         let fault = Fault::Run(RunFault::Pool(PoolFault::GateShut(1)));
         assert_eq!(rt; shut.answer, Err(fault), "{call:?}");
-        assert_eq!(rt; asks, MOST_ASKS, "{call:?}");
+        assert_eq!(rt; asks, MOST_REQUESTS, "{call:?}");
         assert!(rt; shut.to_outside.len() <= most, "{call:?}");
         assert!(rt; open.to_outside.starts_with(&shut.to_outside), "{call:?}");
         assert!(rt; shut.report.is_empty(), "{call:?}");

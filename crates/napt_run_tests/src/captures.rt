@@ -33,13 +33,13 @@ pub(crate) enum Device {
 }
 
 /// Moves at most `most` > 0 bytes at a time, and fails at a call, from 1, or never if it is 0.
-pub(crate) fn at_most(most: usize, call: u64, trouble: InjectedFault) -> FaultPlan
+pub(crate) fn at_most(most: usize, call: u64, injected: InjectedFault) -> FaultPlan
     ensures { 0 < result.most }
 {
     FaultPlan {
         most: most.max(1),
-        call,
-        trouble,
+        failing_call: call,
+        fault: injected,
     }
 }
 
@@ -60,7 +60,7 @@ fn plan_of(plans: &[(Device, FaultPlan)], device: Device) -> FaultPlan
             found = *plan;
         }
     }
-    at_most(found.most, found.call, found.trouble)
+    at_most(found.most, found.failing_call, found.fault)
 }
 
 /// The call of a program: `napt` reads whole captures, `stream` in steps, with or without a log.

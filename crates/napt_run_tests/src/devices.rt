@@ -17,8 +17,8 @@ drop bad-checksum 0\ndrop fragment 0\ndrop unsupported 0\ndrop bad-inner 0\ndrop
 drop no-binding 0\ndrop filtered 0\ndrop over-quota 0\ndrop no-port 0\nudp 10.0.0.2:5000 203.0.113.1:5000\n";
 
 /// Moves a byte at a time, and fails after this number of bytes.
-fn slow(moved: u16, trouble: InjectedFault) -> FaultPlan {
-    at_most(1, u64::from(moved) + 1, trouble)
+fn slow(moved: u16, injected: InjectedFault) -> FaultPlan {
+    at_most(1, u64::from(moved) + 1, injected)
 }
 
 /// The result of a run, and the lengths of its texts: to the outside, to the inside, and of the report.
@@ -92,7 +92,7 @@ fn each_write_of_a_run_goes_wrong(rt: HostRuntime) -> Result<(), Fail> {
         (Device::Report, Which::Report, 307),
     ];
     for (device, which, length) in rows {
-        for (trouble, calls) in [
+        for (injected, calls) in [
             (InjectedFault::TakesNone, length),
             (fails, length.saturating_add(1)),
         ] {
@@ -104,7 +104,7 @@ fn each_write_of_a_run_goes_wrong(rt: HostRuntime) -> Result<(), Fail> {
                     _ => [70, 24, taken],
                 };
                 let end = (Err(Fault::Write(which, WriteFault { written })), lengths);
-                assert_ends(&rt, &[(device, slow(taken, trouble))], GateMode::Open, end)?;
+                assert_ends(&rt, &[(device, slow(taken, injected))], GateMode::Open, end)?;
             }
         }
     }

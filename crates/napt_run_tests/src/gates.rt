@@ -7,7 +7,7 @@ use std::sync::atomic::{AtomicU64, Ordering};
 use std::thread;
 
 /// The greatest number of looks for another worker's step, and of requests for one leg.
-pub(crate) const MOST_ASKS: u64 = 1_000_000;
+pub(crate) const MOST_REQUESTS: u64 = 1_000_000;
 
 /// The workers that a gate delays, and the events that it counts.
 #[derive(Clone, Copy)]
@@ -91,7 +91,7 @@ impl Hold {
 
 /// Waits for a limited time until a count is at least this great, and returns whether it is.
 fn is_soon(count: &AtomicU64, least: u64) -> bool {
-    for _ in 0..MOST_ASKS {
+    for _ in 0..MOST_REQUESTS {
         if count.load(Ordering::SeqCst) >= least {
             return true;
         }
@@ -133,7 +133,7 @@ impl Gate for Hold {
                 if worker == 1 {
                     self.counted();
                 } else {
-                    is_soon(&self.count, MOST_ASKS);
+                    is_soon(&self.count, MOST_REQUESTS);
                     thread::yield_now();
                 }
                 false

@@ -3,7 +3,7 @@
 //! `tests/runs/legs.txt`, at the top of the repository.
 
 use crate::calls::{PacketEnds, TestRuntime, inputs_of, workers_run};
-use crate::gates::{GateMode, Hold, MOST_ASKS};
+use crate::gates::{GateMode, Hold, MOST_REQUESTS};
 use crate::large::compared;
 use crate::sample_inputs::THREE_ADDRESSES;
 use crate::samples::hosts::{CLIENT, RESOLVER, SECOND_CLIENT, external, host};
@@ -130,7 +130,7 @@ fn gate_stays_shut(rt: HostRuntime) -> Result<(), Fail> {
         let gate = Hold::new(rt.alloc(), way)?;
         let run = workers_run(&rt, TWO_ADDRESSES, "64", &inputs, Arc::try_clone(&gate)?)?;
         assert_eq!(rt; run.err(), Some(RunFault::Pool(PoolFault::GateShut(1))));
-        assert_eq!(rt; gate.count(), MOST_ASKS);
+        assert_eq!(rt; gate.count(), MOST_REQUESTS);
     }
     Ok(())
 }

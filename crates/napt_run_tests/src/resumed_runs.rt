@@ -64,7 +64,7 @@ fn run_on(
         to_outside: to_outside.into_inner(),
         to_inside: to_inside.into_inner(),
         report: report.into_inner(),
-        state: end.passed.into_state_if(true, alloc)?.ok_or("a state")?,
+        state: end.summary.into_state_if(true, alloc)?.ok_or("a state")?,
     })
 }
 

@@ -120,7 +120,7 @@ fn run_on(
     let gate = Hold::new(alloc, GateMode::Open)?;
     let end = run_streams(rt, alloc, start, &mut devices, gate)?;
     drop(devices);
-    let state = end.passed.into_state_if(true, alloc)?.ok_or("a state")?;
+    let state = end.summary.into_state_if(true, alloc)?.ok_or("a state")?;
     Ok(Part {
         text: text.into_inner(),
         saved: end.log.saved(alloc, &state)?,

@@ -5,7 +5,7 @@ use Rattle.std.{specs.List.slice_get, proofs.lemmas.{Bool.{ne_eqb, eqb-true, eqb
 use Rattle.napt_config.specs.Rules.{Rules, RulesInvariant}
 use Rattle.napt_rules.specs.{declared.Leg.Leg, Prelude.{act, LegAct, legs_at, local_after}}
 use Rattle.napt_translate.specs.Translators.{initial_translator, with_local_state, translator_after}
-use Rattle.napt_sequential.{specs.declared.counted_translator.CountedTranslator.CountedTranslator, proofs.{Lists.{get_set, get_set_other}, TracesAlone.acts_same}}
+use Rattle.napt_sequential.{specs.declared.counted_translator.CountedTranslator.CountedTranslator, proofs.{Lists.{get_set, get_set_other}, OwnTraces.acts_same}}
 use Rattle.napt_sequential.specs.CountedTranslators.{SequentialRunModel, IsCountedTranslator, AreCountedTranslators, act_of, act_there, traced_act, traced_answer, state_after, counted_after}
 use Rattle.napt_laws.proofs.RunsLocal.{leg_at_once, other_at_once}
 

@@ -49,9 +49,9 @@ traced_act tells timers a = record { answer = answer_of a; passage = tells (pass
 
 -- The translator at `place` gave this answer, and the translators of a state became those of the state after the leg.
 abbrev pub TracesLeg : Rules → ℕ → Leg → List CountedTranslator → List CountedTranslator → TracedAnswer Passage → Type 0
-TracesLeg rules place leg before after told = (state : SequentialRunModel) (address : ℕ) →
+TracesLeg rules place leg before after traced = (state : SequentialRunModel) (address : ℕ) →
     AreCountedTranslators rules state before → state.clock ≤ leg.now → slice_get rules.pool place ≡ Some address →
-    (told ≡ traced_act (λ passage. passage) rules.timers (act_of address leg (act rules address leg state.list)))
+    (traced ≡ traced_act (λ passage. passage) rules.timers (act_of address leg (act rules address leg state.list)))
     × AreCountedTranslators rules (state_after rules address leg state) after
 
 -- The record without content.

@@ -14,15 +14,15 @@ pub record SequentialRunInvariant (rules : Rules) (state : State) (inputs : List
 
 -- The result of an input after these: the last outcome and the last trace of the run over all of them, and their time.
 pub record StepPost (rules : Rules) (state : State) (before : List Arrival) (input : Arrival)
-    (told : StepResult) : Type 0 where
+    (result : StepResult) : Type 0 where
   pub outcome : (effect_from rules state (before ++ input ∷ [])).outcomes
-      ≡ (effect_from rules state before).outcomes ++ told.outcome ∷ []
-  pub time : told.trace.now ≡ last_clock state.clock (before ++ input ∷ [])
-  pub trace : traces_of rules state (before ++ input ∷ []) ≡ traces_of rules state before ++ told.trace ∷ []
+      ≡ (effect_from rules state before).outcomes ++ result.outcome ∷ []
+  pub time : result.trace.now ≡ last_clock state.clock (before ++ input ∷ [])
+  pub trace : traces_of rules state (before ++ input ∷ []) ≡ traces_of rules state before ++ result.trace ∷ []
 
 -- The same holds of a run from the redirects of the configuration.
 abbrev pub IsRunFromOpening : Rules → List Arrival → SequentialRun → Type 0
 IsRunFromOpening rules inputs it = SequentialRunInvariant rules (initial_state rules) inputs it
 
 abbrev pub StepFromOpeningPost : Rules → List Arrival → Arrival → StepResult → Type 0
-StepFromOpeningPost rules before input told = StepPost rules (initial_state rules) before input told
+StepFromOpeningPost rules before input result = StepPost rules (initial_state rules) before input result

@@ -26,13 +26,13 @@ impl CountedTranslator {
         leg: Leg,
     ) -> Result<TracedAnswer<Passage>, AllocError>
         requires few { self.old.legs < 2 ^ 64 - 1 }
-        ensures told { IfOk result (λ told. told
+        ensures trace { IfOk result (λ traced. traced
             ≡ traced_answer (λ passage. passage) leg self.old.translator) }
         ensures left { OnOk result (self.new ≡ counted_after leg self.old) }
     {
-        let told = Passage::translate_traced(alloc, &mut self.translator, leg)?;
+        let traced = Passage::translate_traced(alloc, &mut self.translator, leg)?;
         self.legs += 1;
-        Ok(told)
+        Ok(traced)
     }
 
     /// Returns the bindings that are live at `now`, in ns.
@@ -43,7 +43,7 @@ impl CountedTranslator {
     }
 
     /// Returns the bindings that are live or held at `now`, in ns, in the order of their rows.
-    pub(crate) fn final_bindings(
+    pub(crate) fn state_bindings(
         &self,
         alloc: Global,
         now: u64,
@@ -51,6 +51,6 @@ impl CountedTranslator {
         ensures { IfOk result (λ made. AreBindingsLeft self.now.translator.rules.timers
             (max now self.now.translator.table.at) (bindings_left_at now self.now) made.items) }
     {
-        self.translator.final_bindings(alloc, now)
+        self.translator.state_bindings(alloc, now)
     }
 }

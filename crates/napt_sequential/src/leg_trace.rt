@@ -34,7 +34,7 @@ pub trait LegTrace: Copy + Drop + Send + 'static {
         translator: &mut Translator,
         leg: Leg,
     ) -> Result<TracedAnswer<Self>, AllocError>
-        ensures told { IfOk result (λ told. told ≡ traced_answer tells leg translator.old) }
+        ensures trace { IfOk result (λ traced. traced ≡ traced_answer tells leg translator.old) }
         ensures left { OnOk result (translator.new ≡ translator_after leg translator.old) }
         ensures refused { OnErr result (translator.new ≡ translator.old) };
 }

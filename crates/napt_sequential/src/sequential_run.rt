@@ -9,7 +9,7 @@ ghost use Rattle.napt_sequential.specs.Faults.{IsOneThreadFault};
 
 use crate::counted_translator::CountedTranslator;
 use crate::outcome::StepResult;
-use crate::run::{begin, bindings, final_bindings, legs, resume, step};
+use crate::run::{begin, bindings, legs, resume, state_bindings, step};
 use crate::{Input, MOST_INPUTS, RunFault};
 use napt_config::Config;
 use napt_rules::{Row, State};
@@ -144,12 +144,12 @@ impl SequentialRun {
 
     /// Returns the state after the run, from which another run can start: the bindings live or held
     /// at the latest clock, in the order of `bindings`. Fails only if memory is refused.
-    pub fn final_bindings(&self, alloc: Global) -> Result<State, AllocError>
+    pub fn final_state(&self, alloc: Global) -> Result<State, AllocError>
         ensures { (rules : Rules) (state : State) (inputs : List Arrival) →
             SequentialRunInvariant rules state inputs self.now →
             IfOk result (IsStateInOrder rules (model.next_state rules state inputs)) }
     {
-        let list = final_bindings(alloc, &self.translators, self.clock)?;
+        let list = state_bindings(alloc, &self.translators, self.clock)?;
         Ok(State {
             clock: self.clock,
             list,

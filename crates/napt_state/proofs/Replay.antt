@@ -9,7 +9,7 @@ use Rattle.napt_state.specs.declared.{saved_bindings.SavedBinding.SavedBinding, 
 use Rattle.napt_state.specs.declared.line.StateLine.TheVariants as lines
 use Rattle.napt_state.specs.declared.saved_bindings.SavedBinding.TheVariants as bindings
 use Rattle.napt_state.specs.StateText.{flow, end, binding_lines, log_lines, lines_between, counts_of}
-use Rattle.napt_state.specs.StateContents.{CanFollow, HasNoLast}
+use Rattle.napt_state.specs.StateContents.{CanFollow, LastIsNotLive}
 
 pub data Stage : Type 0 where
   Going : StateFileModel → Stage
@@ -136,14 +136,14 @@ log_out clock None (b ∷ list) position h = refl
 log_out clock (Some other) list position h = refl
 
 -- No flow follows if the last binding is not a live one.
-pub flow_out : (f : Flow) (list : List SavedBinding) → HasNoLast list → with_flow f list ≡ None
+pub flow_out : (f : Flow) (list : List SavedBinding) → LastIsNotLive list → with_flow f list ≡ None
 flow_out f [] h = refl
 flow_out f (bindings.Live b account ∷ []) h = absurd (h [] b account refl)
 flow_out f (bindings.Ended row end ∷ []) h = refl
 flow_out f (x ∷ (y ∷ more)) h = ap (option_map (λ (l : List SavedBinding). x ∷ l)) (flow_out f (y ∷ more)
     (λ front b account is. h (x ∷ front) b account (ap (λ (l : List SavedBinding). x ∷ l) is)))
 
-pub no_flow_follows : (f : Flow) (old : StateFileModel) → HasNoLast old.bindings → ¬ CanFollow (flow f) old
+pub no_flow_follows : (f : Flow) (old : StateFileModel) → LastIsNotLive old.bindings → ¬ CanFollow (flow f) old
 no_flow_follows f old h =
     none_follows (flow f) old (ap (flow_in old.clock old.log) (flow_out f old.bindings h))
 

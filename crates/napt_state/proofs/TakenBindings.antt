@@ -11,7 +11,7 @@ use Rattle.napt_rules.specs.Prelude.{Binding, Protocol, Icmp, Tcp, Udp, Timers, 
 use Rattle.napt_rules.proofs.Lists.{each_filter, filter_all}
 use Rattle.napt_laws.proofs.{Lists.{filter_map, filter_swap}, Purges.purge_purge}
 use Rattle.napt_state.specs.declared.endpoints.{EndpointKey.EndpointKey, Endpoints.Endpoints}
-use Rattle.napt_state.specs.StateReaders.{state_external_key, state_inside_key, state_key_eq, clash, AreOf, AreRemotes}
+use Rattle.napt_state.specs.StateReaders.{state_external_key, state_inside_key, state_key_eq, clash, AreEndpointsOf, AreRemotes}
 use Rattle.napt_binding.specs.Lists.{pair_eq}
 
 -- LOOSE BINDINGS
@@ -116,8 +116,8 @@ clash_more old new row external inside is its outer inner other =
     (hash.contains state_key_eq old.inside (state_inside_key other))
 
 pub are_more : (list : List Binding) (b : Binding) (row : Row) (old new : Endpoints) → row ≡ b.row →
-    AreOf list old → ((other : Row) → clash new other ≡ (clashes other row || clash old other)) →
-    AreOf (b ∷ list) new
+    AreEndpointsOf list old → ((other : Row) → clash new other ≡ (clashes other row || clash old other)) →
+    AreEndpointsOf (b ∷ list) new
 are_more list b row old new is are more other =
     more other ∙ ap (λ (r : Row). clashes other r || clash old other) is
     ∙ ap (λ v. clashes other b.row || v) (are other)

@@ -46,8 +46,8 @@ pub record IsAddedFlow (flow : Flow) (old new : List SavedBinding) : Type 0 wher
   pub now : new ≡ before ++ bindings.Live (record last { flows = last.flows ++ flow ∷ [] }) account ∷ []
 
 -- The last binding, if there is one, is not live.
-abbrev pub HasNoLast : List SavedBinding → Type 0
-HasNoLast list = (before : List SavedBinding) (last : Binding) (account : Option Account) →
+abbrev pub LastIsNotLive : List SavedBinding → Type 0
+LastIsNotLive list = (before : List SavedBinding) (last : Binding) (account : Option Account) →
     ¬ (list ≡ before ++ bindings.Live last account ∷ [])
 
 -- The text has the log of a state in the form of earlier versions.

@@ -27,8 +27,8 @@ clash all row = hash.contains state_key_eq all.external (state_external_key row)
     || hash.contains state_key_eq all.inside (state_inside_key row)
 
 -- The endpoints are those of the bindings.
-abbrev pub AreOf : List Binding → Endpoints → Type 0
-AreOf list all = (row : Row) → clash all row ≡ clashes_with_any row list
+abbrev pub AreEndpointsOf : List Binding → Endpoints → Type 0
+AreEndpointsOf list all = (row : Row) → clash all row ≡ clashes_with_any row list
 
 -- The remotes in a set are those of the flows.
 abbrev pub AreRemotes : {S : Type 0} → List Flow → HashSet (ℕ × ℕ) S → Type 0

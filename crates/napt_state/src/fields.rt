@@ -14,7 +14,7 @@ use napt_wire::{Endpoint, Protocol};
 use std::alloc::AllocError;
 
 /// The largest number of entries of a log, and of packets of an entry, with which a run can start.
-pub(crate) const MOST: u64 = 1 << 61;
+pub(crate) const MOST_SAVED: u64 = 1 << 61;
 
 /// Appends a number in decimal. Fails only if memory is refused.
 pub(crate) fn add_number(text: &mut String, number: u64) -> Result<(), AllocError>
@@ -139,13 +139,13 @@ pub(crate) fn number(line: &str, place: usize) -> Option<u64>
     word(line, place).parse::<u64>().ok()
 }
 
-/// Returns the number in the word at an index, if it is at most `MOST`.
+/// Returns the number in the word at an index, if it is at most `MOST_SAVED`.
 pub(crate) fn count(line: &str, place: usize) -> Option<u64>
     ensures read { (number : ℕ) → number ≤ 2 ^ 61 →
         slice_index_or (texts.words_in line.now) place [] ≡ decimal number → result ≡ Some number }
     ensures few { IfSome result (λ number. number ≤ 2 ^ 61) }
 {
-    number(line, place).filter(|number| *number <= MOST)
+    number(line, place).filter(|number| *number <= MOST_SAVED)
 }
 
 /// Returns the end of an entry in the word at an index.

@@ -255,7 +255,7 @@ fn one_flow(alloc: Global, protocol: Protocol, last: u64) -> Result<Vec<Flow>, A
 }
 
 /// The largest number of entries, and of packets of one entry, that a state can have.
-const MOST: u64 = 1 << 61;
+const MOST_SAVED: u64 = 1 << 61;
 
 /// Returns the number of entries of a log, or 0 if there is no log.
 pub(crate) fn made_so_far(log: Option<LogPosition>) -> u64
@@ -274,7 +274,7 @@ pub(crate) fn has_accounts(alloc: Global, contents: &StateFileContents) -> Resul
     ensures { IfOk result (λ has. has ≡ saved.has_accounts contents.now) }
 {
     let made = made_so_far(contents.log);
-    if made > MOST {
+    if made > MOST_SAVED {
         return Ok(false);
     }
     let mut numbers: HashSet<u64> = HashSet::new(alloc);
@@ -310,5 +310,5 @@ fn is_within(account: Account, made: u64, clock: u64) -> bool
     ensures { result ≡ is_account made clock account }
 {
     (0 < account.number && account.number <= made)
-        && (account.made <= clock && (account.sent <= MOST && account.received <= MOST))
+        && (account.made <= clock && (account.sent <= MOST_SAVED && account.received <= MOST_SAVED))
 }

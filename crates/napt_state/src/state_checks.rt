@@ -4,7 +4,7 @@ ghost use Rattle.napt_rules.specs.{Bindings.Binding as Bound, Opening.opening};
 ghost use Rattle.napt_rules.specs.Life as life;
 ghost use Rattle.napt_rules.specs.Misfits as taking;
 ghost use Rattle.napt_state.specs.EndedMisfits as ending;
-ghost use Rattle.napt_state.specs.StateReaders.{AreOf};
+ghost use Rattle.napt_state.specs.StateReaders.{AreEndpointsOf};
 
 use crate::endpoints::Endpoints;
 use crate::liveness::{is_live, is_standing};
@@ -18,7 +18,7 @@ use std::collections::HashSet;
 
 /// Returns the endpoints of the configuration's redirects.
 fn redirect_endpoints(alloc: Global, config: &Config) -> Result<Endpoints, AllocError>
-    ensures { IfOk result (AreOf (opening config.now)) }
+    ensures { IfOk result (AreEndpointsOf (opening config.now)) }
 {
     let redirects = config.redirects();
     let mut endpoints = Endpoints::new(alloc);
@@ -98,7 +98,7 @@ fn flows_share(
 }
 
 /// Returns the time, in ns, at which each binding was live that is live or held at the clock.
-fn held_at(config: &Config, clock: u64) -> u64
+fn hold_ago(config: &Config, clock: u64) -> u64
     ensures { result ≡ life.hold_ago config.now.timers clock }
 {
     IdleTimers::from_config(config).hold_ago(clock)
@@ -113,8 +113,8 @@ fn misfit_of(
     redirects: &Endpoints,
     behind: &Endpoints,
 ) -> Result<Option<Misfit>, AllocError>
-    ensures { (rest : List Bound) → AreOf (opening config.now) redirects.now →
-        AreOf rest behind.now →
+    ensures { (rest : List Bound) → AreEndpointsOf (opening config.now) redirects.now →
+        AreEndpointsOf rest behind.now →
         IfOk result (λ misfit. misfit ≡ taking.misfit_of config.now clock
         (life.with_live_flows config.now.timers (life.hold_ago config.now.timers clock) binding.now)
         rest) }
@@ -126,7 +126,7 @@ fn misfit_of(
     } else if row.external.address != config.pair(host) {
         Some(Misfit::NotPaired)
     } else if !is_numbered(config, row) {
-        Some(Misfit::NotItsNumber)
+        Some(Misfit::BadNumber)
     } else if is_used_after(config, clock, binding) {
         Some(Misfit::UsedLater)
     } else if flows_share(
@@ -134,13 +134,13 @@ fn misfit_of(
         config,
         &binding.flows,
         row.protocol,
-        held_at(config, clock),
+        hold_ago(config, clock),
     )? {
-        Some(Misfit::FlowsShare)
+        Some(Misfit::FlowsShareRemote)
     } else if redirects.clash(row) {
         Some(Misfit::Redirected)
     } else if behind.clash(row) {
-        Some(Misfit::Shared)
+        Some(Misfit::EndpointShared)
     } else {
         None
     })
@@ -181,7 +181,7 @@ fn first_misfit_in(
     ensures { IfOk result (λ found. found ≡ taking.misfit config.now
         (record { clock = clock; list = list.now })) }
 {
-    let held = held_at(config, clock);
+    let held = hold_ago(config, clock);
     let redirects = redirect_endpoints(alloc, config)?;
     let mut behind = Endpoints::new(alloc);
     let mut found = None;
@@ -243,7 +243,7 @@ fn end_misfits_in(
             };
             many = more;
             end_long_ago(binding);
-        } else if goes_on(binding, config, held_at(config, clock)) {
+        } else if goes_on(binding, config, hold_ago(config, clock)) {
             behind.insert(&binding.row)?;
         }
     }
@@ -260,11 +260,11 @@ fn why_ended(
     redirects: &Endpoints,
     behind: &Endpoints,
 ) -> Result<Option<Misfit>, AllocError>
-    ensures { (rest : List Bound) → AreOf (opening config.now) redirects.now →
-        AreOf rest behind.now →
+    ensures { (rest : List Bound) → AreEndpointsOf (opening config.now) redirects.now →
+        AreEndpointsOf rest behind.now →
         IfOk result (λ why. why ≡ ending.why_ended config.now clock binding.now rest) }
 {
-    if goes_on(binding, config, held_at(config, clock)) {
+    if goes_on(binding, config, hold_ago(config, clock)) {
         misfit_of(alloc, config, clock, binding, redirects, behind)
     } else {
         Ok(None)

@@ -164,7 +164,7 @@ pub fn ended_bindings_stay_ended()
 /// Adds a flow to the last binding if that is live; returns whether it is. Fails without memory.
 fn add_flow(list: &mut Vec<SavedBinding>, flow: Flow) -> Result<bool, AllocError>
     ensures added { result ≡ Ok true → said.IsAddedFlow flow list.old.items list.new.items }
-    ensures none { result ≡ Ok false → said.HasNoLast list.old.items }
+    ensures none { result ≡ Ok false → said.LastIsNotLive list.old.items }
 {
     match list.pop() {
         Some(SavedBinding::Live(mut binding, account)) => {

@@ -5,7 +5,7 @@ use Rattle.std.proofs.lemmas.List.Sorted.{IsPermutation-refl, IsPermutation-sym,
 use Rattle.napt_wire.specs.declared.Protocol.{Protocol}
 use Rattle.napt_rules.specs.{declared.Row.Row, Prelude.{Each, same_protocol, has_number}}
 use Rattle.napt_table.proofs.HeldThroughTime.{find_without}
-use Rattle.napt_laws.proofs.{Finds.{Once}, Lists.{each_less, each_weaker, find_nowhere}, Endpoints.{has_it, has_protocol, number_of_it}}
+use Rattle.napt_laws.proofs.{UniqueSearches.{Once}, Lists.{each_less, each_weaker, find_nowhere}, Endpoints.{has_it, has_protocol, number_of_it}}
 
 any_less : {X : Type 0} (t p : X → Bool) (xs : List X) → list_any t xs ≡ false → list_any t (filter p xs) ≡ false
 any_less t p [] h = refl

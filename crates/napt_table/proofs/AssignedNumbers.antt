@@ -4,13 +4,13 @@ use Rattle.std.{specs.{Prelude.{find, ok_or}, Option.option_map}, proofs.lemmas.
 use Rattle.napt_wire.specs.declared.{Protocol.Protocol, Cause.{Cause, TheVariants.{OverQuota, NoPort}}, Endpoint.Endpoint}
 use Rattle.napt_config.specs.{Rules.AreTimers, declared.settings.{Timers.Timers, PortBlock.PortBlock}}
 use Rattle.napt_rules.specs.declared.{AssignmentRules.AssignmentRules, OutboundPacket.OutboundPacket, Row.Row}
-use Rattle.napt_rules.specs.Prelude.{Binding, change_first, is_live, with_live_flows, purge, hold_ago, live_and_held, choice, count_for, reaches_quota, has_number, is_of_source, binding_after_out, new_binding, OutboundEffect, out_made, granted_again, out_found, out_taken, row, AreBindingsApart}
+use Rattle.napt_rules.specs.Prelude.{Binding, change_first, is_live, with_live_flows, purge, hold_ago, live_and_held, choice, count_for, reaches_quota, has_number, is_of_source, binding_after_out, new_binding, OutboundEffect, out_made, held_or_new_number, out_found, out_taken, row, AreBindingsApart}
 use Rattle.napt_table.specs.{declared.bindings.keys.ExternalNumberKey.ExternalNumberKey, Keys.{key_eq, external_key}, HeldLists.{seen_binding, ShowsHeld}}
-use Rattle.napt_table.specs.BindingIndexes.{BindingIndexModel, held_binding, held_at, count_all, HasInside, IsNumberOf, IsNamed, HasNoInside, HoldsSame, KeepsSeen, WentThrough, HasNone}
-use Rattle.napt_table.specs.Bindings.{BindingsModel, AllShow, AllKeep, KeepsUnseen, BindingsUnchanged, IsPurged, shown_made, NewBindingOk, RenewedBindingOk}
+use Rattle.napt_table.specs.BindingIndexes.{BindingIndexModel, held_binding, held_at, count_all, HasInside, IsNumberOf, IsNamed, HasNoInside, HoldsSame, KeepsSeen, WentThrough, HasNoLiveBinding}
+use Rattle.napt_table.specs.Bindings.{BindingsModel, ListShowsStored, ListAgrees, KeepsUnseen, BindingsUnchanged, IsPurged, shown_made, NewBindingOk, RenewedBindingOk}
 use Rattle.napt_table.proofs.{Hosts.count_is_held, SeenBindings.{seen_is, seen_seen, found_seen}, Keys.{by_key, at_key, key_number, past_key}}
 use Rattle.napt_table.proofs.{Steps.{by_protocol, sent_others}, OutboundSteps.{found, parts, known_shows, not_found, made_shows}, HeldThroughTime.{live_apart, keeps_on, out_stays}}
-use Rattle.napt_laws.proofs.{Endpoints.{not_has, inside_it, inside_parts, has_it, once_inside, once_number}, Finds.{passes, find_same, find_passed_over}}
+use Rattle.napt_laws.proofs.{Endpoints.{not_has, inside_it, inside_parts, has_it, once_inside, once_number}, UniqueSearches.{passes, find_same, find_passed_over}}
 use Rattle.napt_laws.proofs.{SeenElements.ago_before, StepsLive.{sent_seen, made_is_seen}}
 
 -- The row of a live binding is visible.
@@ -38,7 +38,7 @@ pub same_then : (a b c : BindingIndexModel) → HoldsSame a b → HoldsSame b c 
 same_then a b c p q = record {
   place = record {
     address_is = q.place.address_is ∙ p.place.address_is;
-    granting_is = q.place.granting_is ∙ p.place.granting_is;
+    assignment_is = q.place.assignment_is ∙ p.place.assignment_is;
   };
   held_same = λ k. q.held_same k ∙ p.held_same k;
 }
@@ -56,17 +56,17 @@ pub keeps_then : (timers : Timers) (at : ℕ) (a b c : BindingIndexModel) → Ke
 keeps_then timers at a b c p q = record {
   place = record {
     address_is = q.place.address_is ∙ p.place.address_is;
-    granting_is = q.place.granting_is ∙ p.place.granting_is;
+    assignment_is = q.place.assignment_is ∙ p.place.assignment_is;
   };
   seen_same = λ k. q.seen_same k ∙ p.seen_same k;
 }
 
 -- A PACKET WHOSE BINDING IS FOUND
 
-module _ (timers : Timers) (t : AreTimers timers) (granting : AssignmentRules) (packet : OutboundPacket)
+module _ (timers : Timers) (t : AreTimers timers) (assignment : AssignmentRules) (packet : OutboundPacket)
     (old new : BindingIndexModel)
     (named : IsNamed old) (number : ℕ) (went : WentThrough timers packet old new number) (list : List Binding)
-    (apart : AreBindingsApart (map row list)) (keeps : AllKeep timers packet.now old.address old list) where
+    (apart : AreBindingsApart (map row list)) (keeps : ListAgrees timers packet.now old.address old list) where
   abbrev live : List Binding
   live = purge timers packet.now list
 
@@ -84,28 +84,28 @@ module _ (timers : Timers) (t : AreTimers timers) (granting : AssignmentRules) (
   found_is = found timers old.address packet (held_at old packet.protocol) live alive_apart (keeps.live packet.protocol)
       protocols externals number went.binding went.found went.inside_is
 
-  out_is : out_taken timers granting old.address packet list
-      ≡ out_found timers granting list old.address packet (Some went.binding)
-  out_is = ap (out_found timers granting list old.address packet) found_is
+  out_is : out_taken timers assignment old.address packet list
+      ≡ out_found timers assignment list old.address packet (Some went.binding)
+  out_is = ap (out_found timers assignment list old.address packet) found_is
 
   pub went_any_block : (block : Option PortBlock) →
-      out_taken timers granting old.address (record packet { block = block }) list
-      ≡ out_taken timers granting old.address packet list
+      out_taken timers assignment old.address (record packet { block = block }) list
+      ≡ out_taken timers assignment old.address packet list
   went_any_block block =
-      ap (out_found timers granting list old.address (record packet { block = block })) found_is ∙ sym out_is
+      ap (out_found timers assignment list old.address (record packet { block = block })) found_is ∙ sym out_is
 
-  pub went_answer : Ok number ≡ (out_taken timers granting old.address packet list).number
+  pub went_answer : Ok number ≡ (out_taken timers assignment old.address packet list).number
   went_answer = sym (ap (λ (o : OutboundEffect). o.number) out_is ∙ ap
       (λ (x : Endpoint). let r : Result ℕ Cause = Ok x.number in r)
       (parts timers old.address packet (held_at old packet.protocol) live alive_apart (keeps.live packet.protocol)
       protocols externals number went.binding went.found went.inside_is).1)
 
-  left_is : purge timers packet.now (out_taken timers granting old.address packet list).list
+  left_is : purge timers packet.now (out_taken timers assignment old.address packet list).list
       ≡ change_first (is_of_source old.address packet) (binding_after_out packet) live
   left_is = ap (λ (o : OutboundEffect). purge timers packet.now o.list) out_is
       ∙ sent_seen timers t old.address packet list
 
-  went_shows : AllShow timers packet.now old.address new
+  went_shows : ListShowsStored timers packet.now old.address new
       (change_first (is_of_source old.address packet) (binding_after_out packet) live)
   went_shows q = by_protocol packet.protocol q (λ r. ShowsHeld timers packet.now old.address r (held_at new r)
       (change_first (is_of_source old.address packet) (binding_after_out packet) live))
@@ -123,17 +123,19 @@ module _ (timers : Timers) (t : AreTimers timers) (granting : AssignmentRules) (
       (λ h. let z : None ≡ Some (binding_after_out packet went.binding) = sym h ∙ went.left in cc)
       (λ d h. ap (seen_binding timers at) (went.one.others k d)) none
 
-  pub went_keeps : AreBindingsApart (map row (out_taken timers granting old.address packet list).list) →
-      AllKeep timers packet.now old.address new (out_taken timers granting old.address packet list).list
+  pub went_keeps : AreBindingsApart (map row (out_taken timers assignment old.address packet list).list) →
+      ListAgrees timers packet.now old.address new (out_taken timers assignment old.address packet list).list
   went_keeps left =
-      keeps_on timers packet.now old.address old new list (out_taken timers granting old.address packet list).list left
-      keeps.held (subst (AllShow timers packet.now old.address new) (sym left_is) went_shows) went_unseen
-      (λ q n. out_stays timers t old.address list q n granting packet apart left)
+      keeps_on timers packet.now old.address old new list (out_taken timers assignment old.address packet list).list
+      left
+      keeps.held (subst (ListShowsStored timers packet.now old.address new) (sym left_is) went_shows) went_unseen
+      (λ q n. out_stays timers t old.address list q n assignment packet apart left)
 
 -- A PACKET WHOSE INSIDE ENDPOINT HAS NO LIVE BINDING
 
-pub none_live : (timers : Timers) (packet : OutboundPacket) (old new : BindingIndexModel) → IsNamed old → HasNone timers packet old new →
-    (list : List Binding) → AreBindingsApart (map row list) → AllKeep timers packet.now old.address old list →
+pub none_live : (timers : Timers) (packet : OutboundPacket) (old new : BindingIndexModel) → IsNamed old →
+    HasNoLiveBinding timers packet old new →
+    (list : List Binding) → AreBindingsApart (map row list) → ListAgrees timers packet.now old.address old list →
     find (is_of_source old.address packet) (purge timers packet.now list) ≡ None
 none_live timers packet old new named none list apart keeps =
     not_found timers old.address packet (held_at old packet.protocol) (purge timers packet.now list)
@@ -145,12 +147,12 @@ none_live timers packet old new named none list apart keeps =
 
 pub made_all : (timers : Timers) (address : ℕ) (packet : OutboundPacket) (old new : BindingIndexModel) (number : ℕ)
     (binding : Binding)
-    (list : List Binding) → AllShow timers packet.now address old list →
+    (list : List Binding) → ListShowsStored timers packet.now address old list →
     ((k : ExternalNumberKey) → held_binding new k ≡ cond (key_eq (external_key packet.protocol number) k) (Some binding)
     (held_binding old k)) → seen_binding timers packet.now (held_at old packet.protocol number) ≡ None →
     seen_binding timers packet.now (Some binding) ≡ Some
     (binding_after_out packet (new_binding address packet number)) →
-    AllShow timers packet.now address new (shown_made list address packet (Ok number))
+    ListShowsStored timers packet.now address new (shown_made list address packet (Ok number))
 made_all timers address packet old new number binding list shows holds free is q =
     let p : Protocol = packet.protocol in
     by_protocol p q (λ r. ShowsHeld timers packet.now address r (held_at new r)
@@ -208,8 +210,8 @@ module _ (old mid gone : BindingsModel) (packet : OutboundPacket) (same : Bindin
   gone_address : gone.held.address ≡ old.held.address
   gone_address = purged.keeps.place.address_is ∙ same.same.place.address_is
 
-  gone_granting : gone.held.granting ≡ old.held.granting
-  gone_granting = purged.keeps.place.granting_is ∙ same.same.place.granting_is
+  gone_assignment : gone.held.assignment ≡ old.held.assignment
+  gone_assignment = purged.keeps.place.assignment_is ∙ same.same.place.assignment_is
 
   gone_then : (k : ExternalNumberKey) → seen_binding old.timers ago (held_binding gone.held k)
       ≡ seen_binding old.timers ago (held_binding old.held k)
@@ -246,11 +248,11 @@ module _ (old mid gone : BindingsModel) (packet : OutboundPacket) (same : Bindin
 
   module _ (t : AreTimers old.timers) (list : List Binding) (apart : AreBindingsApart (map row list))
       (is_taken : live_and_held old.timers packet.now list ≡ list)
-      (keeps : AllKeep old.timers packet.now old.held.address old.held list) where
+      (keeps : ListAgrees old.timers packet.now old.held.address old.held list) where
     abbrev address : ℕ
     address = old.held.address
 
-    gone_keeps : AllKeep old.timers packet.now address gone.held list
+    gone_keeps : ListAgrees old.timers packet.now address gone.held list
     gone_keeps = record {
       live = λ q n. keeps.live q n ∙ sym (gone_seen (external_key q n) packet.now (ago_before old.timers packet.now));
       held = λ q n at from. keeps.held q n at from ∙ sym (ap (option_map row) (gone_seen (external_key q n) at from));
@@ -306,86 +308,89 @@ module _ (old mid gone : BindingsModel) (packet : OutboundPacket) (same : Bindin
               absurd (absent n r.0 r.1 (ap (λ (x : Row). x.inside) r.2 ∙ sym p.inside_is))
         ] refl
 
-    gone_reached : reaches_quota old.held.granting.quota (count_for address packet.inside.address list)
-        ≡ reaches_quota gone.held.granting.quota (count_all gone.held packet.inside.address)
+    gone_reached : reaches_quota old.held.assignment.quota (count_for address packet.inside.address list)
+        ≡ reaches_quota gone.held.assignment.quota (count_all gone.held packet.inside.address)
     gone_reached =
-        ap (reaches_quota old.held.granting.quota)
+        ap (reaches_quota old.held.assignment.quota)
         (count_is_held address packet.inside.address (held_at gone.held) list apart
         gone_rows (λ q n b h. gone_named.small (external_key q n) b h))
         ∙ ap (λ (g : AssignmentRules). reaches_quota g.quota (count_all gone.held packet.inside.address))
-        (sym gone_granting)
+        (sym gone_assignment)
 
     -- A binding is made, or the packet is refused.
     module _ (answer : Result ℕ Cause)
-        (granted : granted_again old.held.granting list address packet (find (is_of_source address packet) list)
+        (granted : held_or_new_number old.held.assignment list address packet (find (is_of_source address packet) list)
         ≡ answer)
       where
-        made_is : out_taken old.timers old.held.granting address packet list ≡ out_made list address packet answer
-        made_is = ap (out_found old.timers old.held.granting list address packet) gone_none
+        made_is : out_taken old.timers old.held.assignment address packet list ≡ out_made list address packet answer
+        made_is = ap (out_found old.timers old.held.assignment list address packet) gone_none
             ∙ ap (out_made list address packet) granted
 
-        answered : answer ≡ (out_taken old.timers old.held.granting address packet list).number
+        answered : answer ≡ (out_taken old.timers old.held.assignment address packet list).number
         answered = made_answer list address packet answer ∙ sym (ap (λ (o : OutboundEffect). o.number) made_is)
 
-        made_keeps : (new : BindingIndexModel) → AllShow old.timers packet.now address new
+        made_keeps : (new : BindingIndexModel) → ListShowsStored old.timers packet.now address new
             (shown_made (purge old.timers packet.now list) address packet answer) →
             KeepsUnseen old.timers packet.now gone.held new →
-            AreBindingsApart (map row (out_taken old.timers old.held.granting address packet list).list) →
-            AllKeep old.timers packet.now address new (out_taken old.timers old.held.granting address packet list).list
+            AreBindingsApart (map row (out_taken old.timers old.held.assignment address packet list).list) →
+            ListAgrees old.timers packet.now address new
+            (out_taken old.timers old.held.assignment address packet list).list
         made_keeps new live unseen left =
             keeps_on old.timers packet.now address gone.held new list
-            (out_taken old.timers old.held.granting address packet list).list left gone_keeps.held
-            (subst (AllShow old.timers packet.now address new)
+            (out_taken old.timers old.held.assignment address packet list).list left gone_keeps.held
+            (subst (ListShowsStored old.timers packet.now address new)
             (sym (ap (λ (o : OutboundEffect). purge old.timers packet.now o.list)
             made_is ∙ shown_is old.timers t address packet list gone_none answer)) live) unseen
-            (λ q n. out_stays old.timers t address list q n old.held.granting packet apart left)
+            (λ q n. out_stays old.timers t address list q n old.held.assignment packet apart left)
 
     abbrev Out_is : BindingsModel → Result ℕ Cause → Type 0
-    Out_is new answer = (let out : OutboundEffect = out_taken old.timers old.held.granting address packet list in
+    Out_is new answer = (let out : OutboundEffect = out_taken old.timers old.held.assignment address packet list in
         AreBindingsApart (map row out.list) → (answer ≡ out.number) ×
-        AllKeep old.timers packet.now address new.held out.list)
+        ListAgrees old.timers packet.now address new.held out.list)
 
     -- The quota is reached.
     pub over_sends : HasNoInside gone.held packet.protocol packet.inside →
-        reaches_quota gone.held.granting.quota (count_all gone.held packet.inside.address) ≡ true →
+        reaches_quota gone.held.assignment.quota (count_all gone.held packet.inside.address) ≡ true →
         Out_is gone (Err OverQuota)
     over_sends absent over left =
-        let granted : granted_again old.held.granting list address packet (find (is_of_source address packet) list)
-        ≡ Err OverQuota = ap (granted_again old.held.granting list address packet) (none_found absent)
+        let granted : held_or_new_number old.held.assignment list address packet
+        (find (is_of_source address packet) list)
+        ≡ Err OverQuota = ap (held_or_new_number old.held.assignment list address packet) (none_found absent)
         ∙ ap (λ v. cond {A = Result ℕ Cause} v (Err OverQuota)
-        (ok_or (choice old.held.granting.choosing packet.block list packet.protocol address packet.inside) NoPort))
+        (ok_or (choice old.held.assignment.choosing packet.block list packet.protocol address packet.inside) NoPort))
         (gone_reached ∙ over) in (
           answered (Err OverQuota) granted,
           made_keeps (Err OverQuota) granted gone.held gone_keeps.live (λ k h at from. refl) left,
         )
 
     -- What holds with the rules after the removal holds with those before it.
-    there : (P : Timers → AssignmentRules → ℕ → Type 0) → P gone.timers gone.held.granting gone.held.address →
-        P old.timers old.held.granting address
-    there P p = subst (λ (t : Timers). P t old.held.granting address) gone_timers
-        (subst (λ (g : AssignmentRules). P gone.timers g address) gone_granting
-        (subst (P gone.timers gone.held.granting) gone_address p))
+    there : (P : Timers → AssignmentRules → ℕ → Type 0) → P gone.timers gone.held.assignment gone.held.address →
+        P old.timers old.held.assignment address
+    there P p = subst (λ (t : Timers). P t old.held.assignment address) gone_timers
+        (subst (λ (g : AssignmentRules). P gone.timers g address) gone_assignment
+        (subst (P gone.timers gone.held.assignment) gone_address p))
 
     abbrev Made : BindingsModel → Result ℕ Cause → Timers → ℕ → Type 0
-    Made new answer t a = AllShow t packet.now a new.held (shown_made (purge t packet.now list) a packet answer)
+    Made new answer t a = ListShowsStored t packet.now a new.held (shown_made (purge t packet.now list) a packet answer)
         × KeepsUnseen t packet.now gone.held new.held
 
     -- The quota is not reached, so a binding is made if a number is free.
     pub begun_sends : HasNoInside gone.held packet.protocol packet.inside →
-        reaches_quota gone.held.granting.quota (count_all gone.held packet.inside.address) ≡ false →
+        reaches_quota gone.held.assignment.quota (count_all gone.held packet.inside.address) ≡ false →
         (new : BindingsModel) (answer : Result ℕ Cause) → NewBindingOk packet gone new answer → Out_is new answer
     begun_sends absent under new answer begins left =
         let P : Timers → AssignmentRules → ℕ → Type 0 = λ t g a. live_and_held t packet.now list ≡ list →
-        AllKeep t packet.now a gone.held list →
+        ListAgrees t packet.now a gone.held list →
         (answer ≡ ok_or (choice g.choosing packet.block list packet.protocol a packet.inside) NoPort)
         × Made new answer t a in
         let b = there P (λ k keep. let r = begins list apart k keep in (r.0, (r.1.live, r.1.unseen))) is_taken
         gone_keeps
         in
-        let granted : granted_again old.held.granting list address packet (find (is_of_source address packet) list)
-        ≡ answer = ap (granted_again old.held.granting list address packet) (none_found absent)
+        let granted : held_or_new_number old.held.assignment list address packet
+        (find (is_of_source address packet) list)
+        ≡ answer = ap (held_or_new_number old.held.assignment list address packet) (none_found absent)
         ∙ (ap (λ v. cond {A = Result ℕ Cause} v (Err OverQuota)
-        (ok_or (choice old.held.granting.choosing packet.block list packet.protocol address packet.inside) NoPort))
+        (ok_or (choice old.held.assignment.choosing packet.block list packet.protocol address packet.inside) NoPort))
         (gone_reached ∙ under) ∙ sym b.0) in
         (answered answer granted, made_keeps answer granted new.held b.1.0 b.1.1 left)
 
@@ -394,10 +399,11 @@ module _ (old mid gone : BindingsModel) (packet : OutboundPacket) (same : Bindin
         RenewedBindingOk packet gone new n → Out_is new (Ok n)
     renewed_sends n has new renews left =
         let P : Timers → AssignmentRules → ℕ → Type 0 = λ t g a.
-        AllShow t packet.now a gone.held (purge t packet.now list) → Made new (Ok n) t a in
+        ListShowsStored t packet.now a gone.held (purge t packet.now list) → Made new (Ok n) t a in
         let b = there P (λ shows. let r = renews list shows in (r.live, r.unseen)) gone_keeps.live in
         let f = held_found n has in
-        let granted : granted_again old.held.granting list address packet (find (is_of_source address packet) list)
-        ≡ Ok n = ap (granted_again old.held.granting list address packet) f.1
+        let granted : held_or_new_number old.held.assignment list address packet
+        (find (is_of_source address packet) list)
+        ≡ Ok n = ap (held_or_new_number old.held.assignment list address packet) f.1
         ∙ ap (λ (m : ℕ). let r : Result ℕ Cause = Ok m in r) f.2 in
         (answered (Ok n) granted, made_keeps (Ok n) granted new.held b.0 b.1 left)

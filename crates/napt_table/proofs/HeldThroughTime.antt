@@ -4,12 +4,12 @@ use Rattle.std.{specs.Option.{option_map, is_some}, proofs.lemmas.Bool.{leb-true
 use Rattle.napt_wire.specs.declared.Protocol.{Protocol}
 use Rattle.napt_config.specs.{Rules.AreTimers, declared.settings.Timers.Timers}
 use Rattle.napt_rules.specs.declared.{AssignmentRules.AssignmentRules, InboundRules.InboundRules, OutboundPacket.OutboundPacket, InboundPacket.InboundPacket}
-use Rattle.napt_rules.specs.Prelude.{Binding, Each, change_first, same_protocol, has_number, is_live, with_live_flows, purge, hold_ago, live_and_held, is_of_source, is_of_live_source, binding_after_out, live_binding_after_out, other_bindings, new_binding, granted_again, out_taken, is_of_live_destination, live_binding_after_in, in_taken, row, AreBindingsApart}
+use Rattle.napt_rules.specs.Prelude.{Binding, Each, change_first, same_protocol, has_number, is_live, with_live_flows, purge, hold_ago, live_and_held, is_of_source, is_of_live_source, binding_after_out, live_binding_after_out, other_bindings, new_binding, held_or_new_number, out_taken, is_of_live_destination, live_binding_after_in, in_taken, row, AreBindingsApart}
 use Rattle.napt_rules.proofs.Life.{lived}
-use Rattle.napt_laws.proofs.{Lists.{find_passes, find_none, any_none, each_weaker, each_true}, Finds.{Once, find_pushed, find_passed_over}}
+use Rattle.napt_laws.proofs.{Lists.{find_passes, find_none, any_none, each_weaker, each_true}, UniqueSearches.{Once, find_pushed, find_passed_over}}
 use Rattle.napt_laws.proofs.{Purges.purge_purge, SeenElements.{ago_before, ago_later, purge_taken}, StepCases.{of_out, of_in}, StepRows.{purge_keeps, rows_change}}
 use Rattle.napt_laws.proofs.{StepsLive.{sent_is_fresh, made_is_fresh, received_is_fresh}, StepsSound.apart_kept, Endpoints.{inside_parts, once_number, once_inside}}
-use Rattle.napt_table.specs.{declared.bindings.keys.ExternalNumberKey.ExternalNumberKey, Keys.external_key, HeldLists.{seen_binding, LivesInBoth}, BindingIndexes.{BindingIndexModel, held_binding, held_at}, Bindings.{AllShow, AllKeep, KeepsUnseen}}
+use Rattle.napt_table.specs.{declared.bindings.keys.ExternalNumberKey.ExternalNumberKey, Keys.external_key, HeldLists.{seen_binding, LivesInBoth}, BindingIndexes.{BindingIndexModel, held_binding, held_at}, Bindings.{ListShowsStored, ListAgrees, KeepsUnseen}}
 use Rattle.napt_table.proofs.{SeenBindings.{seen_is, find_purged, seen_seen, shows_later}, InboundSteps.fresh_seen, TableBuilders.none_earlier}
 
 -- No two bindings that are live at a time share an endpoint.
@@ -20,8 +20,8 @@ live_apart = purge_keeps AreBindingsApart apart_kept
 -- LATER
 
 module _ (timers : Timers) (at now : ℕ) (le : at ≤ now) (address : ℕ) (all : BindingIndexModel) (list : List Binding)
-    (apart : AreBindingsApart (map row list)) (keeps : AllKeep timers at address all list) where
-  pub live_later : AllShow timers now address all (purge timers now list)
+    (apart : AreBindingsApart (map row list)) (keeps : ListAgrees timers at address all list) where
+  pub live_later : ListShowsStored timers now address all (purge timers now list)
   live_later q n =
       ap (find (λ b. has_number address q n b.row)) (sym (purge_purge timers at now le list))
       ∙ shows_later timers at now address q (held_at all q) (purge timers at list) (live_apart timers at list apart) le
@@ -37,9 +37,9 @@ module _ (timers : Timers) (at now : ℕ) (le : at ≤ now) (address : ℕ) (all
       (find (λ b. has_number address q n b.row) list))
       ∙ keeps.held q n t (omega (arith, soon, from)))
 
-  pub keeps_later : AllKeep timers now address all (live_and_held timers now list)
+  pub keeps_later : ListAgrees timers now address all (live_and_held timers now list)
   keeps_later = record {
-    live = subst (AllShow timers now address all) (sym (purge_taken timers now list)) live_later;
+    live = subst (ListShowsStored timers now address all) (sym (purge_taken timers now list)) live_later;
     held = held_later;
   }
 
@@ -59,7 +59,7 @@ module _ (timers : Timers) (now address : ℕ) (old new : BindingIndexModel) (al
     (apart : AreBindingsApart (map row left)) (before : (q : Protocol) →
     LivesInBoth timers (hold_ago timers now) address q
     (held_at old q) all)
-    (live : AllShow timers now address new (purge timers now left)) (unseen : KeepsUnseen timers now old new)
+    (live : ListShowsStored timers now address new (purge timers now left)) (unseen : KeepsUnseen timers now old new)
     (stays : (q : Protocol) (n : ℕ) → seen_binding timers now (find (λ b. has_number address q n b.row) left) ≡ None →
     find (λ b. has_number address q n b.row) left ≡ find (λ b. has_number address q n b.row) all) where
   abbrev found : Protocol → ℕ → Option Binding
@@ -89,16 +89,16 @@ module _ (timers : Timers) (now address : ℕ) (old new : BindingIndexModel) (al
             ] refl
       ] refl
 
-  pub keeps_on : AllKeep timers now address new left
+  pub keeps_on : ListAgrees timers now address new left
   keeps_on = record { live = live; held = held_on }
 
 -- The agreement is kept when bindings whose hold time is over are removed.
 pub purged_keeps : (timers : Timers) (now address : ℕ) (old new : BindingIndexModel) (all : List Binding) →
-    AllKeep timers now address old all →
+    ListAgrees timers now address old all →
     ((k : ExternalNumberKey) → seen_binding timers (hold_ago timers now) (held_binding new k)
     ≡ seen_binding timers (hold_ago timers now)
     (held_binding old k)) →
-    AllKeep timers now address new all
+    ListAgrees timers now address new all
 purged_keeps timers now address old new all keeps same =
     let ago : ℕ = hold_ago timers now in
     let later : (k : ExternalNumberKey) (t : ℕ) → ago ≤ t →
@@ -213,9 +213,9 @@ module _ (timers : Timers) (t : AreTimers timers) (address : ℕ) (all : List Bi
       (λ b. refl) (λ b p. fresh_seen timers packet.now (live_binding_after_in timers inbound packet b)
       (received_is_fresh timers t inbound packet b (and_parts _ (is_live timers packet.now b) p).1)))
 
-  module _ (granting : AssignmentRules) (packet : OutboundPacket) (apart : AreBindingsApart (map row all)) where
+  module _ (assignment : AssignmentRules) (packet : OutboundPacket) (apart : AreBindingsApart (map row all)) where
     source_apart : (m : ℕ) (found : Option Binding) → find (is_of_source address packet) all ≡ found →
-        granted_again granting all address packet found ≡ Ok m →
+        held_or_new_number assignment all address packet found ≡ Ok m →
         at (binding_after_out packet (new_binding address packet m)) ≡ false →
         Each (λ b. is_of_source address packet b ≡ true → at b ≡ false) all
     source_apart m None is e lacks =
@@ -233,11 +233,11 @@ module _ (timers : Timers) (t : AreTimers timers) (address : ℕ) (all : List Bi
         (once_inside address packet.protocol packet.inside all apart) is
         (alike ∙ lacks)
 
-    pub out_stays : AreBindingsApart (map row (out_taken timers granting address packet all).list) →
-        Stays packet.now (out_taken timers granting address packet all).list
+    pub out_stays : AreBindingsApart (map row (out_taken timers assignment address packet all).list) →
+        Stays packet.now (out_taken timers assignment address packet all).list
     out_stays =
         of_out (λ (left : List Binding). AreBindingsApart (map row left) → Stays packet.now left) timers address all
-        (λ left none. refl) granting packet
+        (λ left none. refl) assignment packet
         (λ left. changed_stays packet.now (is_of_live_source timers address packet)
         (live_binding_after_out timers packet) (λ b. refl)
         (λ b p. fresh_seen timers packet.now (live_binding_after_out timers packet b)

@@ -6,7 +6,7 @@ use Rattle.napt_rules.specs.declared.Row.{Row}
 use Rattle.std.specs.Option.{option_map}
 use Rattle.napt_rules.specs.Prelude.{Binding, same_protocol, is_at, has_number, counts_for, count_for, row, AreBindingsApart}
 use Rattle.napt_table.specs.{Hosts.{held_counts_for, count_below, count_held, CountIsHeld}}
-use Rattle.napt_laws.proofs.{Lists.find_nowhere, Finds.Once, Endpoints.{protocol_is, same_itself, has_it, number_of_it, not_has, once_number}}
+use Rattle.napt_laws.proofs.{Lists.find_nowhere, UniqueSearches.Once, Endpoints.{protocol_is, same_itself, has_it, number_of_it, not_has, once_number}}
 
 -- 1 if the test passes, else 0.
 abbrev one : Bool → ℕ

@@ -8,7 +8,7 @@ use Rattle.napt_rules.specs.declared.InboundRules.{InboundRules}
 use Rattle.napt_rules.specs.Prelude.{Binding, change_first, has_number, ns_per_second, is_live_flow, is_live, with_live_flows, permits, is_flow_of, flow_after, received_through, is_of_destination, binding_after_in, InboundEffect, row}
 use Rattle.napt_rules.{specs.declared.{InboundPacket.InboundPacket, Flow.Flow, Row.Row}, proofs.Life.{live_same, flows_kept, flows_all}}
 use Rattle.napt_table.specs.{declared.bindings.keys.ExternalNumberKey.ExternalNumberKey, Keys.external_key, BindingIndexes.{BindingIndexModel, held_binding, held_at, ChangesOne}}
-use Rattle.napt_table.{specs.{Bindings.{AreDue, AllShow, KeepsUnseen}, HeldLists.{seen_binding, ShowsHeld}}, proofs.{SeenBindings.seen_is, Steps.{shown_passed, shown_found, shown_in, in_others, by_protocol, same_everywhere}}}
+use Rattle.napt_table.{specs.{Bindings.{AreDue, ListShowsStored, KeepsUnseen}, HeldLists.{seen_binding, ShowsHeld}}, proofs.{SeenBindings.seen_is, Steps.{shown_passed, shown_found, shown_in, in_others, by_protocol, same_everywhere}}}
 use Rattle.napt_table.proofs.{Queues.{due_later, same_due, changed_due}, Keys.by_key, LastUses.{left_used, left_last}, OutboundSteps.{recent, used_lives}}
 use Rattle.napt_binding.{specs.{Ends.least_timer, Inbounds.{inbound_answer, binding_after_inbound}, Slots.NoneUsedAfter}, proofs.LastUses.live_flows_used}
 use Rattle.napt_laws.proofs.{FreshBindings.{binding_of, IsFresh, received_fresh}, Endpoints.{changed_other, changed_here}}
@@ -210,22 +210,22 @@ module _ (timers : Timers) (t : AreTimers timers) (inbound : InboundRules) (addr
     others : (n : ℕ) → n ≢ packet.number → held_at new packet.protocol n ≡ held_at old packet.protocol n
     others n d = one.others (external_key packet.protocol n) (λ e. d (ap (λ (k : ExternalNumberKey). k.number) e))
 
-    others_show : (list : List Binding) → AllShow timers packet.now address old list →
+    others_show : (list : List Binding) → ListShowsStored timers packet.now address old list →
         ShowsHeld timers packet.now address packet.protocol (held_at new packet.protocol)
         (shown_in inbound address packet list).list →
-        AllShow timers packet.now address new (shown_in inbound address packet list).list
+        ListShowsStored timers packet.now address new (shown_in inbound address packet list).list
     others_show list shows here q = by_protocol packet.protocol q
         (λ r. ShowsHeld timers packet.now address r (held_at new r) (shown_in inbound address packet list).list) here
         (λ d n. in_others inbound timers address packet list q d n ∙ (shows q n ∙ ap (seen_binding timers packet.now)
         (sym (one.others (external_key q n) (λ e. d (ap (λ (k : ExternalNumberKey). k.protocol) e))))))
 
-    pub all_received : (list : List Binding) → AllShow timers packet.now address old list →
+    pub all_received : (list : List Binding) → ListShowsStored timers packet.now address old list →
         (result ≡ (shown_in inbound address packet list).inside)
-        × AllShow timers packet.now address new (shown_in inbound address packet list).list
+        × ListShowsStored timers packet.now address new (shown_in inbound address packet list).list
     all_received list shows = elim (seen_binding timers packet.now (held_at old packet.protocol packet.number)) as (λ o.
         seen_binding timers packet.now (held_at old packet.protocol packet.number) ≡ o →
         (result ≡ (shown_in inbound address packet list).inside)
-        × AllShow timers packet.now address new (shown_in inbound address packet list).list) [
+        × ListShowsStored timers packet.now address new (shown_in inbound address packet list).list) [
           | None ↦ λ e. (
             (absent e).0 ∙ absent_answer timers t inbound address packet (held_at old packet.protocol) list
                 (shows packet.protocol) e,

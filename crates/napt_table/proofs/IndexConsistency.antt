@@ -103,7 +103,7 @@ module _ (old new : Inside) (is : IsHeld old) (key : ExternalNumberKey) (small :
     (had : (b : Binding) → was ≡ Some b → b.row.inside ≡ inside)
     (only : (n : ℕ) → number_of_inside old key.protocol inside ≡ Some n → n ≡ key.number)
     (fits : (b : Binding) → left ≡ Some b → IsAt new.address key inside b)
-    (address : new.address ≡ old.address) (granting : new.granting ≡ old.granting) where
+    (address : new.address ≡ old.address) (assignment : new.assignment ≡ old.assignment) where
   here : held_in new key ≡ left
   here = holds key ∙ at_key key left (held_in old key)
 
@@ -166,7 +166,7 @@ module _ (old new : Inside) (is : IsHeld old) (key : ExternalNumberKey) (small :
     used_is = λ k. by_key key k (λ n. n.number < 2 ^ 16 → is_in_use new.numbers n ≡ is_some (held_in new n))
         (λ lt. used_here ∙ sym (ap is_some here))
         (λ d lt. used_others k lt d ∙ (is.used_is k lt ∙ sym (ap is_some (others k d))));
-    counting = counting ∙ (is.counting ∙ ap (λ (g : AssignmentRules). is_some g.quota) (sym granting));
+    counting = counting ∙ (is.counting ∙ ap (λ (g : AssignmentRules). is_some g.quota) (sym assignment));
     counted = λ on host. counts (sym counting ∙ on) host (count_all (holdings_of new) host)
         (ap (λ (o : Option Binding). count_all (holdings_of new) host + cond {A = ℕ} (held_counts_for host o) 1 0)
         (sym there)
@@ -176,12 +176,12 @@ module _ (old new : Inside) (is : IsHeld old) (key : ExternalNumberKey) (small :
 
 -- NOTHING CHANGES
 
-pub same_held : (old new : Inside) → IsHeld old → new.address ≡ old.address → new.granting ≡ old.granting →
+pub same_held : (old new : Inside) → IsHeld old → new.address ≡ old.address → new.assignment ≡ old.assignment →
     ((k : ExternalNumberKey) → held_in new k ≡ held_in old k) →
     ((q : Protocol) (e : Endpoint) → number_of_inside new q e ≡ number_of_inside old q e) →
     new.numbers ≡ old.numbers → are_counted new.hosts ≡ are_counted old.hosts →
     ((host : ℕ) → count_in new.hosts host ≡ count_in old.hosts host) → IsHeld new
-same_held old new is address granting holds insides numbers counting counts = record {
+same_held old new is address assignment holds insides numbers counting counts = record {
   named = record {
     protocol_is = λ k b h. is.named.protocol_is k b (sym (holds k) ∙ h);
     external_is = λ k b h. at_address new.address old.address k.number address b.row.external
@@ -193,7 +193,7 @@ same_held old new is address granting holds insides numbers counting counts = re
       (o.0, holds (external_key q n) ∙ o.1, o.2);
   by_protocol = subst AreByProtocol (sym numbers) is.by_protocol;
   used_is = λ k lt. ap (λ (u : _). is_in_use u k) numbers ∙ (is.used_is k lt ∙ ap is_some (sym (holds k)));
-  counting = counting ∙ (is.counting ∙ ap (λ (g : AssignmentRules). is_some g.quota) (sym granting));
+  counting = counting ∙ (is.counting ∙ ap (λ (g : AssignmentRules). is_some g.quota) (sym assignment));
   counted = λ on host. counts host ∙ (is.counted (sym counting ∙ on) host
       ∙ sym (count_all_same (holdings_of old) (holdings_of new) host holds));
 }
@@ -201,7 +201,8 @@ same_held old new is address granting holds insides numbers counting counts = re
 -- NOTHING IS STORED
 
 pub none_held : (it : Inside) → it.by_number.entries ≡ [] → it.by_inside.entries ≡ [] → AreByProtocol it.numbers →
-    ((key : ExternalNumberKey) → is_in_use it.numbers key ≡ false) → are_counted it.hosts ≡ is_some it.granting.quota →
+    ((key : ExternalNumberKey) → is_in_use it.numbers key ≡ false) →
+    are_counted it.hosts ≡ is_some it.assignment.quota →
     ((host : ℕ) → count_in it.hosts host ≡ 0) → IsHeld it
 none_held it no_numbers no_insides by_protocol unused counting no_counts =
     let none : (key : ExternalNumberKey) → held_in it key ≡ None = λ key. ap (lookup (key_eq key)) no_numbers in
@@ -251,7 +252,7 @@ count_kept then now one other alike moved = omega arith
 module _ (old new : Inside) (key : ExternalNumberKey) (is : IsHeld old) (b w : Binding)
     (there : held_in old key ≡ Some b)
     (holds : (k : ExternalNumberKey) → held_in new k ≡ cond (key_eq key k) (Some w) (held_in old k))
-    (address : new.address ≡ old.address) (granting : new.granting ≡ old.granting) where
+    (address : new.address ≡ old.address) (assignment : new.assignment ≡ old.assignment) where
   written_there : held_in new key ≡ Some w
   written_there = holds key ∙ at_key key (Some w) (held_in old key)
 
@@ -281,7 +282,7 @@ module _ (old new : Inside) (key : ExternalNumberKey) (is : IsHeld old) (b w : B
         at_address new.address old.address key.number address w.row.external
             (ap (λ (r : Row). r.external) rows ∙ is.named.external_is key b there),
         ap (λ (r : Row). r.inside) rows,
-      )) address granting (subst AreByProtocol (sym numbers) is.by_protocol)
+      )) address assignment (subst AreByProtocol (sym numbers) is.by_protocol)
       (ap (λ (u : _). is_in_use u key) numbers ∙ (is.used_is key (is.named.small key b there) ∙ ap is_some there))
       (λ k lt d. ap (λ (u : _). is_in_use u k) numbers) (ap are_counted hosts)
       (λ on host n moved. ap (λ (h : _). count_in h host) hosts ∙ count_kept (count_in old.hosts host) n
@@ -289,11 +290,11 @@ module _ (old new : Inside) (key : ExternalNumberKey) (is : IsHeld old) (b w : B
       (ap (λ (r : Row). cond {A = ℕ} (eqb r.inside.address host && not r.fixed) 1 0) (sym rows)) moved)
 
   written_one : ChangesOne key (holdings_of old) (holdings_of new)
-  written_one = record { place = record { address_is = address; granting_is = granting }; others = written_others }
+  written_one = record { place = record { address_is = address; assignment_is = assignment }; others = written_others }
 
   written_same : w ≡ b → HoldsSame (holdings_of old) (holdings_of new)
   written_same e = record {
-    place = record { address_is = address; granting_is = granting };
+    place = record { address_is = address; assignment_is = assignment };
     held_same = λ k. by_key key k (λ n. held_in new n ≡ held_in old n)
         (written_there ∙ (ap (λ (x : Binding). Some x) e ∙ sym there)) (written_others k);
   }

@@ -11,8 +11,8 @@ use Rattle.napt_table.specs.{declared.bindings.keys.ExternalNumberKey.ExternalNu
 use Rattle.napt_table.specs.{BindingIndexes.{held_at, IsNamed, IsUsedBy, AreUsedUpTo}, TableModels.{list_of, KeepsItsList}, declared.table.Table.TheInside.Inside}
 use Rattle.napt_table.proofs.{AlikeLists.{AllOnce, At, once_less, once_mapped, find_mapped, same_found}, ListedRows.each_entry, SeenBindings.{find_seen}}
 use Rattle.napt_table.proofs.{TableSteps.{show_now}, Keys.{key_is, key_differs, key_equiv}}
-use Rattle.napt_laws.proofs.{Endpoints.{once_number, has_it, has_protocol, number_of_it}, Finds.{Once, none_passes}, Lists.each_weaker, SeenElements.ago_later}
-use Rattle.napt_laws.proofs.{AlikeLists.{alike_moved, alike_then, alike_taken}, Shuffles.each_moved, FreshBindings.{IsFresh, fresh_purged, purge_fresh}, Purges.each_purged}
+use Rattle.napt_laws.proofs.{Endpoints.{once_number, has_it, has_protocol, number_of_it}, UniqueSearches.{Once, none_passes}, Lists.each_weaker, SeenElements.ago_later}
+use Rattle.napt_laws.proofs.{AlikeLists.{alike_moved, alike_then, alike_taken}, Permutations.each_moved, FreshBindings.{IsFresh, fresh_purged, purge_fresh}, Purges.each_purged}
 
 -- STORED BINDINGS, one entry after another
 

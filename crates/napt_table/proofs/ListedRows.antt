@@ -7,10 +7,10 @@ use Rattle.napt_wire.specs.declared.{Endpoint.Endpoint, Protocol.{Protocol, TheV
 use Rattle.napt_config.specs.declared.settings.Timers.{Timers}
 use Rattle.napt_rules.specs.Prelude.{Binding, Each, same_protocol, has_number, is_live, with_live_flows, row, protocol_rank, rank, sorted_rows, rows, IsPaired}
 use Rattle.napt_rules.specs.declared.Row.{Row}
-use Rattle.napt_table.specs.{declared.bindings.keys.ExternalNumberKey.ExternalNumberKey, HeldLists.seen_binding, Keys.{key_eq, external_key}, HeldRows.{held_rows, IsSmall, AreRead}}
+use Rattle.napt_table.specs.{declared.bindings.keys.ExternalNumberKey.ExternalNumberKey, HeldLists.seen_binding, Keys.{key_eq, external_key}, HeldRows.{held_rows, HasPortNumber, AreListable}}
 use Rattle.napt_table.specs.{BindingIndexes.{held_at, IsNamed}, TableModels.{list_of, KeepsItsList}, declared.table.Table.TheInside.Inside}
 use Rattle.napt_table.proofs.{TableSteps.{live, live_sound, show_now}, Keys.{key_is, key_itself, key_differs, key_equiv}}
-use Rattle.napt_laws.proofs.{Endpoints.{once_number, protocol_is, same_itself}, Finds.Once, Lists.find_nowhere}
+use Rattle.napt_laws.proofs.{Endpoints.{once_number, protocol_is, same_itself}, UniqueSearches.Once, Lists.find_nowhere}
 use Rattle.napt_laws.proofs.Orders.{same_rank, same_rank_is, in_order_alike}
 
 -- FILTERS
@@ -64,12 +64,13 @@ is_row_itself r =
 abbrev is_big : Row → Bool
 is_big r = not (nat_lt r.external.number 65536)
 
-none_big : (rows : List Row) → All IsSmall rows → filter is_big rows ≡ []
+none_big : (rows : List Row) → All HasPortNumber rows → filter is_big rows ≡ []
 none_big [] small = refl
 none_big (r ∷ rows) small =
-    let first : r.external.number < 65536 = All-head IsSmall r rows small in
+    let first : r.external.number < 65536 = All-head HasPortNumber r rows small in
     let fits : is_big r ≡ false = grind (arith, nat_tests) in
-    ap (λ v. cond v (r ∷ filter is_big rows) (filter is_big rows)) fits ∙ none_big rows (All-tail IsSmall r rows small)
+    ap (λ v. cond v (r ∷ filter is_big rows) (filter is_big rows)) fits
+    ∙ none_big rows (All-tail HasPortNumber r rows small)
 
 -- The ranks of ICMP are its numbers, those of TCP and UDP are above them; a larger number has no such rank.
 rank_icmp : (n m : ℕ) (q : Protocol) → n < 65536 → not (nat_lt m 65536) ≡ false → eqb n (protocol_rank q * 65536 + m)
@@ -256,7 +257,7 @@ module _ (timers : Timers) (now : ℕ) (p : Protocol) (n : ℕ) where
 -- THE TABLE
 
 module _ (table : Inside) (is : KeepsItsList table) (now : ℕ) (later : table.bindings.at ≤ now)
-    (named : IsNamed table.bindings.held) (read : AreRead table.bindings.timers now table.bindings.held) where
+    (named : IsNamed table.bindings.held) (read : AreListable table.bindings.timers now table.bindings.held) where
   abbrev pub made : List Row
   made = held_rows table.bindings.timers now table.bindings.held
 

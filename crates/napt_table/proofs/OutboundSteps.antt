@@ -9,7 +9,7 @@ use Rattle.napt_rules.{specs.declared.{OutboundPacket.OutboundPacket, Flow.Flow,
 use Rattle.napt_table.specs.{declared.bindings.keys.ExternalNumberKey.ExternalNumberKey, Keys.{key_eq, external_key}, HeldLists.{seen_binding, ShowsHeld}, BindingIndexes.{BindingIndexModel, held_binding, held_at, IsNamed, ChangesOne, WentThrough}}
 use Rattle.napt_table.{specs.Bindings.AreDue, proofs.{Keys.{by_key, at_key, past_key}, Queues.{due_later, changed_due}, SeenBindings.{seen_is, seen_live}, LastUses.{out_used, sent_used, sent_last, all_used}}}
 use Rattle.napt_binding.{specs.{Ends.least_timer, Slots.NoneUsedAfter}, proofs.{Lists.any_pushed, LastUses.live_flows_used}}
-use Rattle.napt_laws.proofs.{FreshBindings.{binding_of, sent_fresh, no_flows}, Finds.{passes, find_same, change_same, find_pushed, find_passed_over}}
+use Rattle.napt_laws.proofs.{FreshBindings.{binding_of, sent_fresh, no_flows}, UniqueSearches.{passes, find_same, change_same, find_pushed, find_passed_over}}
 use Rattle.napt_laws.proofs.Endpoints.{end_itself, number_of_it, once_number, once_inside, has_it, inside_it, inside_parts, changed_other, changed_here}
 
 -- A PACKET REFRESHES A BINDING FOR THE LEAST TIMER

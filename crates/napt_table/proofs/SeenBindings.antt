@@ -5,7 +5,7 @@ use Rattle.napt_wire.specs.declared.Protocol.{Protocol}
 use Rattle.napt_config.specs.declared.settings.Timers.{Timers}
 use Rattle.napt_rules.{specs.Prelude.{Binding, has_number, is_live, with_live_flows, purge, row, AreBindingsApart}, proofs.Life.{lived, live_same}}
 use Rattle.napt_table.specs.HeldLists.{seen_binding, ShowsHeld}
-use Rattle.napt_laws.proofs.{Purges.flows_same, Finds.{Once, kept, find_kept}, Endpoints.once_number}
+use Rattle.napt_laws.proofs.{Purges.flows_same, UniqueSearches.{Once, kept, find_kept}, Endpoints.once_number}
 
 -- WHAT IS VISIBLE
 

@@ -5,7 +5,7 @@ use Rattle.napt_wire.specs.declared.{Protocol.Protocol, Cause.TheVariants.{NoBin
 use Rattle.napt_config.specs.declared.settings.Timers.{Timers}
 use Rattle.napt_rules.specs.declared.{AssignmentRules.AssignmentRules, InboundRules.InboundRules, OutboundPacket.OutboundPacket, InboundPacket.InboundPacket}
 use Rattle.napt_rules.specs.Prelude.{Binding, change_first, same_protocol, has_number, purge, permits, is_of_source, binding_after_out, is_of_destination, binding_after_in, InboundEffect, in_found, in_taken, AreTimers}
-use Rattle.napt_laws.proofs.{Finds.find_other, StepCases.in_passed, StepsLive.received_seen}
+use Rattle.napt_laws.proofs.{UniqueSearches.find_other, StepCases.in_passed, StepsLive.received_seen}
 use Rattle.napt_laws.proofs.Endpoints.{protocol_is, same_itself, changed_other, inside_protocol, not_has}
 use Rattle.napt_table.specs.{declared.table_event.TableEvent.TableEvent, Events.{list_after_event, list_after_events}}
 
@@ -97,13 +97,13 @@ same_everywhere old new number others here n = elim (eqb n number) as (λ v. eqb
 ] refl
 
 -- The list after one more event.
-pub played_more : (timers : Timers) (granting : AssignmentRules) (inbound : InboundRules) (address : ℕ)
+pub played_more : (timers : Timers) (assignment : AssignmentRules) (inbound : InboundRules) (address : ℕ)
     (events : List (ℕ × TableEvent))
     (event : ℕ × TableEvent) (list : List Binding) →
-    list_after_events timers granting inbound address (events ++ event ∷ []) list
-    ≡ list_after_event timers granting inbound address event.1
-    (list_after_events timers granting inbound address events list)
-played_more timers granting inbound address [] event list = refl
-played_more timers granting inbound address (e ∷ events) event list = played_more timers granting inbound address
+    list_after_events timers assignment inbound address (events ++ event ∷ []) list
+    ≡ list_after_event timers assignment inbound address event.1
+    (list_after_events timers assignment inbound address events list)
+played_more timers assignment inbound address [] event list = refl
+played_more timers assignment inbound address (e ∷ events) event list = played_more timers assignment inbound address
     events event
-    (list_after_event timers granting inbound address e.1 list)
+    (list_after_event timers assignment inbound address e.1 list)

@@ -6,9 +6,9 @@ use Rattle.napt_wire.specs.declared.{Protocol.Protocol, Endpoint.Endpoint}
 use Rattle.napt_config.specs.{Rules.{Rules, RulesInvariant, AreRedirectsSingle, is_double, pair_of}, declared.settings.{Redirect.Redirect, Timers.Timers}}
 use Rattle.napt_rules.specs.Prelude.{Binding, is_at, bindings_at, is_of_inside, has_number, redirect_binding, opening, row, AreBindingsApart}
 use Rattle.napt_table.specs.{declared.bindings.keys.ExternalNumberKey.ExternalNumberKey, Keys.{key_eq, external_key, key_of}, HeldLists.seen_binding, Beginnings.AreHeld}
-use Rattle.napt_table.specs.{BindingIndexes.{BindingIndexModel, held_binding, IsNamed, HasNoInside}, Bindings.AllKeep, TableModels.{list_of, table_model, KeepsItsList}, Tables.IsTable, declared.table.Table.TheInside.Inside}
+use Rattle.napt_table.specs.{BindingIndexes.{BindingIndexModel, held_binding, IsNamed, HasNoInside}, Bindings.ListAgrees, TableModels.{list_of, table_model, KeepsItsList}, Tables.IsTable, declared.table.Table.TheInside.Inside}
 use Rattle.napt_table.proofs.{Keys.{by_key, at_key, past_key}, SeenBindings.find_purged}
-use Rattle.napt_laws.proofs.{Finds.{Once, find_pushed, find_passed_over, any_found, none_passes}, OpeningList.apart_redirects}
+use Rattle.napt_laws.proofs.{UniqueSearches.{Once, find_pushed, find_passed_over, any_found, none_passes}, OpeningList.apart_redirects}
 use Rattle.napt_laws.proofs.{Endpoints.{has_it, inside_it, has_protocol, number_of_it, once_number, once_inside}, StepsSound.apart_kept}
 
 -- THE REDIRECTS SO FAR
@@ -156,7 +156,7 @@ none_held address all none q n = none (external_key q n)
 -- The stored bindings agree with the list if they are those of the list.
 pub begun_keep : (timers : Timers) (at address : ℕ) (all : BindingIndexModel) (list : List Binding) →
     AreBindingsApart (map row list) →
-    AreHeld address all list → AllKeep timers at address all list
+    AreHeld address all list → ListAgrees timers at address all list
 begun_keep timers at address all list apart are = record {
   live = λ q n. find_purged timers at address q n list apart ∙ ap (seen_binding timers at) (sym (are q n));
   held = λ q n t from. ap (λ (o : Option Binding). option_map row (seen_binding timers t o)) (sym (are q n));
@@ -175,7 +175,7 @@ pub begun_keeps_its_list : (table : Inside) (list : List Binding) → list_of ta
     KeepsItsList table
 begun_keeps_its_list table list is state are = record {
   state = subst IsTable (λ i. record (table_model table) { list = sym is i }) state;
-  keeps = subst (AllKeep table.bindings.timers table.bindings.at table.bindings.held.address table.bindings.held)
+  keeps = subst (ListAgrees table.bindings.timers table.bindings.at table.bindings.held.address table.bindings.held)
       (sym is)
       (begun_keep table.bindings.timers table.bindings.at table.bindings.held.address table.bindings.held list
       state.sound.apart are);

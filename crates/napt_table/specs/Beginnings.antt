@@ -16,7 +16,7 @@ abbrev pub builder_model : Inside → TableModel
 builder_model it = record {
   address = it.bindings.held.address;
   timers = it.bindings.timers;
-  granting = it.bindings.held.granting;
+  assignment = it.bindings.held.assignment;
   inbound = it.inbound;
   list = list_of it;
   at = it.bindings.at;

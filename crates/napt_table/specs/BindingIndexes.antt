@@ -8,7 +8,7 @@ use Rattle.napt_table.specs.{declared.bindings.keys.ExternalNumberKey.ExternalNu
 
 pub record BindingIndexModel : Type 0 where
   pub address : ℕ
-  pub granting : AssignmentRules
+  pub assignment : AssignmentRules
   -- The bindings by the keys of their numbers, in no order.
   pub entries : List (ExternalNumberKey × Binding)
   -- The number of further bindings that fit without an allocation.
@@ -60,7 +60,7 @@ HasNoInside all protocol inside = (number : ℕ) (b : Binding) → held_at all p
 
 pub record IsSamePlace (old new : BindingIndexModel) : Type 0 where
   pub address_is : new.address ≡ old.address
-  pub granting_is : new.granting ≡ old.granting
+  pub assignment_is : new.assignment ≡ old.assignment
 
 -- The stored bindings are the same; there may be more room.
 pub record HoldsSame (old new : BindingIndexModel) : Type 0 where
@@ -89,7 +89,7 @@ pub record WentThrough (timers : Timers) (packet : OutboundPacket) (old new : Bi
         ≡ Some (binding_after_out packet binding)
 
 -- No live binding is that of the packet's inside endpoint, and no stored binding changed.
-pub record HasNone (timers : Timers) (packet : OutboundPacket) (old new : BindingIndexModel) : Type 0 where
+pub record HasNoLiveBinding (timers : Timers) (packet : OutboundPacket) (old new : BindingIndexModel) : Type 0 where
   pub same : HoldsSame old new
   pub none : (number : ℕ) (b : Binding) → seen_binding timers packet.now (held_at old packet.protocol number) ≡ Some b →
       b.row.inside ≢ packet.inside
@@ -97,4 +97,4 @@ pub record HasNone (timers : Timers) (packet : OutboundPacket) (old new : Bindin
 -- A packet went out through the live binding of its inside endpoint, if there is one, and the answer is its number.
 abbrev pub SendKnownPost : Timers → OutboundPacket → BindingIndexModel → BindingIndexModel → Option ℕ → Type 0
 SendKnownPost timers packet old new (Some number) = WentThrough timers packet old new number
-SendKnownPost timers packet old new None = HasNone timers packet old new
+SendKnownPost timers packet old new None = HasNoLiveBinding timers packet old new

@@ -16,9 +16,9 @@ abbrev pub count_in : HostCounts → ℕ → ℕ
 count_in hosts host = count_by hosts.counts host
 
 -- Returns the number of further hosts that fit without an allocation, or 1 if nothing is counted.
-abbrev pub place_by : Option AddressCounts → ℕ
-place_by None = 1
-place_by (Some counts) = room_of counts
+abbrev pub room_by : Option AddressCounts → ℕ
+room_by None = 1
+room_by (Some counts) = room_of counts
 
-abbrev pub host_place : HostCounts → ℕ
-host_place hosts = place_by hosts.counts
+abbrev pub host_room : HostCounts → ℕ
+host_room hosts = room_by hosts.counts

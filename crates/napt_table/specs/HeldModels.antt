@@ -2,15 +2,15 @@
 use Rattle.std.specs.{Prelude.{◌≡◌, ℕ, ◌<◌, ◌^◌, min, true, Option, Some}, Option.is_some, HashMap.spare, Map.lookup}
 use Rattle.napt_wire.specs.declared.{Protocol.Protocol, Endpoint.Endpoint}
 use Rattle.napt_rules.specs.Prelude.{Binding}
-use Rattle.napt_table.specs.{declared.bindings.{keys.ExternalNumberKey.ExternalNumberKey, binding_index.BindingIndex.TheInside.Inside}, Counts.{are_counted, count_in, host_place}}
+use Rattle.napt_table.specs.{declared.bindings.{keys.ExternalNumberKey.ExternalNumberKey, binding_index.BindingIndex.TheInside.Inside}, Counts.{are_counted, count_in, host_room}}
 use Rattle.napt_table.specs.{BindingIndexes.{BindingIndexModel, held_binding, count_all, HasInside, IsNamed}, NumbersInUse.{is_in_use, AreByProtocol}, Keys.{inside_eq, inside_key}}
 
 abbrev pub holdings_of : Inside → BindingIndexModel
 holdings_of it = record {
   address = it.address;
-  granting = it.granting;
+  assignment = it.assignment;
   entries = it.by_number.entries;
-  room = min (spare it.by_number) (min (spare it.by_inside) (host_place it.hosts));
+  room = min (spare it.by_number) (min (spare it.by_inside) (host_room it.hosts));
 }
 
 -- Returns the number that the index has for the inside endpoint, if there is one.
@@ -27,5 +27,5 @@ pub record IsHeld (it : Inside) : Type 0 where
   pub by_protocol : AreByProtocol it.numbers
   pub used_is : (key : ExternalNumberKey) → key.number < 2 ^ 16 →
       is_in_use it.numbers key ≡ is_some (held_binding (holdings_of it) key)
-  pub counting : are_counted it.hosts ≡ is_some it.granting.quota
+  pub counting : are_counted it.hosts ≡ is_some it.assignment.quota
   pub counted : are_counted it.hosts ≡ true → (host : ℕ) → count_in it.hosts host ≡ count_all (holdings_of it) host

@@ -9,10 +9,10 @@ abbrev pub held_rows : Timers → ℕ → BindingIndexModel → List Row
 held_rows timers now all = map row (filter (is_live timers now) (values_of all.entries))
 
 -- The external number has 16 bits.
-abbrev pub IsSmall : Row → Type 0
-IsSmall row = row.external.number < 2 ^ 16
+abbrev pub HasPortNumber : Row → Type 0
+HasPortNumber row = row.external.number < 2 ^ 16
 
 -- The stored bindings can be read as a list: their keys are distinct, and the external numbers have 16 bits.
-pub record AreRead (timers : Timers) (now : ℕ) (all : BindingIndexModel) : Type 0 where
+pub record AreListable (timers : Timers) (now : ℕ) (all : BindingIndexModel) : Type 0 where
   pub unique : IsDistinct key_eq (keys_of all.entries)
-  pub small : All IsSmall (held_rows timers now all)
+  pub small : All HasPortNumber (held_rows timers now all)

@@ -6,7 +6,7 @@ use Rattle.napt_table.specs.{declared.table_event.TableEvent.TableEvent, Events.
 
 -- After any events, the number of a host's bindings is at most the greater of the quota and its number at the start.
 abbrev pub PlayedKeepsQuota : Type 0
-PlayedKeepsQuota = (timers : Timers) (granting : AssignmentRules) (quota : ℕ) → granting.quota ≡ Some quota →
+PlayedKeepsQuota = (timers : Timers) (assignment : AssignmentRules) (quota : ℕ) → assignment.quota ≡ Some quota →
     (inbound : InboundRules) (address : ℕ) (events : List (ℕ × TableEvent)) (begun : List Binding) (at host : ℕ) →
-    count_for at host (list_after_events timers granting inbound address events begun)
+    count_for at host (list_after_events timers assignment inbound address events begun)
     ≤ max quota (count_for at host begun)

@@ -7,12 +7,12 @@
 ghost use Rattle.std.specs.{Prelude.{◌≡◌, ℕ, ◌+◌, ◌*◌, ◌^◌, ◌≤◌, ◌<◌, All, true, false, Some, None, OnOk, IfOk}, Option.{option_map, is_some}};
 ghost use Rattle.napt_rules.specs.Prelude.{Binding, ns_per_second, is_live, hold_ago};
 ghost use Rattle.napt_binding.specs.Ends.{least_timer};
-ghost use Rattle.napt_table.specs.{HeldLists.HeldIsPurgedLater, BindingIndexes.{KeepsSeen, held_binding as held_at_key}, Bindings.{AreDue, AreDueBut, entries_due}};
+ghost use Rattle.napt_table.specs.{HeldLists.HeldIsPurgedLater, BindingIndexes.{KeepsSeen, held_binding as held_at_key}, Bindings.{AreDue, AreDueExcept, entries_due}};
 
 use crate::TimedRow;
 use crate::bindings::binding_index::BindingIndex;
 use crate::bindings::keys::ExternalNumberKey;
-use napt_binding::{IdleTimers, end_of, is_live, until};
+use napt_binding::{IdleTimers, end_of, is_live, live_until};
 use napt_collections::Due;
 use napt_rules::{AssignmentRules, InboundPacket, InboundRules, Row, StateBinding};
 use napt_wire::{Cause, Endpoint, Protocol};
@@ -60,7 +60,7 @@ fn requeue_or_remove(
     at: u64,
     key: ExternalNumberKey,
 )
-    requires due { AreDueBut timers at key held.old due.old.entries }
+    requires due { AreDueExcept timers at key held.old due.old.entries }
     requires room { 0 < due.old.room }
     ensures due { AreDue timers at held.new due.new.entries }
     ensures keeps { KeepsSeen timers (hold_ago timers at) held.old held.new }
@@ -81,7 +81,7 @@ fn requeue_or_remove(
     }
     let ago = timers.hold_ago(at);
     if is_live(binding, timers, ago) {
-        due.push(until(binding, timers, ago), key);
+        due.push(live_until(binding, timers, ago), key);
     } else {
         held.remove(key);
     }
@@ -99,20 +99,20 @@ impl Bindings {
         alloc: Global,
         address: u32,
         timers: IdleTimers,
-        granting: AssignmentRules,
+        assignment: AssignmentRules,
         at: u64,
     ) -> Result<Bindings, AllocError>
         ensures timers { IfOk result (λ bindings. bindings.timers ≡ timers) }
         ensures at { IfOk result (λ bindings. bindings.at ≡ at) }
         ensures address { IfOk result (λ bindings. bindings.held.address ≡ address) }
-        ensures granting { IfOk result (λ bindings. bindings.held.granting ≡ granting) }
+        ensures assignment { IfOk result (λ bindings. bindings.held.assignment ≡ assignment) }
         ensures none { IfOk result (λ bindings. (key : Key) →
             held_binding bindings.held key ≡ None) }
     {
         Ok(Bindings {
             timers,
             at,
-            held: BindingIndex::new(alloc, address, granting)?,
+            held: BindingIndex::new(alloc, address, assignment)?,
             due: Due::new(alloc),
         })
     }
@@ -277,19 +277,19 @@ impl Bindings {
     ghost use Rattle.std.specs.{List.IsDistinct, Map.{keys_of, values_of}};
     ghost use Rattle.napt_rules.specs.Prelude.{live_and_held};
     ghost use Rattle.napt_binding.specs.Slots.{AreDistinct};
-    ghost use Rattle.napt_table.specs.{BindingIndexes.AreUsedUpTo, Keys.key_eq, HeldRows.{held_rows, AreRead}};
+    ghost use Rattle.napt_table.specs.{BindingIndexes.AreUsedUpTo, Keys.key_eq, HeldRows.{held_rows, AreListable}};
 
     /// Returns the rows of the bindings that are live at `now` (ns), in no order.
     pub(crate) fn rows(&self, alloc: Global, now: u64) -> Result<Vec<Row>, AllocError>
         ensures rows { IfOk result (λ made. made.items
             ≡ held_rows self.now.timers now self.now.held) }
-        ensures read { OnOk result (AreRead self.now.timers now self.now.held) }
+        ensures read { OnOk result (AreListable self.now.timers now self.now.held) }
     {
         self.held.rows(alloc, self.timers, now)
     }
 
     /// Returns the bindings that are live or held at `now` (ns), for a saved state, in no order.
-    pub(crate) fn final_bindings(
+    pub(crate) fn state_bindings(
         &self,
         alloc: Global,
         now: u64,
@@ -301,7 +301,7 @@ impl Bindings {
         ensures used { AreUsedUpTo self.now.at self.now.held }
     {
         let ago = self.timers.hold_ago(now);
-        self.held.final_bindings(alloc, self.timers, ago)
+        self.held.state_bindings(alloc, self.timers, ago)
     }
 }
 

@@ -13,7 +13,7 @@ pub(crate) struct HostCounts {
 }
 
 impl HostCounts {
-    ghost use Rattle.napt_table.specs.Counts.{are_counted, count_in, host_place};
+    ghost use Rattle.napt_table.specs.Counts.{are_counted, count_in, host_room};
 
     /// Creates counts of 0, or none at all if `counted` is false. Allocates no memory.
     pub(crate) fn new(alloc: Global, counted: bool) -> HostCounts
@@ -32,7 +32,7 @@ impl HostCounts {
     pub(crate) fn reserve(&mut self) -> Result<(), AllocError>
         ensures counted { are_counted self.new ≡ are_counted self.old }
         ensures counts { (host : ℕ) → count_in self.new host ≡ count_in self.old host }
-        ensures room { OnOk result (0 < host_place self.new) }
+        ensures room { OnOk result (0 < host_room self.new) }
     {
         match &mut self.counts {
             Some(counts) => counts.reserve(),
@@ -52,7 +52,7 @@ impl HostCounts {
 
     /// Counts a binding, for whose host there must be room. A redirect is not counted.
     pub(crate) fn increment(&mut self, binding: &TableBinding)
-        requires room { 0 < host_place self.old }
+        requires room { 0 < host_room self.old }
         requires fits { count_in self.old binding.now.row.inside.address + 1 < 2 ^ 64 }
         ensures counted { are_counted self.new ≡ are_counted self.old }
         ensures counts { are_counted self.old ≡ true →
@@ -73,7 +73,7 @@ impl HostCounts {
         ensures counts { (host : ℕ) →
             count_in self.new host ≡ count_in self.old host - cond {A = ℕ}
             (held_counts_for host (Some binding.now)) 1 0 }
-        ensures room { host_place self.old ≤ host_place self.new }
+        ensures room { host_room self.old ≤ host_room self.new }
     {
         match &mut self.counts {
             Some(counts) if !binding.row.is_fixed() => counts.decrement(

@@ -37,7 +37,7 @@ impl Model for TableBuilder {
 
 /// Returns the configuration's rules for assigning numbers.
 fn assignment_rules(config: &Config) -> AssignmentRules
-    ensures granting { result ≡ rules.assignment_rules config.now }
+    ensures assignment { result ≡ rules.assignment_rules config.now }
     ensures kept { RulesInvariant config.now }
 {
     AssignmentRules {
@@ -91,12 +91,12 @@ impl TableBuilder {
             it ≡ record (initial_table config.now address) { list = []; at = at }) }
         ensures rules { OnOk result (RulesInvariant config.now) }
     {
-        let granting = assignment_rules(config);
+        let assignment = assignment_rules(config);
         let timers = IdleTimers::from_config(config);
         Ok(TableBuilder {
             inbound: inbound_rules(config),
             list: Log::new(),
-            bindings: Bindings::new(alloc, address, timers, granting, at)?,
+            bindings: Bindings::new(alloc, address, timers, assignment, at)?,
         })
     }
 

@@ -34,7 +34,7 @@ pub record IsTranslator (state : TranslatorModel) : Type 0 where
   pub rules : RulesInvariant state.rules
   pub address : state.table.address ≡ slice_index state.rules.pool state.index
   pub timers : state.table.timers ≡ state.rules.timers
-  pub granting : state.table.granting ≡ assignment_rules state.rules
+  pub assignment : state.table.assignment ≡ assignment_rules state.rules
   pub inbound : state.table.inbound ≡ inbound_rules state.rules
 
 abbrev pub local_state : TableModel → LocalState

@@ -257,7 +257,8 @@ fn result_without_log(
     requires gate { IfErr answer (λ fault. is_shut_gate_fault fault ≡ false) }
     requires log { IfErr answer (IsOfLog (files_with_log options.now)) }
     ensures saved { IfOk result (λ left. is_some left.state ≡ is_some options.now.files.save) }
-    ensures left { IfOk answer (λ end. (state : LeftState) → LeavesState config.now state end.passed →
+    ensures left { IfOk answer (λ end. (state : LeftState) →
+        LeavesState config.now state end.summary →
         IfOk result (λ left. IfSome left.state (IsSavedState config.now state))) }
     ensures stop { (streams : StandardStreams) → IfErr result
         (IsRunStop streams (files_with_log options.now)) }
@@ -267,7 +268,7 @@ fn result_without_log(
         Err(fault) => return Err(stop_of_run(options, fault)),
     };
     let state = end
-        .passed
+        .summary
         .into_state_if(options.files.save.is_some(), alloc)?;
     Ok(StreamRemainder {
         state: saved_contents(alloc, config, state, None)?,
@@ -286,7 +287,8 @@ fn result_with_log<T: Write + Drop, F: SeekableFile + Drop, R: Files + AllocGlob
     requires gate { IfErr answer (λ fault. is_shut_gate_fault fault ≡ false) }
     requires log { is_some options.now.log ≡ true }
     ensures saved { IfOk result (λ left. is_some left.state ≡ is_some options.now.files.save) }
-    ensures left { IfOk answer (λ end. (state : LeftState) → LeavesState config.now state end.passed →
+    ensures left { IfOk answer (λ end. (state : LeftState) →
+        LeavesState config.now state end.summary →
         IfOk result (λ left. IfSome left.state (IsSavedState config.now state))) }
     ensures stop { (streams : StandardStreams) → IfErr result
         (IsRunStop streams (files_with_log options.now)) }
@@ -299,7 +301,7 @@ fn result_with_log<T: Write + Drop, F: SeekableFile + Drop, R: Files + AllocGlob
         return Ok(StreamRemainder { state: None });
     }
     // A fault of the log is reported before a fault of the state.
-    let state = end.passed.into_state_if(true, alloc);
+    let state = end.summary.into_state_if(true, alloc);
     let log_end = log.synced_end()?;
     Ok(StreamRemainder {
         state: saved_contents(alloc, config, state?, Some((&end.log, log_end)))?,

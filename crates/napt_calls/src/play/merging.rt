@@ -89,8 +89,8 @@ fn print_streams<P: Print, R: Source, Q: Source>(
 pub(crate) fn print_read<R: Print>(line: &mut Line<'_, R>) -> Result<(), CallFault> {
     let plan = FaultPlan {
         most: usize::from(line.short()?),
-        call: line.number()?,
-        trouble: InjectedFault::Fails,
+        failing_call: line.number()?,
+        fault: InjectedFault::Fails,
     };
     if plan.most == 0 {
         return Err(CallFault::Unsent);

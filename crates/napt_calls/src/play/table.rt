@@ -90,7 +90,7 @@ fn outbound<R: Print>(line: &mut Line<'_, R>, table: &mut Table, now: u64) -> Re
     if !keeps_block(sent.block) || !is_number(sent.protocol, sent.inside.number) {
         return Err(CallFault::Unsent);
     }
-    let answer = table.outbound_of(line.alloc, sent);
+    let answer = table.outbound_in_block(line.alloc, sent);
     print_answer(line.rt, &answer.map_err(|_| CallFault::Call)?)
 }
 

@@ -37,7 +37,7 @@ enum RefusingDevice {
 struct Refusal {
     device: RefusingDevice,
     call: u64,
-    trouble: InjectedFault,
+    injected: InjectedFault,
 }
 
 impl Refusal {
@@ -48,8 +48,8 @@ impl Refusal {
         let call = if self.device == device { self.call } else { 0 };
         FaultPlan {
             most: AT_ONCE,
-            call,
-            trouble: self.trouble,
+            failing_call: call,
+            fault: self.injected,
         }
     }
 }
@@ -117,7 +117,7 @@ fn make_run(
 const NONE: Refusal = Refusal {
     device: RefusingDevice::Inside,
     call: 0,
-    trouble: InjectedFault::Fails,
+    injected: InjectedFault::Fails,
 };
 
 /// Makes the run, and checks that nothing is left.
@@ -179,19 +179,19 @@ fn sweep(
 ) -> Result<(), CallResult> {
     for call in 1..MOST_CALLS {
         let mut is_over = false;
-        for trouble in [InjectedFault::Fails, InjectedFault::TakesNone] {
+        for injected in [InjectedFault::Fails, InjectedFault::TakesNone] {
             // A capture that ends earlier is another capture.
             let is_source = matches!(device, RefusingDevice::Inside | RefusingDevice::Outside);
-            if is_source && trouble == InjectedFault::TakesNone {
+            if is_source && injected == InjectedFault::TakesNone {
                 continue;
             }
             let refusal = Refusal {
                 device,
                 call,
-                trouble,
+                injected,
             };
             let run = tried(rt, config, false, refusal)?;
-            is_over = is_over || trouble == InjectedFault::Fails && run.answer == Ok(());
+            is_over = is_over || injected == InjectedFault::Fails && run.answer == Ok(());
             judge(device, &run, whole)?;
         }
         if is_over {

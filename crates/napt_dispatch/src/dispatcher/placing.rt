@@ -4,14 +4,14 @@ ghost use Rattle.std.specs.Prelude.{◌≡◌, ◌+◌, ◌<◌, ◌≤◌, ◌�
 ghost use Rattle.napt_wire.specs.{declared.Side.TheVariants.Inside as InsideSide, Fields.destination, Packet.IsPacket, Reading.reading};
 ghost use Rattle.napt_config.specs.Rules.{RulesInvariant, pool_place};
 ghost use Rattle.napt_rules.specs.Prelude.{way_from, served_at, admission_as};
-ghost use Rattle.napt_dispatch.specs.{declared.dispatcher.holding.PendingLeg.TheVariants.Ready, Dispatch.IsDispatchFault};
-ghost use Rattle.napt_dispatch.specs.{WorkerQueues.{AllHold, held_count, only_at, lane_at}, RunProgresses.{progress_in, progress_refused, IsUnmarked, ProgressIsWritten}};
+ghost use Rattle.napt_dispatch.specs.{declared.dispatcher.pending_leg.PendingLeg.TheVariants.Ready, Dispatch.IsDispatchFault};
+ghost use Rattle.napt_dispatch.specs.{WorkerQueues.{QueuesHoldMore, held_count, only_at, lane_at}, RunProgresses.{progress_in, progress_refused, IsUnmarked, ProgressIsWritten}};
 ghost use Rattle.napt_dispatch.specs.DispatcherInvariants.{journal_of, Admits};
 ghost use Rattle.napt_sequential.specs.declared.passage.Passage.TheVariants.{Nothing as NoPassage};
 
 use crate::dispatcher::Dispatcher;
-use crate::dispatcher::holding::PendingLeg;
-use crate::dispatcher::progress::InputProgress;
+use crate::dispatcher::input_progress::InputProgress;
+use crate::dispatcher::pending_leg::PendingLeg;
 use crate::faults::ImpossibleAnswer;
 use napt_config::Config;
 use napt_sequential::{Input, LegTrace, RunFault, places_stand_for_legs, right_answers, way_from};
@@ -26,7 +26,7 @@ impl<P: LegTrace> Dispatcher<P> {
         requires room { held_count self.old.queues < 65536 }
         requires open { IsUnmarked number self.old.progress }
         ensures many { length self.new.queues ≡ length self.old.queues }
-        ensures placed { OnOk result (AllHold (lane_at number to)
+        ensures placed { OnOk result (QueuesHoldMore (lane_at number to)
             self.old.queues self.new.queues) }
         ensures progress { progress_in self.new.progress ≡ progress_in self.old.progress }
         ensures journal { journal_of self.new.progress ≡ journal_of self.old.progress }
@@ -48,7 +48,7 @@ impl<P: LegTrace> Dispatcher<P> {
         requires room { held_count self.old.queues + 2 ≤ 65536 }
         requires open { IsUnmarked leg.number self.old.progress }
         ensures many { length self.new.queues ≡ length self.old.queues }
-        ensures placed { OnOk result (AllHold (λ v. only_at w (Ready leg ∷ []) v
+        ensures placed { OnOk result (QueuesHoldMore (λ v. only_at w (Ready leg ∷ []) v
             ++ lane_at leg.number to v) self.old.queues self.new.queues) }
         ensures progress { OnOk result (progress_in self.new.progress
             ≡ progress_in self.old.progress) }

@@ -4,10 +4,10 @@ ghost use Rattle.std.specs.Prelude.{◌≡◌, ◌↔◌, ◌⊎◌, ◌+◌, �
 ghost use Rattle.napt_sequential.specs.declared.{fault.RunFault.TheVariants.Memory, passage.Passage.TheVariants.Nothing as NoPassage};
 ghost use Rattle.napt_dispatch.specs.Dispatch.{IsDispatchFault};
 ghost use Rattle.napt_dispatch.specs.RunProgresses.{progress_in, marks_in, progress_expecting, is_unknown, FirstIsComplete, ProgressIsWritten, InputIsMarked, FirstInputLeaves};
-ghost use Rattle.napt_dispatch.specs.{RunsThrough.{HandOverOk, HandOverErr}, DispatcherInvariants.{IsSecond, AnswersTo}};
+ghost use Rattle.napt_dispatch.specs.{RunsThrough.{HandOverOk, HandOverErr}, DispatcherInvariants.{IsSecondLegOf, AnswersTo}};
 
 use crate::dispatcher::buffer_pool::BufferPool;
-use crate::dispatcher::progress::{InputProgress, OpenInput};
+use crate::dispatcher::input_progress::{InputProgress, OpenInput};
 use crate::faults::ImpossibleAnswer;
 use crate::outcome_sink::{InputResult, OutcomeSink};
 use http_server::Log;
@@ -219,7 +219,7 @@ impl<P: LegTrace> RunProgress<P> {
     /// Removes and returns the second leg of input `number`, if any. Clears its placeholder's mark.
     pub(crate) fn second_leg(&mut self, number: u64) -> Option<Leg>
         requires { is_unknown (slice_get (progress_in self.old) number) ≡ false }
-        ensures { IsSecond number self.old self.new result }
+        ensures { IsSecondLegOf number self.old self.new result }
     {
         let Some(place) = self.place_of(number) else {
             unreachable!();

@@ -5,7 +5,7 @@ ghost use Rattle.napt_rules.specs.Prelude.{LegAct};
 ghost use Rattle.napt_dispatch.specs.{Dispatch.IsDispatchFault, DispatcherInvariants.{MovesLegs, turned_legs}};
 ghost use Rattle.napt_dispatch.specs.WorkerQueues.{HoldPost, held_legs_count, front_of, owed_of, queue_readied, unused_queue, with_offers};
 
-use crate::dispatcher::holding::{AwaitedLeg, PendingLeg, QueueHead};
+use crate::dispatcher::pending_leg::{AwaitedLeg, PendingLeg, QueueHead};
 use crate::faults::ImpossibleAnswer;
 use napt_sequential::RunFault;
 use napt_translate::Leg;

@@ -2,9 +2,9 @@
 
 ghost use Rattle.std.specs.Prelude.{◌≡◌, ◌↔◌, ◌+◌, ◌<◌, ◌≤◌, ℕ, Bool, [], ◌∷◌, length, replicate, take, true, vec_len, IfOk, IfErr, OnOk, MatchOption};
 ghost use Rattle.napt_dispatch.specs.{Dispatch.IsDispatchFault, DispatcherInvariants.MovesLegsAt};
-ghost use Rattle.napt_dispatch.specs.WorkerQueues.{AllHold, AnswersAt, held_legs_count, counts_in, front_of, held_count, only_at, queue_of, queue_readied, unused_queue, with_offers, with_queue};
+ghost use Rattle.napt_dispatch.specs.WorkerQueues.{QueuesHoldMore, AnswersAt, held_legs_count, counts_in, front_of, held_count, only_at, queue_of, queue_readied, unused_queue, with_offers, with_queue};
 
-use crate::dispatcher::holding::{AwaitedLeg, PendingLeg, QueueHead};
+use crate::dispatcher::pending_leg::{AwaitedLeg, PendingLeg, QueueHead};
 use crate::dispatcher::worker_queue::WorkerQueue;
 use napt_sequential::RunFault;
 use napt_translate::Leg;
@@ -68,7 +68,7 @@ impl WorkerQueues {
         requires place { w < length self.old }
         requires room { held_count self.old < 65536 }
         ensures many { length self.new ≡ length self.old }
-        ensures holds { OnOk result (AllHold (only_at w (held ∷ [])) self.old self.new) }
+        ensures holds { OnOk result (QueuesHoldMore (only_at w (held ∷ [])) self.old self.new) }
         ensures counted { OnOk result (held_count self.new ≡ held_count self.old + 1) }
     {
         let queue = &mut self.queues[w as usize];

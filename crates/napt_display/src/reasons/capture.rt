@@ -178,12 +178,12 @@ fn form_text(alloc: Global, form: FileForm) -> Result<String, AllocError> {
         FileForm::Gzip => String::from_str(alloc, "compressed by gzip"),
         FileForm::Unread => String::from_str(alloc, "a folder, or a file or device that failed"),
         FileForm::Unknown => String::from_str(alloc, "not a capture of a known form"),
-        FileForm::Pcap(spelling, link) => pcap_text(alloc, spelling, link),
+        FileForm::Pcap(format, link) => pcap_text(alloc, format, link),
     }
 }
 
-fn pcap_text(alloc: Global, spelling: CaptureFormat, link: u32) -> Result<String, AllocError> {
-    let CaptureFormat { order, unit } = spelling;
+fn pcap_text(alloc: Global, format: CaptureFormat, link: u32) -> Result<String, AllocError> {
+    let CaptureFormat { order, unit } = format;
     match link_name(link) {
         Some(name) => {
             format!(in alloc; "a libpcap capture of {name} (link type {link}), {order}, {unit}")

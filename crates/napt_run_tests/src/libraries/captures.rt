@@ -125,16 +125,16 @@ fn one_packet_or_none_is_written(rt: HostRuntime) -> Result<(), Fail> {
 #[test]
 fn each_write_fails_in_turn(rt: HostRuntime) -> Result<(), Fail> {
     let records = [packet(rt.alloc())?];
-    for trouble in [InjectedFault::Fails, InjectedFault::TakesNone] {
+    for injected in [InjectedFault::Fails, InjectedFault::TakesNone] {
         for taken in 0..=71u8 {
             let front = usize::from(taken).min(70);
-            let wanted = if taken == 71 || taken == 70 && trouble == InjectedFault::TakesNone {
+            let wanted = if taken == 71 || taken == 70 && injected == InjectedFault::TakesNone {
                 Ok(())
             } else {
                 let written = u64::from(taken);
                 Err(WriteFault { written })
             };
-            let plan = at_most(1, u64::from(taken) + 1, trouble);
+            let plan = at_most(1, u64::from(taken) + 1, injected);
             let capture = written!(rt, plan, write_capture(&records));
             assert_written(&rt, capture, wanted, front);
             let text = written!(rt, plan, write_text(&WRITTEN));

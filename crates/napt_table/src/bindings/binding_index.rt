@@ -26,7 +26,7 @@ use std::marker::Model;
 pub(crate) struct BindingIndex {
     /// The external address, in host order.
     address: u32,
-    granting: AssignmentRules,
+    assignment: AssignmentRules,
     by_number: IndexMap<ExternalNumberKey, TableBinding>,
     /// Hints at the index of a number's binding in `by_number`.
     places: BindingPlaces,
@@ -61,20 +61,20 @@ impl BindingIndex {
     pub(crate) fn new(
         alloc: Global,
         address: u32,
-        granting: AssignmentRules,
+        assignment: AssignmentRules,
     ) -> Result<BindingIndex, AllocError>
         ensures address { IfOk result (λ all. all.address ≡ address) }
-        ensures granting { IfOk result (λ all. all.granting ≡ granting) }
+        ensures assignment { IfOk result (λ all. all.assignment ≡ assignment) }
         ensures none { IfOk result (λ all. (key : Key) → held_binding all key ≡ None) }
     {
         Ok(BindingIndex {
             address,
-            granting,
+            assignment,
             by_number: IndexMap::new(alloc),
             places: BindingPlaces::new(alloc),
             by_inside: HashMap::new(alloc),
             numbers: NumbersInUse::new(alloc)?,
-            hosts: HostCounts::new(alloc, granting.quota.is_some()),
+            hosts: HostCounts::new(alloc, assignment.quota.is_some()),
         })
     }
 
@@ -141,10 +141,10 @@ impl BindingIndex {
     ) -> Option<u16>
         requires { IfSome block IsPortBlock }
         ensures { result ≡ find (λ n. not (is_some (held_at self.now protocol n)))
-            (candidates self.now.granting.choosing block protocol inside) }
+            (candidates self.now.assignment.choosing block protocol inside) }
     {
         self.numbers
-            .choose(self.granting.choosing, block, protocol, inside)
+            .choose(self.assignment.choosing, block, protocol, inside)
     }
 
     /// Returns the least number of the protocol from 1 on that no binding has, if there is one.
@@ -156,9 +156,9 @@ impl BindingIndex {
 
     /// Returns whether the host has as many bindings as the quota allows.
     pub(crate) fn is_at_quota(&self, host: u32) -> bool
-        ensures { result ≡ reaches_quota self.now.granting.quota (count_all self.now host) }
+        ensures { result ≡ reaches_quota self.now.assignment.quota (count_all self.now host) }
     {
-        let Some(quota) = self.granting.quota else {
+        let Some(quota) = self.assignment.quota else {
             return false;
         };
         let count = self.hosts.count(host);
@@ -324,7 +324,7 @@ impl BindingIndex {
     ghost use Rattle.std.specs.{List.IsDistinct, Map.{keys_of, values_of}};
     ghost use Rattle.napt_rules.specs.Prelude.{purge};
     ghost use Rattle.napt_binding.specs.Slots.{AreDistinct};
-    ghost use Rattle.napt_table.specs.{Keys.key_eq, HeldRows.{held_rows, AreRead}};
+    ghost use Rattle.napt_table.specs.{Keys.key_eq, HeldRows.{held_rows, AreListable}};
 
     /// Returns the rows of the bindings that are live at `now` (ns), in no order.
     pub(crate) fn rows(
@@ -334,7 +334,7 @@ impl BindingIndex {
         now: u64,
     ) -> Result<Vec<Row>, AllocError>
         ensures rows { IfOk result (λ made. made.items ≡ held_rows timers now self.now) }
-        ensures read { OnOk result (AreRead timers now self.now) }
+        ensures read { OnOk result (AreListable timers now self.now) }
     {
         let mut made = Vec::new(alloc);
         let held = self.by_number.as_slice();
@@ -347,7 +347,7 @@ impl BindingIndex {
     }
 
     /// Returns the bindings that are live at `ago` (ns), as a saved state has them, in no order.
-    pub(crate) fn final_bindings(
+    pub(crate) fn state_bindings(
         &self,
         alloc: Global,
         timers: IdleTimers,

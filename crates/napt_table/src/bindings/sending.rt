@@ -5,7 +5,7 @@ ghost use Rattle.napt_config.specs.Rules.{IsPortBlock};
 
 use crate::bindings::Bindings;
 use crate::bindings::keys::{ExternalNumberKey, key_of};
-use napt_binding::{Flows, PackedRow, TableBinding, until};
+use napt_binding::{Flows, PackedRow, TableBinding, live_until};
 use napt_rules::{OutboundPacket, Row};
 use napt_wire::{Cause, Endpoint, Protocol};
 use std::alloc::{AllocError, Global};
@@ -46,7 +46,7 @@ impl Bindings {
             (Some binding) (held_binding self.old.held key) }
     {
         let key = key_of(&binding);
-        let end = until(&binding, self.timers, from);
+        let end = live_until(&binding, self.timers, from);
         let held = &mut self.held;
         held.insert(binding);
         let due = &mut self.due;
@@ -62,7 +62,7 @@ impl Bindings {
     ghost use Rattle.napt_table.specs.Keys.{key_eq, key_of};
     ghost use Rattle.napt_table.specs.declared.bindings.keys.ExternalNumberKey.{ExternalNumberKey as Key};
     ghost use Rattle.napt_table.specs.BindingIndexes.{held_binding, held_at, HasInside, IsSamePlace, HasNoInside, HoldsSame, IsUsedBy, SendKnownPost};
-    ghost use Rattle.napt_table.specs.Bindings.{BindingsHaveRoom, BindingsUnchanged, NewBindingOk, RenewedBindingOk, Finds, SendPost, SendsKnown};
+    ghost use Rattle.napt_table.specs.Bindings.{BindingsHaveRoom, BindingsUnchanged, NewBindingOk, RenewedBindingOk, FindsLiveBinding, SendPost, SendsKnown};
 
     /// Stores a binding that is live or held and whose endpoints are free. A redirect never expires
     /// and is not queued. Fails if memory is refused; no stored binding then changes.
@@ -129,7 +129,7 @@ impl Bindings {
         ensures known { IfOk result (λ found. IfSome found (λ number.
             SendsKnown packet self.old self.new number)) }
         ensures unknown { result ≡ Ok None →
-            BindingsUnchanged self.old self.new × Finds false packet self.old }
+            BindingsUnchanged self.old self.new × FindsLiveBinding false packet self.old }
         ensures refused { OnErr result (BindingsUnchanged self.old self.new) }
     {
         self.timers.are_within_limits();

@@ -6,7 +6,7 @@ use Rattle.napt_capture.proofs.reading.read_capture.Given as goal
 abbrev pub invariant-loop-records : goal.invariant-loop-records
 invariant-loop-records g l = record {
   progress : LeavesBytes (g.R.Source.remaining l.fn.reader) (g.R.Source.remaining l.reader)
-      (Progress l.spelling l.records.items l.asked);
+      (Progress l.format l.records.items l.asked);
   counted : l.asked ≡ 24 + bytes_asked_for_records l.records.items;
   room : l.asked ≤ MOST_ASKED;
   live : g.R.Source.failed l.reader ≡ g.R.Source.failed l.fn.reader;

@@ -11,7 +11,7 @@ pub returns-then-filled-lt-RECORD_HEADER-clause-next : goal.returns-then-filled-
 returns-then-filled-lt-RECORD_HEADER-clause-next g c =
     let read = filled_by _ _ c.in_ok-filled.filled c.fill.new.buffer c.in_ok-filled.ensures.bound
     c.in_ok-filled.ensures.bytes c.in_ok-filled.ensures.end in
-    Gives-map _ _ (λ text left p. next_early c.args.spelling c.args.asked c.args.number c.in_ok-filled.filled
+    Gives-map _ _ (λ text left p. next_early c.args.format c.args.asked c.args.number c.in_ok-filled.filled
     c.fill.new.buffer text left (omega (arith, c.fill.auto.buffer)) (omega (arith, c.if-filled-lt-RECORD_HEADER.true))
     (omega (arith, c.if-asked.false, c.requires.within)) p) read
 
@@ -22,7 +22,7 @@ returns-in_err-fields-clause-next g c =
     let read = filled_by _ _ c.in_ok-filled.filled c.fill.new.buffer c.in_ok-filled.ensures.bound
     c.in_ok-filled.ensures.bytes c.in_ok-filled.ensures.end in
     rw (p.1, p.2) (Says-fact {T = NextRead} (Err fault) (Gives-map _ _ (λ text left p.
-    next_bad c.args.spelling c.args.asked c.args.number c.fill.new.buffer text left fault
+    next_bad c.args.format c.args.asked c.args.number c.fill.new.buffer text left fault
     (omega (arith, c.if-asked.false, c.requires.within))
     (header_read c.in_ok-filled.filled c.fill.new.buffer text left (omega (arith, c.fill.auto.buffer))
     (omega (arith, c.if-filled-lt-RECORD_HEADER.false)) p) c.in_err-fields.ensures.err) read))
@@ -32,7 +32,7 @@ returns-then-asked-fields-clause-next g c =
     let read = filled_by _ _ c.in_ok-filled.filled c.fill.new.buffer c.in_ok-filled.ensures.bound
     c.in_ok-filled.ensures.bytes c.in_ok-filled.ensures.end in
     Gives-map _ _ (λ text left p.
-    next_large c.args.spelling c.args.asked c.args.number c.fill.new.buffer text left c.in_ok-fields.fields
+    next_large c.args.format c.args.asked c.args.number c.fill.new.buffer text left c.in_ok-fields.fields
     (omega (arith, c.if-asked.false, c.requires.within))
     (omega (arith, c.if-asked.false, c.if-asked-fields.true, c.requires.within))
     (header_read c.in_ok-filled.filled c.fill.new.buffer text left (omega (arith, c.fill.auto.buffer))
@@ -45,7 +45,7 @@ returns-then-filled-len-clause-next g c =
     let body = filled_by _ _ c.in_ok-filled-2.filled c.fill-2.new.buffer c.in_ok-filled-2.ensures.bound
     c.in_ok-filled-2.ensures.bytes c.in_ok-filled-2.ensures.end in
     Gives-both _ _ _ (λ text mid left p q.
-    next_part c.args.spelling c.args.asked c.args.number c.in_ok-filled-2.filled c.fill.new.buffer c.fill-2.new.buffer
+    next_part c.args.format c.args.asked c.args.number c.in_ok-filled-2.filled c.fill.new.buffer c.fill-2.new.buffer
     text mid left c.in_ok-fields.fields (omega (arith, c.if-asked.false, c.if-asked-fields.false, c.requires.within))
     (header_read c.in_ok-filled.filled c.fill.new.buffer text mid (omega (arith, c.fill.auto.buffer))
     (omega (arith, c.if-filled-lt-RECORD_HEADER.false)) p) c.in_ok-fields.ensures.ok
@@ -61,7 +61,7 @@ returns-clause-next g c =
     let items = with_items_is c.in_ok-bytes.bytes c.fill-2.new.buffer
     (omega (arith, c.fill-2.auto.buffer, c.deref_mut.ensures.len)) in
     Gives-both _ _ _ (λ text mid left p q.
-    next_all c.args.spelling c.args.asked c.args.number c.in_ok-filled-2.filled c.fill.new.buffer c.fill-2.new.buffer
+    next_all c.args.format c.args.asked c.args.number c.in_ok-filled-2.filled c.fill.new.buffer c.fill-2.new.buffer
     text mid left _ c.in_ok-fields.fields (omega (arith, c.if-asked.false, c.if-asked-fields.false, c.requires.within))
     (header_read c.in_ok-filled.filled c.fill.new.buffer text mid (omega (arith, c.fill.auto.buffer))
     (omega (arith, c.if-filled-lt-RECORD_HEADER.false)) p) c.in_ok-fields.ensures.ok

@@ -1,5 +1,5 @@
 -- merge_until_fault: each law is a lemma on merging until a fault.
-use Rattle.napt_records.proofs.Merges.{merge_ends, merge_meets, merges_before, merges_front, merges_whole, tells_inside_first}
+use Rattle.napt_records.proofs.MergeSteps.{merge_ends, merge_meets, merges_before, merges_front, merges_whole, tells_inside_first}
 use Rattle.napt_records.proofs.merge_laws.merge_until_fault.Goals as goal
 
 pub returns-clause-front : goal.returns-clause-front

@@ -1,6 +1,6 @@
 -- merge: one more input is moved from the remaining ones, of which there are none at the end.
 use Rattle.std.proofs.Common.{◌≡◌, length, refl, sym, ◌∙◌, ap, arith, append-nil, append_assoc, [], ◌∷◌}
-use Rattle.napt_records.proofs.Merges.{none_left}
+use Rattle.napt_records.proofs.MergeSteps.{none_left}
 use Rattle.napt_records.proofs.record_merger.merge.Goals as goal
 
 pub loop-input-init : goal.loop-input-init

@@ -30,5 +30,5 @@ returns-clause-ok g c =
           (c.report_of.ensures outcomes counted))
           ∙ ap₂ (λ (a b : CaptureModel). report_text a.cut b.cut (ran_by origin arrivals)) c.inside.view_is
           c.outside.view_is;
-      leaves = subst (λ l. GivesState origin l c.in_ok-counts.field-0.passed) are c.in_ok-counts.ensures.tally.leaves;
+      leaves = subst (λ l. GivesState origin l c.in_ok-counts.field-0.summary) are c.in_ok-counts.ensures.tally.leaves;
     }

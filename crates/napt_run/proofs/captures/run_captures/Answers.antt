@@ -2,10 +2,10 @@
 use Rattle.std.proofs.lemmas.Result.{err_from_is_err_and}
 use Rattle.napt_run.proofs.captures.run_captures.Goals as goal
 
-pub returns-in_err-passed : goal.returns-in_err-passed
-returns-in_err-passed g c =
+pub returns-in_err-summary : goal.returns-in_err-summary
+returns-in_err-summary g c =
     let p = err_from_is_err_and c.from_residual.result c.from_residual.ensures.1 in
-    let is = c.in_err-passed.ensures in
+    let is = c.in_err-summary.ensures in
     rw (p.1, p.2) (record {
       outputs = record {
         to_outside = record { contents = is.to_outside; failed = is.outside_writings; flushed = tt };
@@ -20,7 +20,7 @@ returns-in_err-passed g c =
 
 pub returns : goal.returns
 returns g c =
-    let is = c.in_ok-passed.ensures in record {
+    let is = c.in_ok-summary.ensures in record {
       outputs = record {
         to_outside = record {
           contents = is.to_outside;

@@ -2,7 +2,7 @@
 use Rattle.std.proofs.{Common.{◌≡◌, ℕ, List, Option, Err, refl}, lemmas.Result.err_from_is_err_and}
 use Rattle.napt_records.specs.declared.{Fault.Fault, Which.{Which, TheVariants.{Outside, Inside, Report}}}
 use Rattle.napt_run.{specs.Captures.{GetsFrom, IsWriteFaultOf, OutputReceives, OutputShare, whole}, proofs.captures.run_whole.{Given.Over, Goals.In_ok-outputs}}
-use Rattle.napt_run.proofs.Received.{Answered, AreMade, answered_inside, answered_outside, answered_run, answered_write, answers_ok, before_inside, before_report, leaves, received, text_of, texts_known}
+use Rattle.napt_run.proofs.DeviceClauses.{Answered, AreMade, answered_inside, answered_outside, answered_run, answered_write, answers_ok, before_inside, before_report, leaves, received, text_of, texts_known}
 use Rattle.napt_run.specs.Origins.{origin_of}
 use Rattle.napt_run.proofs.captures.run_whole.Goals as goal
 
@@ -176,5 +176,5 @@ returns-clause-answer g c =
 pub returns-clause-left : goal.returns-clause-left
 returns-clause-left g c =
     leaves (origin_of c.args.start) _ _ (record { inside = c.in_ok-inside.inside; outside = c.in_ok-outside.outside })
-    c.in_ok-outputs.outputs.passed c.in_ok-inside.ensures.ok c.in_ok-outside.ensures.ok
+    c.in_ok-outputs.outputs.summary c.in_ok-inside.ensures.ok c.in_ok-outside.ensures.ok
     c.in_ok-outputs.ensures.ok.leaves

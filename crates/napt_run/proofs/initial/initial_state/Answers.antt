@@ -3,7 +3,7 @@ use Rattle.std.proofs.Common.{◌≡◌, List, [], ap, append-nil, ◌∙◌}
 use Rattle.napt_config.specs.Rules.{Rules}
 use Rattle.napt_rules.specs.Prelude.{Binding, opening}
 use Rattle.napt_run.specs.{Captures.texts_from, Origins.{OriginModel, initial_origin, resumed_origin}}
-use Rattle.napt_run.proofs.LogTaken.{texts_begin}
+use Rattle.napt_run.proofs.SavedLogStarts.{texts_begin}
 use Rattle.napt_run.proofs.initial.initial_state.Goals as goal
 
 begins : (rules : Rules) (items : List Binding) → items ≡ [] →

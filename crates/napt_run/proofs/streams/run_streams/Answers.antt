@@ -1,7 +1,7 @@
 -- run_streams: the clauses for each device, as one relation over all devices.
 use Rattle.std.proofs.lemmas.Result.{err_from_is_err_and}
 use Rattle.napt_records.specs.declared.Which.TheVariants.{Outside, Inside}
-use Rattle.napt_run.proofs.{Endings.{left_told, reads_after, report_failed, report_unbegun, report_written}, Ends.{inside_is, of_report, outside_is, post_ended}}
+use Rattle.napt_run.proofs.{ReportAtEnd.{left_told, reads_after, report_failed, report_unbegun, report_written}, BytesAtEnd.{inside_is, of_report, outside_is, post_ended}}
 use Rattle.napt_run.proofs.streams.run_streams.Goals as goal
 
 -- The run failed.

@@ -3,7 +3,7 @@ use Rattle.std.proofs.Common.{◌≡◌, ◌≤◌, max, List, [], ◌∷◌, �
 use Rattle.std.specs.Vec.Iter.{into_iter_items}
 use Rattle.napt_rules.specs.Prelude.{Arrival, last_clock}
 use Rattle.napt_follow.specs.Following.{followed}
-use Rattle.napt_sequential.{specs.CountedTranslators.{state_at_time, state_of}, proofs.FollowedMore.{FollowedSoFar, can_take_next, followed_next}}
+use Rattle.napt_sequential.{specs.CountedTranslators.{state_at_time, state_of}, proofs.OneMoreReplyInput.{FollowedSoFar, can_take_next, followed_next}}
 use Rattle.napt_sequential.proofs.reply_run.follow_all.Goals as goal
 
 pub step-requires-clause-can_take : goal.step-requires-clause-can_take

@@ -1,6 +1,6 @@
 -- follow_all: the inputs so far and those to come are all, and the run has had those so far.
 use Rattle.std.{proofs.Common.{◌≡◌, ◌++◌}, specs.Vec.Iter.into_iter_items}
-use Rattle.napt_sequential.proofs.FollowedMore.{FollowedSoFar}
+use Rattle.napt_sequential.proofs.OneMoreReplyInput.{FollowedSoFar}
 use Rattle.napt_sequential.proofs.reply_run.follow_all.Given as goal
 
 abbrev pub invariant-loop-input : goal.invariant-loop-input

@@ -32,4 +32,4 @@ returns c =
           (set c.args.translators.now c.args.place s)) (sym after)
           (translators_after rules c.requires.keeps state c.args.translators.now are c.args.place address at c.args.leg
           later c.index-translators-place.result),
-    )) c.translate.ensures.told c.translate.ensures.left
+    )) c.translate.ensures.trace c.translate.ensures.left

@@ -2,7 +2,7 @@
 use Rattle.std.proofs.Common.{◌≡◌, ◌∙◌, ◌+◌, ℕ, List, [], Option, None, is_some, true, false, drop, length, refl, subst, sym, ap, arith}
 use Rattle.std.proofs.Math.ListN.{drop_of_length-le}
 use Rattle.napt_rules.specs.{Bindings.Binding, Life.hold_ago, declared.Misfit.Misfit}
-use Rattle.napt_state.specs.{EndedMisfits.{misfits_in, ended_misfits, fitting_in, ended_long_ago_if, goes_on, one_if}, StateReaders.AreOf}
+use Rattle.napt_state.specs.{EndedMisfits.{misfits_in, ended_misfits, fitting_in, ended_long_ago_if, goes_on, one_if}, StateReaders.AreEndpointsOf}
 use Rattle.napt_state.proofs.{EndedBindings.{back_after, counted, fits_if_away, fits_if_on, fits_if_some, front_after, live, long_after, many_after, none_found, taken_out, value_of, why}, TakenBindings.are_more}
 use Rattle.napt_state.proofs.state_checks.end_misfits_in.Goals as goal
 
@@ -16,7 +16,7 @@ loop-left-init c =
     record {
       within = omega (arith, long);
       redirects = c.in_ok-redirects.ensures;
-      behind = subst (λ (l : List Binding). AreOf (fitting_in rules clock l) c.new-behind.result) (sym none)
+      behind = subst (λ (l : List Binding). AreEndpointsOf (fitting_in rules clock l) c.new-behind.result) (sym none)
           c.new-behind.ensures;
       long = refl;
       front = refl;
@@ -50,7 +50,7 @@ loop-left-preserved-then-is_some c =
     record {
       within = omega (arith, inv.within);
       redirects = inv.redirects;
-      behind = subst (λ (l : List Binding). AreOf l c.loop-left.behind)
+      behind = subst (λ (l : List Binding). AreEndpointsOf l c.loop-left.behind)
           (sym (fits_if_some rules clock all list left b some inv.within inv.long inv.front inv.back at found out
           (sym is)))
           inv.behind;
@@ -83,11 +83,11 @@ loop-left-preserved-in_ok-insert c =
     let none : why rules clock b (drop left all) ≡ None =
     sym is ∙ none_found found (sym c.is_some.ensures ∙ c.if-is_some.false) in
     let on : goes_on rules.timers (hold_ago rules.timers clock) b ≡ true =
-    sym (c.goes_on.ensures ∙ ap (λ n. goes_on rules.timers n b) c.held_at.ensures) ∙ c.if-goes_on.true in
+    sym (c.goes_on.ensures ∙ ap (λ n. goes_on rules.timers n b) c.hold_ago.ensures) ∙ c.if-goes_on.true in
     record {
       within = omega (arith, inv.within);
       redirects = inv.redirects;
-      behind = subst (λ (l : List Binding). AreOf l c.insert.new.self)
+      behind = subst (λ (l : List Binding). AreEndpointsOf l c.insert.new.self)
           (sym (fits_if_on rules clock all list left b some inv.within inv.long inv.front inv.back at on none))
           (are_more (fitting_in rules clock (drop left all)) (live rules clock b (drop left all)) c.binding.inside.row
           c.loop-left.behind c.insert.new.self (ap (λ (d : Binding). d.row) c.binding.view_is) inv.behind
@@ -117,11 +117,11 @@ loop-left-preserved c =
     let none : why rules clock b (drop left all) ≡ None =
     sym is ∙ none_found found (sym c.is_some.ensures ∙ c.if-is_some.false) in
     let away : goes_on rules.timers (hold_ago rules.timers clock) b ≡ false =
-    sym (c.goes_on.ensures ∙ ap (λ n. goes_on rules.timers n b) c.held_at.ensures) ∙ c.if-goes_on.false in
+    sym (c.goes_on.ensures ∙ ap (λ n. goes_on rules.timers n b) c.hold_ago.ensures) ∙ c.if-goes_on.false in
     record {
       within = omega (arith, inv.within);
       redirects = inv.redirects;
-      behind = subst (λ (l : List Binding). AreOf l c.loop-left.behind)
+      behind = subst (λ (l : List Binding). AreEndpointsOf l c.loop-left.behind)
           (sym (fits_if_away rules clock all list left b some inv.within inv.long inv.front inv.back at away))
           inv.behind;
       long = long_after rules clock all list left b some inv.within inv.long inv.front inv.back at b;

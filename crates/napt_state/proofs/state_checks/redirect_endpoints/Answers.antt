@@ -2,7 +2,7 @@
 use Rattle.std.proofs.Common.{◌-◌, List, get_or, drop, map, subst, sym, ap, arith}
 use Rattle.napt_config.specs.Rules.{pair_of}
 use Rattle.napt_rules.specs.{Bindings.Binding, Opening.redirect_binding}
-use Rattle.napt_state.specs.StateReaders.{AreOf}
+use Rattle.napt_state.specs.StateReaders.{AreEndpointsOf}
 use Rattle.napt_state.proofs.TakenBindings.{are_more, drop_before}
 use Rattle.napt_state.proofs.state_checks.redirect_endpoints.Goals as goal
 
@@ -13,7 +13,7 @@ loop-left-preserved c =
     let left = c.loop-left.left in
     record {
       within = omega (arith, c.loop-left.invariant.within);
-      are = subst (λ (l : List Binding). AreOf l c.insert.new.self)
+      are = subst (λ (l : List Binding). AreEndpointsOf l c.insert.new.self)
           (sym (ap (map r) (drop_before all left _ c.loop-left-test.true c.loop-left.invariant.within)))
           (are_more (map r (drop left all)) (r (get_or all (left - 1) _)) c.redirected.result c.loop-left.endpoints
           c.insert.new.self c.redirected.ensures c.loop-left.invariant.are c.in_ok-insert.ensures);

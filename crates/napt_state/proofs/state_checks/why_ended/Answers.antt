@@ -9,7 +9,7 @@ returns-then-goes_on c rest redirects behind =
     let rules = c.args.config.now in
     let b = c.args.binding.now in
     let goes : goes_on rules.timers (hold_ago rules.timers c.args.clock) b ≡ true =
-    sym (c.goes_on.ensures ∙ ap (λ n. goes_on rules.timers n b) c.held_at.ensures) ∙ c.if-goes_on.true in
+    sym (c.goes_on.ensures ∙ ap (λ n. goes_on rules.timers n b) c.hold_ago.ensures) ∙ c.if-goes_on.true in
     subst (λ v. IfOk c.misfit_of.result (λ (why : Option Misfit).
     why ≡ cond v (misfit_of rules c.args.clock (with_live_flows rules.timers (hold_ago rules.timers c.args.clock) b)
     rest)

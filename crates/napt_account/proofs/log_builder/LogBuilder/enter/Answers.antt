@@ -2,7 +2,7 @@
 use Rattle.std.proofs.Common.{◌≡◌, ℕ, ◌+◌, ◌*◌, ◌^◌, ◌<◌, false, List, [], ◌∷◌, ◌++◌, length, drop, filter, Option, Ok, refl, sym, ◌∙◌, ap, subst, arith, append-nil, append_assoc}
 use Rattle.std.specs.Option.{IfSome}
 use Rattle.napt_sequential.specs.declared.passage.{Passage.{Passage, TheVariants.{Nothing, Made, Out, In, Dropped}}, Trace.Trace}
-use Rattle.napt_account.specs.{declared.{legs.InputTally.InputTally, log.{Shortage.Shortage}}, BindingTallies.use_of, Effects.{IsNext, log_after}, Log.{LogModel, after_input, after_leg, shortages_by, shortages_in}}
+use Rattle.napt_account.specs.{declared.{legs.InputTally.InputTally, log.{Shortage.Shortage}}, BindingTallies.use_of, Effects.{AreNextEffects, log_after}, Log.{LogModel, after_input, after_leg, shortages_by, shortages_in}}
 use Rattle.napt_account.specs.{LogBuilders.{IsBuilt, LogBuilderModel, built, built_from, taken_in}, OpenEntries.OpenEntriesShow, LogParts.{LogDelta, is_after, part_between}}
 use Rattle.napt_account.proofs.{ContinuedLogs.{few_leg, fold_joined}, Lists.map_joined, WholeLogs.drop_joined}
 use Rattle.napt_account.proofs.log_builder.LogBuilder.enter.Goals as goal
@@ -37,7 +37,7 @@ enter-requires c =
     let it = c.self.inside in
     let log : LogModel = built it.begun.items it.past.items in
     let is = c.self.invariant c.if-self.false in
-    let room = c.if-self-ge-MOST_INPUTS.false in
+    let room = c.if-self-ge-MOST_LOGGED_INPUTS.false in
     let late = c.if-effects-self.false in
     let few = is.few in (
       2 ^ 61 + 2 * it.taken,
@@ -52,9 +52,10 @@ returns-in_default-clause-err c = λ going.
     let it = c.self.inside in
     let log : LogModel = built it.begun.items it.past.items in
     let is = c.self.invariant c.if-self.false in
-    let room = c.if-self-ge-MOST_INPUTS.false in
+    let room = c.if-self-ge-MOST_LOGGED_INPUTS.false in
     let late = c.if-effects-self.false in
-    subst (λ (v : LogBuilderModel). (v.taken + 1 < 2 ^ 62) × (¬ IsNext v.clock v.log c.args.effects)) c.self.view_is (
+    subst (λ (v : LogBuilderModel). (v.taken + 1 < 2 ^ 62) × (¬ AreNextEffects v.clock v.log c.args.effects))
+    c.self.view_is (
       omega (arith, room),
       λ next. c.enter.ensures.none (2 ^ 61 + 2 * it.taken) log
           (c.in_ok-ended.ensures.shows it.clock (2 ^ 61 + 2 * it.taken) log is.entries (omega (arith, late)))

@@ -4,7 +4,7 @@ use Rattle.std.proofs.Common.{◌≡◌, ◌+◌, ◌^◌, ◌<◌, false, inl, 
 use Rattle.std.proofs.lemmas.{Bool.cases_lt, Result.err_from_is_err_and, List.length-append}
 use Rattle.napt_rules.specs.Prelude.{Arrival, Rules, State, last_clock}
 use Rattle.napt_sequential.specs.{SequentialRuns.{SequentialRunInvariant, StepPost}, declared.passage.Trace.Trace}
-use Rattle.napt_account.specs.{declared.logged_run.LogStep.LogStep, BindingTallies.use_of, Effects.IsNext, Log.{LogModel, after_input, log_on}, LogBuilders.{LogBuilderModel, taken_in}, LogParts.part_between}
+use Rattle.napt_account.specs.{declared.logged_run.LogStep.LogStep, BindingTallies.use_of, Effects.AreNextEffects, Log.{LogModel, after_input, log_on}, LogBuilders.{LogBuilderModel, taken_in}, LogParts.part_between}
 use Rattle.napt_account.specs.LoggedRuns.{IsLoggedRun, IsStepFault, LoggedRunModel, LoggedStepPost, log_begun, state_begun}
 use Rattle.napt_account.proofs.LoggedRuns.{log_fault, log_next, not_many, part_next, taken_more}
 use Rattle.napt_account.proofs.logged_run.LoggedRun.step.Goals as goal
@@ -30,9 +30,9 @@ returns-in_err-part c =
       | inl lt ↦ lt
       | inr ge ↦ let never = (c.in_ok-stepped.ensures.too_many state before stands).1 ge in cc
     ] in
-    let next : IsNext it.log.clock it.log.log trace =
-    subst (λ (l : LogModel). IsNext it.log.clock l trace) (sym is.log_is)
-    (subst (λ n. IsNext n (log_on rules state first before) trace) (sym is.clock)
+    let next : AreNextEffects it.log.clock it.log.log trace =
+    subst (λ (l : LogModel). AreNextEffects it.log.clock l trace) (sym is.log_is)
+    (subst (λ n. AreNextEffects n (log_on rules state first before) trace) (sym is.clock)
     (is.come before input trace tells.trace)) in
     let p = err_from_is_err_and c.from_residual-in_err-part.result c.from_residual-in_err-part.ensures.1 in
     let memory = log_fault it.log (length before) is.taken few trace next c.in_err-part.field-0.0

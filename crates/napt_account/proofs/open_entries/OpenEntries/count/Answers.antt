@@ -30,7 +30,7 @@ returns-clause-uses c = λ most log shows.
     counted_used c.args.way c.args.now most c.args.self.now log shows c.args.timed c.external_key-key.result
     c.external_key-key.ensures.key c.in-Some.open.now (sym c.in-Some.ensures.value) c.through-used.result
     (c.through-used.ensures
-    ∙ ap (λ (n : LogNote). tally_used c.args.way n c.in-Some.open.now.numbered.number) c.found.ensures)
+    ∙ ap (λ (n : LogNote). tally_used c.args.way n c.in-Some.open.now.numbered.number) c.found_note.ensures)
 
 pub returns-in_default-clause-shows : goal.returns-in_default-clause-shows
 returns-in_default-clause-shows c = λ most log shows opened.

@@ -1,6 +1,6 @@
 -- add_next: the first of the remaining rows is added.
 use Rattle.std.proofs.lemmas.Result.{IfOk-weaker}
-use Rattle.napt_attribution.proofs.Pieces.{unless}
+use Rattle.napt_attribution.proofs.RowReads.{unless}
 use Rattle.napt_attribution.proofs.log_piece.LogPiece.add_next.Goals as goal
 
 pub returns-clause-row : goal.returns-clause-row

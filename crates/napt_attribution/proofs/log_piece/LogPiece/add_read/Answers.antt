@@ -1,5 +1,5 @@
 -- add_read: the row that was read is added.
-use Rattle.napt_attribution.proofs.Pieces.{same_row}
+use Rattle.napt_attribution.proofs.RowReads.{same_row}
 use Rattle.napt_attribution.proofs.log_piece.LogPiece.add_read.Goals as goal
 
 pub returns-in-Ok-Some-clause-row : goal.returns-in-Ok-Some-clause-row

@@ -1,6 +1,6 @@
 -- add_rows: all rows after the first one are added.
 use Rattle.std.proofs.Common.{◌≡◌, true, false, rules}
-use Rattle.napt_attribution.proofs.Pieces.{goes_on, stops}
+use Rattle.napt_attribution.proofs.RowReads.{goes_on, stops}
 use Rattle.napt_attribution.proofs.log_piece.LogPiece.add_rows.Goals as goal
 
 pub returns-in-Ok-false : goal.returns-in-Ok-false

@@ -5,7 +5,7 @@ use Rattle.napt_config.specs.Rules.{Rules}
 use Rattle.napt_rules.specs.Prelude.{Each}
 use Rattle.napt_log_text.specs.{LogRows.IsEvent, Rows.csv_row, declared.event.LogEvent.LogEvent}
 use Rattle.napt_attribution.specs.{SavedLogs.RowsTrackEvents, declared.requests.HolderRequest.HolderRequest}
-use Rattle.napt_attribution.proofs.Pieces.{IsRead}
+use Rattle.napt_attribution.proofs.RowReads.{IsRead}
 use Rattle.napt_attribution.proofs.log_piece.LogPiece.add_rows.Given as goal
 
 abbrev pub invariant-loop-row : goal.invariant-loop-row

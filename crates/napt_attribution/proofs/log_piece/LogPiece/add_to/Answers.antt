@@ -2,7 +2,7 @@
 use Rattle.std.proofs.Common.{◌∙◌, ap}
 use Rattle.std.specs.List.{flat_map}
 use Rattle.napt_log_text.specs.Rows.{csv_row}
-use Rattle.napt_attribution.proofs.Pieces.{behind_buffer}
+use Rattle.napt_attribution.proofs.RowReads.{behind_buffer}
 use Rattle.napt_attribution.proofs.log_piece.LogPiece.add_to.Goals as goal
 
 pub returns-in-Ok-open : goal.returns-in-Ok-open

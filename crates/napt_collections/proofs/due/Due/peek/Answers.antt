@@ -1,5 +1,5 @@
 -- peek: the entry at the top has the least time.
-use Rattle.napt_collections.proofs.Least.{least_of}
+use Rattle.napt_collections.proofs.HeapTop.{least_of}
 use Rattle.napt_collections.proofs.due.Due.peek.Goals as goal
 
 pub returns-in-Some-clause-least : goal.returns-in-Some-clause-least

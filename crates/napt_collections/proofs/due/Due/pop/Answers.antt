@@ -1,6 +1,6 @@
 -- pop: the removed entry has the least time, and the others stay.
 use Rattle.std.proofs.lemmas.List.Sorted.{IsPermutation-map}
-use Rattle.napt_collections.proofs.Least.{least_of}
+use Rattle.napt_collections.proofs.HeapTop.{least_of}
 use Rattle.napt_collections.proofs.due.Due.pop.Goals as goal
 
 pub returns-clause-some : goal.returns-clause-some

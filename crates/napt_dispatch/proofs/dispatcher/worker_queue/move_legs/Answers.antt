@@ -1,6 +1,6 @@
 -- move_legs: moving one leg changes neither the legs nor their number nor their order.
 use Rattle.std.proofs.{Common.{arith, length, ◌++◌, ◌∷◌, [], ap, ◌∙◌}, lemmas.List.length_push}
-use Rattle.napt_dispatch.{specs.declared.dispatcher.holding.PendingLeg.PendingLeg, proofs.QueueStates.turned_on}
+use Rattle.napt_dispatch.{specs.declared.dispatcher.pending_leg.PendingLeg.PendingLeg, proofs.QueueStates.turned_on}
 use Rattle.napt_dispatch.proofs.dispatcher.worker_queue.move_legs.Goals as goal
 
 pub returns-in_err-reserve-clause-legs : goal.returns-in_err-reserve-clause-legs

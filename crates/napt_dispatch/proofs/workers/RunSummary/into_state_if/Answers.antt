@@ -15,7 +15,7 @@ loop-translator-preserved c =
     ∙ ap (λ (t : TranslatorModel). before ++ t ∷ []) (sym c.translator-item.is) in
     rw (more, map-append uncounted before (translator ∷ []), c.in_ok-append.ensures.items)
     (one_left c.args.self.clock (map uncounted before) (uncounted translator) c.loop-translator.list.items
-    c.in_ok-final_bindings.field-0.items c.loop-translator.invariant c.in_ok-final_bindings.ensures)
+    c.in_ok-state_bindings.field-0.items c.loop-translator.invariant c.in_ok-state_bindings.ensures)
 
 pub returns-clause-state : goal.returns-clause-state
 returns-clause-state c = λ rules state leaves.

@@ -1,6 +1,6 @@
 -- count: the merged list has as many inputs as both sides have records.
 use Rattle.std.proofs.Common.{◌≡◌, ◌+◌, length, sym, ap, ◌∙◌, arith}
-use Rattle.napt_records.proofs.Merges.{as_many}
+use Rattle.napt_records.proofs.MergeSteps.{as_many}
 use Rattle.napt_records.proofs.record_merger.RecordMerger.count.Goals as goal
 
 pub returns : goal.returns

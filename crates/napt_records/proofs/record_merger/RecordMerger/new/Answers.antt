@@ -1,6 +1,6 @@
 -- new: the inputs are the merged list, and their times fit a record's header if those of the records do.
 use Rattle.std.proofs.Common.{refl}
-use Rattle.napt_records.proofs.Merges.{timely_from}
+use Rattle.napt_records.proofs.MergeSteps.{timely_from}
 use Rattle.napt_records.proofs.record_merger.RecordMerger.new.Goals as goal
 
 pub returns-clause-merged : goal.returns-clause-merged

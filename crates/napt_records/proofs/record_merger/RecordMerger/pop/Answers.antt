@@ -1,7 +1,7 @@
 -- pop: the input is the first of the merged list, or both sides are empty.
 use Rattle.std.proofs.Common.{Some, refl, sym, subst}
 use Rattle.napt_capture.specs.Contents.{RecordModel}
-use Rattle.napt_records.{specs.RecordMerging.TakesRecord, proofs.Merges.hands}
+use Rattle.napt_records.{specs.RecordMerging.TakesRecord, proofs.MergeSteps.hands}
 use Rattle.napt_records.proofs.record_merger.RecordMerger.pop.Goals as goal
 
 pub returns-in_err-side : goal.returns-in_err-side

@@ -21,7 +21,7 @@ returns-in-Whole-clause-rest g c live =
     let number = rw c.in-Whole.is at c.in_ok-record.ensures.number live in
     rw (untold c.args.first.now c.if-is_some.ensures, untold c.args.self.now.cut c.if-is_some-2.ensures)
     (held_whole c.args.self.now.records c.next.new.records _ _ c.in-Whole.record told number
-    c.in_ok-record.ensures.spelling)
+    c.in_ok-record.ensures.format)
 
 pub returns-in-End-clause-rest : goal.returns-in-End-clause-rest
 returns-in-End-clause-rest g c live =

@@ -2,7 +2,7 @@
 use Rattle.std.{proofs.{Common.{◌≡◌, ◌<◌, ◌≤◌, ◌^◌, ◌++◌, arith, flat_map, length, take, ap, subst}, lemmas.Result.err_from_is_err_and}, specs.Prelude.get_or}
 use Rattle.std.specs.Io.KnownBytes.{Appends}
 use Rattle.napt_capture.specs.Writing.{PutErr}
-use Rattle.napt_run.proofs.Pieces.{last_fails, more_fails, room_for_last, room_for_more}
+use Rattle.napt_run.proofs.PieceWrites.{last_fails, more_fails, room_for_last, room_for_more}
 use Rattle.napt_run.proofs.buffered_text.BufferedText.write_to.Goals as goal
 
 pub write_piece-requires : goal.write_piece-requires

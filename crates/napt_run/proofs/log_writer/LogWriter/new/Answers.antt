@@ -1,6 +1,6 @@
 -- new: nothing of the log is written yet, and it is ready for the run.
 use Rattle.std.proofs.Common.{refl}
-use Rattle.napt_run.proofs.LogTaken.{log_of, ready, texts_taken}
+use Rattle.napt_run.proofs.SavedLogStarts.{log_of, ready, texts_taken}
 use Rattle.napt_run.proofs.log_writer.LogWriter.new.Goals as goal
 
 pub returns-clause-ready : goal.returns-clause-ready

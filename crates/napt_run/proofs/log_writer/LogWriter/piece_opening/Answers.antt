@@ -4,7 +4,7 @@ use Rattle.std.specs.Prelude.{if◌then◌else◌}
 use Rattle.napt_account.specs.{LogBuilders.LogBuilderModel, LogParts.kept_at}
 use Rattle.napt_log_text.specs.{Logs.{begins_piece, opening_text}, Times.TimeText}
 use Rattle.napt_run.specs.RunningLogs.{last_time, left_with}
-use Rattle.napt_run.proofs.Entering.{last_is}
+use Rattle.napt_run.proofs.InputRowWrites.{last_is}
 use Rattle.napt_run.proofs.log_writer.LogWriter.piece_opening.Goals.{then-begins_piece+in_ok-kept+in_ok-add_opening, else-begins_piece}
 use Rattle.napt_run.proofs.log_writer.LogWriter.piece_opening.Goals as goal
 

@@ -3,7 +3,7 @@ use Rattle.std.proofs.Common.{◌++◌, append-nil, refl, sym, ◌∙◌, ap}
 use Rattle.napt_account.specs.{LogBuilders.{LogBuilderModel, part_in}}
 use Rattle.napt_log_text.specs.{Logs.part_rows, Times.TimeText}
 use Rattle.napt_run.specs.RunningLogs.{opening_before}
-use Rattle.napt_run.proofs.Entering.{few_more, known_more, part_is}
+use Rattle.napt_run.proofs.InputRowWrites.{few_more, known_more, part_is}
 use Rattle.napt_run.proofs.log_writer.LogWriter.rows.Goals as goal
 
 pub returns-then-is_quiet-clause-rows : goal.returns-then-is_quiet-clause-rows

@@ -1,6 +1,6 @@
 -- close: the log contains all rows of the run, and the result is the log that is saved with the state.
 use Rattle.napt_run.specs.{LogRuns.traces_by, RunningLogs.running_log_of}
-use Rattle.napt_run.proofs.Logged.{at_end, closed}
+use Rattle.napt_run.proofs.LogTextAtEnd.{at_end, closed}
 use Rattle.napt_run.proofs.log_writer.LogWriterStreamLog.close.Goals as goal
 
 pub returns-clause-post : goal.returns-clause-post

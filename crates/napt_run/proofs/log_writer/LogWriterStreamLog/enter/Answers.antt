@@ -1,7 +1,7 @@
 -- enter: the rows of one more trace are written; an input without rows writes nothing.
 use Rattle.std.proofs.{Common.{[], sym, ◌∙◌, eqb-true}, lemmas.{List.nil_from_length, Result.err_from_is_err_and}}
 use Rattle.napt_sequential.specs.declared.passage.Trace.{Trace}
-use Rattle.napt_run.{specs.OutputSinkLaws.grows_none, proofs.Entering.{enter_failed, enter_written}}
+use Rattle.napt_run.{specs.OutcomeWriterLaws.grows_none, proofs.InputRowWrites.{enter_failed, enter_written}}
 use Rattle.napt_run.proofs.log_writer.LogWriterStreamLog.enter.Goals as goal
 
 pub returns-in_err-text-clause-enters : goal.returns-in_err-text-clause-enters

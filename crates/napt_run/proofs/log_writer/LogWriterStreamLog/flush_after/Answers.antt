@@ -1,6 +1,6 @@
 -- flush_after: after a fault the rows of all packets that were translated are written and flushed, if the device
 -- accepts them.
-use Rattle.napt_run.proofs.Logged.{halted}
+use Rattle.napt_run.proofs.LogTextAtEnd.{halted}
 use Rattle.napt_run.proofs.log_writer.LogWriterStreamLog.flush_after.Goals as goal
 
 pub returns : goal.returns

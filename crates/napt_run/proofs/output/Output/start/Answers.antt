@@ -1,6 +1,6 @@
 -- start: after a fault of the flush the header has been written, or a prefix of it.
 use Rattle.napt_capture.specs.Text.{file_header}
-use Rattle.napt_run.proofs.Breaks.{flush_breaks}
+use Rattle.napt_run.proofs.LaterBreaks.{flush_breaks}
 use Rattle.napt_run.proofs.output.Output.start.Goals as goal
 
 pub returns-clause-err : goal.returns-clause-err

@@ -3,7 +3,7 @@ use Rattle.std.proofs.lemmas.Bool.{true≢false}
 use Rattle.std.proofs.Common.{rules, vec_items, vec_len, ◌≡◌, ◌==◌, length, List, Option, None, Some, [], true, false, refl, sym, ◌∙◌, ap, subst, arith}
 use Rattle.std.specs.Option.{is_some}
 use Rattle.napt_state.specs.StateFiles.{StateFileModel}
-use Rattle.napt_state.specs.StateContents.{CanFollow, HasNoLast}
+use Rattle.napt_state.specs.StateContents.{CanFollow, LastIsNotLive}
 use Rattle.napt_state.specs.declared.{line.{LogPosition.LogPosition, StateLine.StateLine}, saved_bindings.SavedBinding.SavedBinding}
 use Rattle.napt_state.specs.StateText.{log}
 use Rattle.napt_state.proofs.Replay.{log_out, no_flow_follows, none_follows, no_other_follows}
@@ -27,7 +27,8 @@ returns-then-is_some-clause-refused c made =
 
 pub returns-in-Flow-clause-refused : goal.returns-in-Flow-clause-refused
 returns-in-Flow-clause-refused c made =
-    let none = subst HasNoLast (ap (λ (s : StateFileModel). s.bindings) c.self.view_is) (c.add_flow.ensures.none made)
+    let none = subst LastIsNotLive (ap (λ (s : StateFileModel). s.bindings) c.self.view_is)
+    (c.add_flow.ensures.none made)
     in
     subst (λ (l : StateLine). CanFollow l c.args.self.now → ⊥) (sym c.in-Flow.is)
     (no_flow_follows c.in-Flow.flow c.args.self.now none)

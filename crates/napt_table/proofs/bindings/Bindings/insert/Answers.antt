@@ -17,7 +17,7 @@ invariant_of-self c =
     (subst (λ (x : ExternalNumberKey). (k : ExternalNumberKey) →
     held_binding c.insert.new.self k ≡ cond (key_eq x k) (Some b)
     (held_binding s.held k)) is c.insert.ensures.held)
-    c.until-end.result c.push.new.self.entries c.requires.loose c.push.ensures.entries
-    (omega (arith, c.until-end.ensures.near, from))
-    c.until-end.ensures.lives (subst (λ (x : BindingsModel). IsUsedBy x.at b) (sym c.self.view_is)
+    c.live_until-end.result c.push.new.self.entries c.requires.loose c.push.ensures.entries
+    (omega (arith, c.live_until-end.ensures.near, from))
+    c.live_until-end.ensures.lives (subst (λ (x : BindingsModel). IsUsedBy x.at b) (sym c.self.view_is)
     c.requires.used)

@@ -2,15 +2,15 @@
 use Rattle.std.{proofs.Common.{◌≡◌, ◌∙◌, ℕ, List, [], map, find, None, Some, Ok, cond, refl, sym, ap, subst, arith, not, true, false}, specs.{Prelude.ok_or, Option.{is_some, option_map}}}
 use Rattle.std.proofs.lemmas.Bool.{not-true}
 use Rattle.napt_wire.specs.declared.{Way.TheVariants.Outgoing, Cause.TheVariants.NoPort}
-use Rattle.napt_table.specs.{declared.bindings.keys.ExternalNumberKey.ExternalNumberKey, HeldLists.seen_binding, Bindings.{BindingsModel, AllKeep, NewBindingOk}, BindingIndexes.{held_binding, held_at}}
+use Rattle.napt_table.specs.{declared.bindings.keys.ExternalNumberKey.ExternalNumberKey, HeldLists.seen_binding, Bindings.{BindingsModel, ListAgrees, NewBindingOk}, BindingIndexes.{held_binding, held_at}}
 use Rattle.napt_table.{specs.Keys.{key_eq, external_key, key_of}, proofs.{AssignedNumbers.{made_all, made_unseen, seen_row}, SeenBindings.found_seen, OutboundSteps.{none_from, choice_is, made_live, made_used, made_seen}}}
 use Rattle.napt_config.specs.Rules.{AreTimers}
 use Rattle.napt_rules.specs.{Prelude.{Binding, candidates, change_first, has_number, is_live, purge, hold_ago, live_and_held, live_flows, is_flow_of, flow_after, with_flow, binding_after_out, new_binding, row, AreBindingsApart}, declared.{Row.Row, OutboundPacket.OutboundPacket}}
-use Rattle.napt_laws.proofs.Finds.{passes}
+use Rattle.napt_laws.proofs.UniqueSearches.{passes}
 use Rattle.napt_table.proofs.bindings.Bindings.insert_new.Goals as goal
 
 rows_of : (s : BindingsModel) (p : OutboundPacket) (list : List Binding) → AreBindingsApart (map row list) →
-    live_and_held s.timers p.now list ≡ list → AllKeep s.timers p.now s.held.address s.held list →
+    live_and_held s.timers p.now list ≡ list → ListAgrees s.timers p.now s.held.address s.held list →
     ((k : ExternalNumberKey) (b : Binding) → held_binding s.held k ≡ Some b →
     is_live s.timers (hold_ago s.timers p.now) b ≡ true) →
     (n : ℕ) → option_map row (find (λ b. has_number s.held.address p.protocol n b.row) list)
@@ -31,7 +31,7 @@ returns-in_default-clause-begins c =
       sym (ap (λ o. ok_or o NoPort) (choice_is s.held.address p (held_at s.held p.protocol) list
           (rows_of (record { timers = s.timers; at = s.at; held = s.held; due = s.due }) p list apart is_taken keeps
           live)
-          s.held.granting.choosing ∙ sym c.in_default.ensures)),
+          s.held.assignment.choosing ∙ sym c.in_default.ensures)),
       record { live = keeps.live; unseen = λ k h at from. refl },
     ))
 
@@ -63,7 +63,7 @@ insert-requires-clause-free c =
     let number = c.in-Some.number in
     let free : held_at s.held p.protocol number ≡ None = none_from (held_at s.held p.protocol number)
     (not-true (is_some (held_at s.held p.protocol number))
-    (passes (λ n. not (is_some (held_at s.held p.protocol n))) (candidates s.held.granting.choosing p.block p.protocol
+    (passes (λ n. not (is_some (held_at s.held p.protocol n))) (candidates s.held.assignment.choosing p.block p.protocol
     p.inside)
     number
     (sym c.in-Some.ensures))) in
@@ -76,7 +76,7 @@ returns-clause-begins c =
     let number = c.in-Some.number in
     let free : held_at s.held p.protocol number ≡ None = none_from (held_at s.held p.protocol number)
     (not-true (is_some (held_at s.held p.protocol number))
-    (passes (λ n. not (is_some (held_at s.held p.protocol n))) (candidates s.held.granting.choosing p.block p.protocol
+    (passes (λ n. not (is_some (held_at s.held p.protocol n))) (candidates s.held.assignment.choosing p.block p.protocol
     p.inside)
     number
     (sym c.in-Some.ensures))) in
@@ -108,7 +108,7 @@ returns-clause-begins c =
     is_live x.timers (hold_ago x.timers p.now) b ≡ true) (sym c.self.view_is) c.requires.live in
     let begins : NewBindingOk p state new (Ok number) = λ list apart is_taken keeps. (
       sym (ap (λ o. ok_or o NoPort) (choice_is s.held.address p (held_at s.held p.protocol) list
-          (rows_of state p list apart is_taken keeps live) s.held.granting.choosing ∙ sym c.in-Some.ensures)),
+          (rows_of state p list apart is_taken keeps live) s.held.assignment.choosing ∙ sym c.in-Some.ensures)),
       record {
         live = made_all s.timers s.held.address p s.held new.held number binding (purge s.timers p.now list) keeps.live
             holds (ap (seen_binding s.timers p.now) free) is;

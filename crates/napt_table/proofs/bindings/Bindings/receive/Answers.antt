@@ -1,7 +1,7 @@
 -- `receive`: the answer and the stored bindings are those of the definition, and the queue is still valid.
 use Rattle.std.proofs.Common.{◌≤◌, sym, subst, ◌∙◌}
 use Rattle.napt_rules.specs.Prelude.{purge, in_taken}
-use Rattle.napt_table.{specs.Bindings.{BindingsModel, AllShow}, proofs.{Queues.due_later, Steps.in_is_shown, HeldThroughTime.{keeps_on, in_stays, in_apart}}}
+use Rattle.napt_table.{specs.Bindings.{BindingsModel, ListShowsStored}, proofs.{Queues.due_later, Steps.in_is_shown, HeldThroughTime.{keeps_on, in_stays, in_apart}}}
 use Rattle.napt_table.proofs.InboundSteps.{all_received, received_unseen, all_received_due}
 use Rattle.napt_table.proofs.bindings.Bindings.receive.Goals as goal
 
@@ -37,7 +37,7 @@ returns-clause-receives c =
       r.0 ∙ sym shown.0,
       keeps_on s.timers p.now a s.held new list (in_taken s.timers i a p list).list
           (in_apart s.timers i a p list apart) keeps.held
-          (subst (AllShow s.timers p.now a new) (sym shown.1) r.1)
+          (subst (ListShowsStored s.timers p.now a new) (sym shown.1) r.1)
           (received_unseen s.timers t i a p s.held new k.one c.receive.result k.absent k.found)
           (λ q n. in_stays s.timers t a list q n i p),
     ))

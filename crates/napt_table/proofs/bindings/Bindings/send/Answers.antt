@@ -2,7 +2,7 @@
 use Rattle.std.{proofs.Common.{◌≡◌, ℕ, true, false, cond, Option, sym, subst, ◌∙◌}, specs.Option.is_some}
 use Rattle.napt_config.specs.Rules.{AreTimers}
 use Rattle.napt_rules.specs.Prelude.{reaches_quota}
-use Rattle.napt_table.specs.{BindingIndexes.{count_all, HasNoInside, IsNumberOf, HasInside, WentThrough, HasNone, SendKnownPost}, Bindings.{BindingsModel, BindingsUnchanged}}
+use Rattle.napt_table.specs.{BindingIndexes.{count_all, HasNoInside, IsNumberOf, HasInside, WentThrough, HasNoLiveBinding, SendKnownPost}, Bindings.{BindingsModel, BindingsUnchanged}}
 use Rattle.napt_table.proofs.AssignedNumbers.{stands_then, went_answer, went_keeps, absent_from, gone_unseen, over_sends, begun_sends, renewed_sends}
 use Rattle.napt_table.proofs.bindings.Bindings.send.Goals as goal
 
@@ -15,9 +15,9 @@ returns-in-Some-clause-sends c list apart is_taken keeps left =
     c.are_within_limits.ensures in
     let went : WentThrough old.timers p old.held new.held c.in-Some.number =
     subst (SendKnownPost old.timers p old.held new.held) c.in-Some.is c.in_ok-number.ensures.went in (
-      went_answer old.timers t old.held.granting p old.held new.held c.keep_names.ensures c.in-Some.number went list
+      went_answer old.timers t old.held.assignment p old.held new.held c.keep_names.ensures c.in-Some.number went list
           apart keeps,
-      went_keeps old.timers t old.held.granting p old.held new.held c.keep_names.ensures c.in-Some.number went list
+      went_keeps old.timers t old.held.assignment p old.held new.held c.keep_names.ensures c.in-Some.number went list
           apart keeps left,
     )
 
@@ -37,7 +37,7 @@ renew-requires-clause-unseen c =
     let old = c.args.self.now in
     let mid = c.prepare.new.self in
     let gone = c.purge_at.new.self in
-    let none : HasNone old.timers p old.held c.send_held.new.self.held =
+    let none : HasNoLiveBinding old.timers p old.held c.send_held.new.self.held =
     subst (SendKnownPost old.timers p old.held c.send_held.new.self.held) c.in_default.is c.in_ok-number.ensures.went in
     let at : c.send_held.new.self.at ≡ old.at = subst (λ (o : Option ℕ). c.send_held.new.self.at
     ≡ cond (is_some o) p.now old.at) c.in_default.is c.in_ok-number.ensures.at in
@@ -56,7 +56,7 @@ returns-in-Some-number_of-clause-sends c list apart is_taken keeps left =
     let old = c.args.self.now in
     let mid = c.prepare.new.self in
     let gone = c.purge_at.new.self in
-    let none : HasNone old.timers p old.held c.send_held.new.self.held =
+    let none : HasNoLiveBinding old.timers p old.held c.send_held.new.self.held =
     subst (SendKnownPost old.timers p old.held c.send_held.new.self.held) c.in_default.is c.in_ok-number.ensures.went in
     let at : c.send_held.new.self.at ≡ old.at = subst (λ (o : Option ℕ). c.send_held.new.self.at
     ≡ cond (is_some o) p.now old.at) c.in_default.is c.in_ok-number.ensures.at in
@@ -87,7 +87,7 @@ returns-then-is_at_quota-clause-sends c list apart is_taken keeps left =
     let old = c.args.self.now in
     let mid = c.prepare.new.self in
     let gone = c.purge_at.new.self in
-    let none : HasNone old.timers p old.held c.send_held.new.self.held =
+    let none : HasNoLiveBinding old.timers p old.held c.send_held.new.self.held =
     subst (SendKnownPost old.timers p old.held c.send_held.new.self.held) c.in_default.is c.in_ok-number.ensures.went in
     let at : c.send_held.new.self.at ≡ old.at = subst (λ (o : Option ℕ). c.send_held.new.self.at
     ≡ cond (is_some o) p.now old.at) c.in_default.is c.in_ok-number.ensures.at in
@@ -99,8 +99,8 @@ returns-then-is_at_quota-clause-sends c list apart is_taken keeps left =
     let absent : HasNoInside gone.held p.protocol p.inside = absent_from gone.held p.protocol p.inside
     c.number_of.result (subst (λ (x : BindingsModel). IsNumberOf x.held p.protocol p.inside c.number_of.result)
     c.self-2.view_is c.number_of.ensures) c.in_default-number_of.is in
-    let over : reaches_quota gone.held.granting.quota (count_all gone.held p.inside.address) ≡ true =
-    subst (λ (x : BindingsModel). reaches_quota x.held.granting.quota (count_all x.held p.inside.address)
+    let over : reaches_quota gone.held.assignment.quota (count_all gone.held p.inside.address) ≡ true =
+    subst (λ (x : BindingsModel). reaches_quota x.held.assignment.quota (count_all x.held p.inside.address)
     ≡ true) c.self-2.view_is
     (sym c.is_at_quota.ensures ∙ c.if-is_at_quota.true) in
     over_sends old mid gone p same c.purge_at.ensures none.none c.keep_names.ensures c.keep_names-2.ensures t list apart
@@ -112,7 +112,7 @@ returns-clause-sends c list apart is_taken keeps left =
     let old = c.args.self.now in
     let mid = c.prepare.new.self in
     let gone = c.purge_at.new.self in
-    let none : HasNone old.timers p old.held c.send_held.new.self.held =
+    let none : HasNoLiveBinding old.timers p old.held c.send_held.new.self.held =
     subst (SendKnownPost old.timers p old.held c.send_held.new.self.held) c.in_default.is c.in_ok-number.ensures.went in
     let at : c.send_held.new.self.at ≡ old.at = subst (λ (o : Option ℕ). c.send_held.new.self.at
     ≡ cond (is_some o) p.now old.at) c.in_default.is c.in_ok-number.ensures.at in
@@ -124,8 +124,8 @@ returns-clause-sends c list apart is_taken keeps left =
     let absent : HasNoInside gone.held p.protocol p.inside = absent_from gone.held p.protocol p.inside
     c.number_of.result (subst (λ (x : BindingsModel). IsNumberOf x.held p.protocol p.inside c.number_of.result)
     c.self-2.view_is c.number_of.ensures) c.in_default-number_of.is in
-    let under : reaches_quota gone.held.granting.quota (count_all gone.held p.inside.address) ≡ false =
-    subst (λ (x : BindingsModel). reaches_quota x.held.granting.quota (count_all x.held p.inside.address)
+    let under : reaches_quota gone.held.assignment.quota (count_all gone.held p.inside.address) ≡ false =
+    subst (λ (x : BindingsModel). reaches_quota x.held.assignment.quota (count_all x.held p.inside.address)
     ≡ false) c.self-2.view_is
     (sym c.is_at_quota.ensures ∙ c.if-is_at_quota.false) in
     begun_sends old mid gone p same c.purge_at.ensures none.none c.keep_names.ensures c.keep_names-2.ensures t list

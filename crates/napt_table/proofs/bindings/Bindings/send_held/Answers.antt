@@ -1,6 +1,6 @@
 -- `send_held`: the queue is still valid, and no binding was used after the packet's time.
 use Rattle.std.proofs.Common.{◌≤◌, sym, subst}
-use Rattle.napt_table.{specs.{BindingIndexes.{HasNone, SendKnownPost}, Bindings.BindingsModel}, proofs.{Queues.{same_due, due_later}, OutboundSteps.sent_due}}
+use Rattle.napt_table.{specs.{BindingIndexes.{HasNoLiveBinding, SendKnownPost}, Bindings.BindingsModel}, proofs.{Queues.{same_due, due_later}, OutboundSteps.sent_due}}
 use Rattle.napt_table.proofs.bindings.Bindings.send_held.Goals as goal
 
 pub send-requires : goal.send-requires
@@ -19,7 +19,7 @@ invariant_of-self c =
 pub invariant_of-self-in_default : goal.invariant_of-self-in_default
 invariant_of-self-in_default c =
     let s = c.self.inside in
-    let none : HasNone s.timers c.args.packet s.held c.send.new.self =
+    let none : HasNoLiveBinding s.timers c.args.packet s.held c.send.new.self =
     subst (SendKnownPost s.timers c.args.packet s.held c.send.new.self) c.in_default.is c.in_ok-number.ensures.went in
     same_due s.timers s.at s.held c.send.new.self s.due.entries none.same.held_same c.self.invariant
 

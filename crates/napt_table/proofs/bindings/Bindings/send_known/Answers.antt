@@ -3,7 +3,7 @@ use Rattle.std.{proofs.Common.{◌≡◌, ℕ, Option, Some, None, Result, Ok, E
 use Rattle.std.specs.declared.alloc.AllocError.{AllocError}
 use Rattle.napt_config.specs.Rules.{AreTimers}
 use Rattle.napt_rules.specs.declared.OutboundPacket.{OutboundPacket}
-use Rattle.napt_table.specs.{BindingIndexes.{IsNamed, HasNone, SendKnownPost}, Bindings.{BindingsModel, SendsKnown}}
+use Rattle.napt_table.specs.{BindingIndexes.{IsNamed, HasNoLiveBinding, SendKnownPost}, Bindings.{BindingsModel, SendsKnown}}
 use Rattle.napt_table.proofs.AssignedNumbers.{found_is, went_answer, went_any_block, went_keeps, none_live}
 use Rattle.napt_table.proofs.bindings.Bindings.send_known.Goals as goal
 
@@ -17,12 +17,13 @@ known p old new t named (Ok (Some number)) went at = record {
   place = went.one.place;
   at = at;
   sends = λ list apart is_taken keeps left. (
-    went_answer old.timers t old.held.granting p old.held new.held named number went list apart keeps,
-    went_keeps old.timers t old.held.granting p old.held new.held named number went list apart keeps left,
+    went_answer old.timers t old.held.assignment p old.held new.held named number went list apart keeps,
+    went_keeps old.timers t old.held.assignment p old.held new.held named number went list apart keeps left,
   );
-  any_block = λ list apart keeps. went_any_block old.timers t old.held.granting p old.held new.held named number went
+  any_block = λ list apart keeps. went_any_block old.timers t old.held.assignment p old.held new.held named number went
       list apart keeps;
-  finds = λ list apart keeps. ap is_some (found_is old.timers t old.held.granting p old.held new.held named number went
+  finds = λ list apart keeps. ap is_some (found_is old.timers t old.held.assignment p old.held new.held named number
+      went
       list apart keeps);
 }
 
@@ -36,7 +37,7 @@ returns-clause-unknown c is =
     let p = c.args.packet in
     let old = c.args.self.now in
     let new = c.send_held.new.self in
-    let none : HasNone old.timers p old.held new.held =
+    let none : HasNoLiveBinding old.timers p old.held new.held =
     subst (λ (r : Result (Option ℕ) AllocError). IfOk r (SendKnownPost old.timers p old.held new.held)) is
     c.send_held.ensures.went in (
       record {

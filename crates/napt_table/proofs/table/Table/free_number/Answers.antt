@@ -38,5 +38,5 @@ pub returns-clause-left : goal.returns-clause-left
 returns-clause-left c =
     let k = c.free_number-number.ensures.purged in
     rw (← c.self.view_is) (shown_after c.self.inside
-    (record c.self.inside { past = c.and-self-inside.result; bindings = c.free_number-number.new.self }) c.args.now
+    (record c.self.inside { events = c.and-self-inside.result; bindings = c.free_number-number.new.self }) c.args.now
     (Purged c.args.now) refl refl k.timers_is k.keeps.place k.at_is c.and-self-inside.ensures)

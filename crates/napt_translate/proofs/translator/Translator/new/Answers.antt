@@ -13,6 +13,6 @@ invariant_of-result c =
       address = ap (λ (t : TableModel). t.address) shown
           ∙ ap (λ (p : List ℕ). slice_index p c.args.index) c.pool.ensures.addresses;
       timers = ap (λ (t : TableModel). t.timers) shown;
-      granting = ap (λ (t : TableModel). t.granting) shown;
+      assignment = ap (λ (t : TableModel). t.assignment) shown;
       inbound = ap (λ (t : TableModel). t.inbound) shown;
     }

@@ -7,7 +7,7 @@ use Rattle.napt_translate.proofs.translator.Translator.outbound.Goals as goal
 pub invariant_of-self-in-Some : goal.invariant_of-self-in-Some
 invariant_of-self-in-Some c =
     let old : TableModel = c.self.inside.table in
-    let new : TableModel = c.outbound_known.new.self in
+    let new : TableModel = c.outbound_if_bound.new.self in
     let known = subst (λ (found : Option ℕ). IfSome found (λ number. (block : Option PortBlock) →
     OutboundPost (record c.args.sent { block = block }) old new (Ok number))) c.in-Some.is
     c.in_ok-number.ensures.known in
@@ -18,6 +18,6 @@ invariant_of-self-in-Some c =
       rules = is.rules;
       address = ap (λ (t : TableModel). t.address) left ∙ is.address;
       timers = ap (λ (t : TableModel). t.timers) left ∙ is.timers;
-      granting = ap (λ (t : TableModel). t.granting) left ∙ is.granting;
+      assignment = ap (λ (t : TableModel). t.assignment) left ∙ is.assignment;
       inbound = ap (λ (t : TableModel). t.inbound) left ∙ is.inbound;
     }

@@ -5,5 +5,5 @@ use Rattle.napt_table.proofs.bindings.binding_index.BindingIndex.choose.Goals as
 
 pub returns : goal.returns
 returns c = rw (← c.self.view_is) (c.choose.ensures
-    ∙ choice_held c.self.inside c.self.invariant c.self.inside.granting.choosing
+    ∙ choice_held c.self.inside c.self.invariant c.self.inside.assignment.choosing
     c.args.block c.requires c.args.protocol c.args.inside)

@@ -28,18 +28,18 @@ invariant_of-self-2 c = same_held c.self.inside _ c.self.invariant refl refl
 
 pub returns-in_err-reserve-3-clause-same : goal.returns-in_err-reserve-3-clause-same
 returns-in_err-reserve-3-clause-same c = rw (← c.self.view_is) (record {
-  place = record { address_is = refl; granting_is = refl };
+  place = record { address_is = refl; assignment_is = refl };
   held_same = λ k. ap (lookup (key_eq k)) c.reserve-2.ensures.entries;
 })
 
 pub returns-in_err-reserve-4-clause-same : goal.returns-in_err-reserve-4-clause-same
 returns-in_err-reserve-4-clause-same c = rw (← c.self.view_is) (record {
-  place = record { address_is = refl; granting_is = refl };
+  place = record { address_is = refl; assignment_is = refl };
   held_same = λ k. ap (lookup (key_eq k)) c.reserve-2.ensures.entries;
 })
 
 pub returns-clause-same : goal.returns-clause-same
 returns-clause-same c = rw (← c.self.view_is) (record {
-  place = record { address_is = refl; granting_is = refl };
+  place = record { address_is = refl; assignment_is = refl };
   held_same = λ k. ap (lookup (key_eq k)) c.reserve-2.ensures.entries;
 })

@@ -2,7 +2,7 @@
 use Rattle.std.{proofs.{Common.{◌≡◌, ◌++◌, ◌∷◌, [], Bool, true, cond, List, map, filter, sym, ◌∙◌, ap}, lemmas.List.append_assoc}, specs.Map.Iter.deref}
 use Rattle.std.proofs.lemmas.{List.Elements.All-push, Map.Iter.rest_more}
 use Rattle.napt_rules.specs.{Prelude.{Binding, is_live, row}, declared.Row.Row}
-use Rattle.napt_table.specs.HeldRows.{IsSmall}
+use Rattle.napt_table.specs.HeldRows.{HasPortNumber}
 use Rattle.napt_table.proofs.bindings.binding_index.BindingIndex.rows.Goals as goal
 
 pub loop-binding-preserved-in-Continue-1 : goal.loop-binding-preserved-in-Continue-1
@@ -24,5 +24,5 @@ loop-binding-preserved-in-Continue-1 c =
     record {
       rest = ap (λ (l : List Row). l ++ map row (filter live next)) c.in_ok-push.ensures.items
           ∙ (append_assoc items (made ∷ []) (map row (filter live next)) ∙ (sym left ∙ before.rest));
-      small = rw c.in_ok-push.ensures.items (All-push IsSmall items made before.small c.row.ensures.small);
+      small = rw c.in_ok-push.ensures.items (All-push HasPortNumber items made before.small c.row.ensures.small);
     }

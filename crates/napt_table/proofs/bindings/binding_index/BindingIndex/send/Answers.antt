@@ -14,7 +14,7 @@ returns-in-None-clause-went c =
     ap (λ (k : InsideKey). lookup (inside_eq k) c.self.inside.by_inside.entries) (sym c.inside_key.ensures)
     ∙ sym c.in-None.ensures.value in
     rw (← c.self.view_is) (record {
-      same = record { place = record { address_is = refl; granting_is = refl }; held_same = λ k. refl };
+      same = record { place = record { address_is = refl; assignment_is = refl }; held_same = λ k. refl };
       none = none_seen c.self.inside c.self.invariant c.args.timers p.now p.protocol p.inside none;
     })
 
@@ -39,7 +39,7 @@ returns-then-not-is_live-clause-went c =
     ap (λ (k : InsideKey). lookup (inside_eq k) c.self.inside.by_inside.entries) (sym c.inside_key.ensures)
     ∙ sym c.in-Some.ensures.value in
     rw (← c.self.view_is) (record {
-      same = record { place = record { address_is = refl; granting_is = refl }; held_same = λ k. refl };
+      same = record { place = record { address_is = refl; assignment_is = refl }; held_same = λ k. refl };
       none = dead_seen c.self.inside c.self.invariant c.args.timers p.now p.protocol p.inside number found
           (ap (seen_binding c.args.timers p.now)
           (found_there c.self.inside _ c.self.view_is _ c.in-Some-find.place _ f.value f.entry)
