@@ -83,7 +83,8 @@ impl Account {
         }
     }
 
-    /// Returns whether its number is in 1..=`made`, it was made by `clock` (ns), and may be saved.
+    /// Returns whether the number of the account is in 1..=`made`, the binding was made by `clock`
+    /// (ns), and the counts of packets are small enough to be saved.
     fn is_within(self, made: u64, clock: u64) -> bool
         ensures { result ≡ starts.is_account made clock self }
     {
@@ -103,7 +104,8 @@ impl SavedLogState {
         }
     }
 
-    /// Returns whether no binding of a state has an account, but one other than a redirect is live.
+    /// Returns whether a binding of the state other than a redirect is live, but no binding has an
+    /// account.
     pub fn lacks_all(&self, config: &Config, state: &State) -> bool {
         let (timers, now) = (config.timers(), u128::from(state.clock));
         let mut lives = false;

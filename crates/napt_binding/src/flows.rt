@@ -241,7 +241,8 @@ impl Flows {
         })
     }
 
-    /// Returns the last time (ns) at which a TCP flow lives, at most 2^64 - 1. One must at `now`.
+    /// Returns the last time (ns) at which a TCP flow is live, or 2^64 - 1 if that is earlier. At
+    /// least one flow must be live at `now`.
     pub(crate) fn last_moment(&self, timers: IdleTimers, now: u64) -> u64
         requires live { list_any (life.is_live_flow timers now) self.now ≡ true }
         ensures later { now ≤ result }

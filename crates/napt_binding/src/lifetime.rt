@@ -107,8 +107,8 @@ pub fn end_of(binding: &TableBinding, timers: IdleTimers) -> Option<u128>
     Some(end)
 }
 
-/// Returns a time (ns) from `now` on up to which a live binding lives, whatever packets come, but
-/// not after a packet at `now` would let it live: the last such time, except for a redirect.
+/// Returns the last time (ns), at or after `now`, at which the binding is certain to be live
+/// whatever packets come. The binding must be live at `now`. For a redirect, returns `now`.
 pub fn until(binding: &TableBinding, timers: IdleTimers, now: u64) -> u64
     requires live { life.is_live timers now binding.now ≡ true }
     ensures later { now ≤ result }

@@ -16,8 +16,8 @@ pub enum CaptureFault {
     /// The file has fewer than 24 bytes.
     #[error("the file is shorter than the 24 bytes of a capture's header")]
     NoHeader,
-    /// The first four bytes are none of the four known magics.
-    #[error("the file does not begin as a capture of microseconds or nanoseconds does")]
+    /// The first four bytes are none of the four known magic numbers.
+    #[error("the file does not begin with a pcap magic number (microseconds or nanoseconds)")]
     BadMagic,
     /// The version is not 2.4.
     #[error("the capture is not of version 2.4")]
@@ -25,8 +25,8 @@ pub enum CaptureFault {
     /// The link type is neither 101 (raw IP) nor 228 (raw IPv4).
     #[error("the capture's link type is neither 101 (raw IP) nor 228 (raw IPv4)")]
     BadLink,
-    /// The fraction in the time of this record is a second or more.
-    #[error("the time of record {0} has a fraction of a second or more")]
+    /// The fraction in the time of this record is a whole second or more.
+    #[error("the fraction in the time of record {0} is a whole second or more")]
     BadFraction(u64),
     /// The captured length of this record exceeds [`LARGEST_RECORD`].
     #[error("record {0} has more than {limit} bytes", limit = LARGEST_RECORD)]

@@ -172,10 +172,14 @@ impl Config {
         })
     }
 
-    /// Returns the external address of a host (RFC 4787, section 4.1, "paired" pooling): that of
-    /// its `pair` entry, or else the pool's address at the host's number modulo the pool's size;
-    /// with blocks, at the inside host's index modulo that size. Takes no memory, and time
-    /// logarithmic in the number of entries or linear in that of prefixes.
+    /// Returns the external address of a host (RFC 4787, section 4.1, "paired" pooling):
+    ///
+    /// - with a `pair` entry for the host, the address in that entry;
+    /// - with blocks, the pool address at the inside host's index modulo the pool's size;
+    /// - otherwise, the pool address at the host's address, as a number, modulo the pool's size.
+    ///
+    /// Takes no memory. The time is logarithmic in the number of `pair` entries or, with blocks,
+    /// linear in the number of prefixes.
     pub fn pair(&self, host: u32) -> u32
         ensures address { result ≡ pair_of self.now host }
         ensures in_pool { IsSome (pool_place self.now result) }

@@ -167,7 +167,8 @@ fn output_named_again(places: &FileLocations<'_>) -> Option<FileRole>
     }
 }
 
-/// Returns whether the state's file or new file is no file, another option's, or replaces `resume`.
+/// Returns whether the state cannot be saved: its file or its new file is a device, a pipe or a
+/// folder, or is the file of another option, or the new file would replace the file of `resume`.
 fn is_save_lost(places: &FileLocations<'_>) -> bool
     ensures again { result ≡ is_save_lost places.now places.now.save }
     ensures placed { result ≡ true → is_some places.now.save ≡ true }

@@ -39,8 +39,8 @@ const ABOUT: &str = "Network address and port translation for IPv4: reads captur
 that inside hosts and the outside send, and writes the captures of what leaves for the other side, \
 with addresses and ports translated.";
 
-const NOTES: &str = "FILE may be -, standard input or standard output; a file of that name is ./-
-(the FILE of a state may not be -)
+const NOTES: &str = "FILE may be - for standard input or output. For a file named -, write ./-
+(the FILE of a state may not be -).
 
 Examples:
   napt < inside.pcap > to-outside.pcap
@@ -58,7 +58,7 @@ Exit status, and the line on standard error that says why:
        an option is unknown, is given twice, or lacks its file
   3  napt: config WORD
        not-toml           the text is not TOML in UTF-8
-       unknown-key        no configuration has this key
+       unknown-key        the key is unknown
        missing            a required key is absent, or its list is empty
        bad-shape          a value is not of the type that its key takes
        too-many           a list has more entries than it may have
@@ -86,7 +86,7 @@ Exit status, and the line on standard error that says why:
        bad-magic        not a libpcap capture (pcapng is another format)
        bad-version      it is not version 2.4
        bad-link         the link type is neither 101 (raw IP) nor 228 (raw IPv4)
-       bad-fraction N   the time of record N has a fraction of a second or more
+       bad-fraction N   the fraction in the time of record N is a whole second or more
        too-long N       record N has more than 262144 bytes
        too-large        reading would ask for more than 68719476736 bytes
        read             the file could not be read
@@ -95,14 +95,14 @@ Exit status, and the line on standard error that says why:
        memory           memory ran out
        too-many         there are more than 4294967295 packets
        no-thread        the system refused a worker its thread
-       gate-shut N      the gate kept worker N waiting; never in this program
-       ring             the ends of a ring disagree; no cause of this is known
+       gate-shut N      the gate stayed shut for worker N; not possible in this program
+       ring             internal error in a queue between threads; please report it
   6  napt: file OPTION
        it cannot be opened, read or created; its stream is closed; a configuration
        has over 64 MiB; or another option has the same output or standard stream
      napt: write OPTION
-       writing failed; help that could not be written is write to-outside, since
-       both go to standard output
+       writing failed; write to-outside also if the help text could not be
+       written, since both go to standard output
   8  napt: state WORD
        bad-line N       line N is not a line of a state, or is missing
        not-utf-8 N      line N is not UTF-8

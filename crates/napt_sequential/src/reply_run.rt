@@ -1,4 +1,5 @@
-//! Sends each reply to the external endpoint that its inside endpoint has at that time.
+//! Readdresses replies that were captured inside to the external endpoint that their inside
+//! endpoint has when they arrive.
 
 ghost use Rattle.std.specs.{Prelude.{◌≡◌, ◌<◌, ◌≤◌, ◌^◌, ◌↔◌, ℕ, length, [], Some, Ok, Err, IfOk, IfErr, IfSome, OnOk}, Option.option_map, List.slice_get};
 ghost use Rattle.napt_wire.specs.{Fields.{kind, CanCarry}, Reading.reading};

@@ -97,7 +97,8 @@ fn flows_share(
     Ok(false)
 }
 
-/// Returns the time, in ns, at which each binding was live that is live or held at the clock.
+/// Returns the time one hold before the clock, in ns. What was live then is live or held at the
+/// clock.
 fn held_at(config: &Config, clock: u64) -> u64
     ensures { result ≡ life.hold_ago config.now.timers clock }
 {

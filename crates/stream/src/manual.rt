@@ -13,8 +13,8 @@ macro_rules! manual {
             name: $name,
             about: ABOUT,
             notes: concat!(
-                "FILE may be -, standard input or standard output; a file of that name is ./-
-(the FILE of a state may not be -)
+                "FILE may be - for standard input or output. For a file named -, write ./-
+(the FILE of a state may not be -).
 
 Examples:
   ", $name, " < inside.pcap > to-outside.pcap

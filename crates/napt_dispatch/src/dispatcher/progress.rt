@@ -61,7 +61,7 @@ impl<P: LegTrace> InputProgress<P> {
         }
     }
 
-    /// Returns whether it is still unknown if there is a second leg.
+    /// Returns whether it is not yet known whether the input has a second leg.
     pub(crate) fn is_unknown(&self) -> bool
         ensures { result ≡ is_unknown (Some self.now) }
     {

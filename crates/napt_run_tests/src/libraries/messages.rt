@@ -19,10 +19,10 @@ macro_rules! assert_messages {
 fn faults_of_captures_are_told(rt: HostRuntime) -> Result<(), Fail> {
     assert_messages! {rt, CaptureFault:
         NoHeader "the file is shorter than the 24 bytes of a capture's header"
-        BadMagic "the file does not begin as a capture of microseconds or nanoseconds does"
+        BadMagic "the file does not begin with a pcap magic number (microseconds or nanoseconds)"
         BadVersion "the capture is not of version 2.4"
         BadLink "the capture's link type is neither 101 (raw IP) nor 228 (raw IPv4)"
-        BadFraction(1) "the time of record 1 has a fraction of a second or more"
+        BadFraction(1) "the fraction in the time of record 1 is a whole second or more"
         TooLong(7) "record 7 has more than 262144 bytes"
         TooLarge "the capture is longer than 68719476736 bytes"
         Read "the capture could not be read"
@@ -39,7 +39,7 @@ fn faults_of_configurations_are_told(rt: HostRuntime) -> Result<(), Fail> {
         NotToml "expected TOML in UTF-8"
         UnknownKey "unknown key: expected `pool`, `inside`, `filter`, `refresh`, `parity`, `numbers`, `seed`, `timers`, `hold`, `ring`, `quota`, `block`, `pair` or `redirect`; in `timers` `udp`, `tcp-established`, `tcp-transitory` or `icmp`; in a `pair` `host` or `external`; in a `redirect` `protocol`, `inside` or `external`"
         Missing "expected `pool` and `inside` with at least one entry each, a `seed` with random `numbers`, `host` and `external` in each `pair`, and `protocol`, `inside` and `external` in each `redirect`"
-        BadShape "expected a value of another kind: a text, a whole number, a list or a table, as its key asks for"
+        BadShape "wrong type: the key takes a string, an integer, an array or a table"
         TooMany "expected at most 16 entries in `pool` and in `inside`, and at most 256 of `pair` and of `redirect`"
         BadAddress "expected an IPv4 address, as `203.0.113.1`, or in a `redirect` an endpoint, as `10.0.0.3:7000`, without leading zeros"
         BadPrefix "expected an IPv4 prefix, as `10.0.0.0/8`, whose bits past its length are 0"
