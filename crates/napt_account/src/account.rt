@@ -127,7 +127,8 @@ impl SavedLogState {
 
     /// Returns whether a run with a log can start with it: the entries and the packets of each are
     /// at most 2^61, each number is one of the log's, each binding was made by the clock, and no
-    /// two share a number or an external endpoint. Takes linear time. Fails if memory is refused.
+    /// two share a number or an external endpoint. Takes linear time. Fails only if memory is
+    /// refused.
     pub fn is_valid(&self, alloc: Global, state: &State) -> Result<bool, AllocError>
         ensures { IfOk result (λ is. is ≡ starts.is_saved_log_state state.now self.now) }
     {

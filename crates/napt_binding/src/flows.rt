@@ -181,7 +181,8 @@ impl Flows {
         }
     }
 
-    /// Creates the flows from a list, oldest first, one of each remote. Fails if memory is refused.
+    /// Creates the flows from a list, oldest first, one of each remote. Fails only if memory is
+    /// refused.
     pub fn from_flows(alloc: Global, flows: &[Flow]) -> Result<Flows, AllocError>
         requires { AreDistinct flows.now }
         ensures { IfOk result (λ made. made ≡ flows.now) }
@@ -208,7 +209,8 @@ impl Flows {
         }
     }
 
-    /// Copies the flows of a protocol live at `now` (ns), in order. Fails if memory is refused.
+    /// Copies the flows of a protocol live at `now` (ns), in order. Fails only if memory is
+    /// refused.
     #[tactic(auto, using(crate::proofs::DistinctFlows::distinct_live))]
     pub fn live(
         &self,

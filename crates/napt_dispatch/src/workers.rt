@@ -183,7 +183,8 @@ impl RunSummary {
     ghost use Rattle.napt_dispatch.specs.RunsThrough.{LeavesState};
 
     /// Returns the state after the run, or `None` unless `is_saved`: the bindings live or held at
-    /// the last clock, by address in pool order, protocol and number. Fails if memory is refused.
+    /// the last clock, by address in pool order, protocol and number. Fails only if memory is
+    /// refused.
     pub fn into_state_if(self, is_saved: bool, alloc: Global) -> Result<Option<State>, AllocError>
         ensures saved { IfOk result (λ state. is_some state ≡ is_saved) }
         ensures state { (rules : Rules) (state : State) → LeavesState rules state self →

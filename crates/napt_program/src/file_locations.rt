@@ -40,7 +40,8 @@ struct SaveLocations<'a> {
 }
 
 /// Returns the role of the first output whose file an earlier option also names. A state may be
-/// saved to the file that was read. Fails if memory is refused, which only a saved state needs.
+/// saved to the file that was read. Fails only if memory is refused, which only a saved state
+/// needs.
 pub fn lost_file<R: Files>(
     rt: &R,
     alloc: Global,
@@ -54,7 +55,7 @@ pub fn lost_file<R: Files>(
     Ok(lost_file_with_new(rt, options, new.as_ref()))
 }
 
-/// Returns the path of the new file of a state, if one is saved. Fails if memory is refused.
+/// Returns the path of the new file of a state, if one is saved. Fails only if memory is refused.
 fn path_of_new(alloc: Global, options: &RunOptions) -> Result<Option<String>, AllocError>
     ensures new { IfOk result (λ new. is_some new ≡ is_some options.now.save) }
     ensures memory { IfErr result (λ _. is_some options.now.save ≡ true) }

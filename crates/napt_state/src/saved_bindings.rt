@@ -202,7 +202,8 @@ fn end_after(last: u64, seconds: u64) -> u64
 
 /// Returns a binding that ends at a time, in ns, under the timers of a configuration, so that its
 /// number is held from then on; a TCP binding has one flow. Returns `None` for a redirect, or if it
-/// would be live at the clock since its end is less than its timer. Fails if memory is refused.
+/// would be live at the clock since its end is less than its timer. Fails only if memory is
+/// refused.
 pub(crate) fn ended_binding(
     alloc: Global,
     row: Row,

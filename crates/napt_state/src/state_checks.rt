@@ -68,7 +68,8 @@ fn is_used_after(config: &Config, clock: u64, binding: &StateBinding) -> bool
     clock < binding.last || has_later(clock, &binding.flows)
 }
 
-/// Returns whether two flows that stand at a time (ns) share a remote. Fails if memory is refused.
+/// Returns whether two flows that stand at a time (ns) share a remote. Fails only if memory is
+/// refused.
 fn flows_share(
     alloc: Global,
     config: &Config,

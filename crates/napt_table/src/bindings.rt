@@ -94,7 +94,7 @@ impl Bindings {
     ghost use Rattle.napt_table.specs.BindingIndexes.{held_binding, held_at, IsSamePlace, IsNamed};
     ghost use Rattle.napt_table.specs.Bindings.{BindingsHaveRoom, IsPurged, IsLiveNumberOf, ReceivePost};
 
-    /// Creates an empty set of bindings, at a time in ns. Fails if memory is refused.
+    /// Creates an empty set of bindings, at a time in ns. Fails only if memory is refused.
     pub(crate) fn new(
         alloc: Global,
         address: u32,

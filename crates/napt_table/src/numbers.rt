@@ -61,7 +61,7 @@ fn least_of(from: u32, end: u32, even: Option<u32>, odd: Option<u32>) -> Option<
 
 impl Numbers {
     /// Creates a set in which no number is in use, of about 8 KiB. No other method allocates. Fails
-    /// if memory is refused.
+    /// only if memory is refused.
     pub fn new(alloc: Global, protocol: Protocol) -> Result<Numbers, AllocError>
         ensures protocol { IfOk result (λ numbers. numbers.protocol ≡ protocol) }
         ensures none { IfOk result (λ numbers. (n : ℕ) → is_used numbers n ≡ false) }

@@ -236,7 +236,7 @@ impl BindingIndex {
     ghost use Rattle.napt_table.specs.BindingIndexes.{held_binding, held_at, AreUsedUpTo, HoldsSame, ChangesOne, SendKnownPost};
 
     /// Sends a packet out through its inside endpoint's live binding, if there is one, and returns
-    /// its number. Fails if memory is refused; the stored bindings are then unchanged.
+    /// its number. Fails only if memory is refused; the stored bindings are then unchanged.
     pub(crate) fn send(
         &mut self,
         alloc: Global,

@@ -65,7 +65,7 @@ impl Bindings {
     ghost use Rattle.napt_table.specs.Bindings.{BindingsHaveRoom, BindingsUnchanged, NewBindingOk, RenewedBindingOk, Finds, SendPost, SendsKnown};
 
     /// Stores a binding that is live or held and whose endpoints are free. A redirect never expires
-    /// and is not queued. Fails if memory is refused; no stored binding then changes.
+    /// and is not queued. Fails only if memory is refused; no stored binding then changes.
     pub(crate) fn add(&mut self, binding: TableBinding) -> Result<(), AllocError>
         requires live { is_live self.old.timers (hold_ago self.old.timers self.old.at) binding
             ≡ true }
@@ -92,7 +92,7 @@ impl Bindings {
     }
 
     /// Sends a packet out through its inside endpoint's live binding, if there is one. Returns its
-    /// number, and sets the time. Fails if memory is refused; no binding then changes.
+    /// number, and sets the time. Fails only if memory is refused; no binding then changes.
     #[inline(always)]
     fn send_held(
         &mut self,
@@ -215,7 +215,8 @@ impl Bindings {
     }
 
     /// Sends a packet out. Returns the number of its live binding, else of its held one, else of a
-    /// new one, or `OverQuota` or `NoPort`. Fails if memory is refused; no binding then changes.
+    /// new one, or `OverQuota` or `NoPort`. Fails only if memory is refused; no binding then
+    /// changes.
     #[inline(never)]
     pub(crate) fn send(
         &mut self,
