@@ -195,10 +195,10 @@ pub fn ended_entries_stay()
     ensures { EndedEntriesStay }
 {}
 
-/// Law: a run that starts from a state, with the open entries of the log there, adds to the log with
-/// each input what the run over all inputs adds, and ends with the same open entries. This also
-/// holds if the state was saved and read. The open entries at the end are those of the bindings
-/// that are live in the last state.
+/// Law: a run that starts from a state, with the open entries of the log there, adds to the log
+/// with each input what the run over all inputs adds, and ends with the same open entries. This
+/// also holds if the state was saved and read. The open entries at the end are those of the
+/// bindings that are live in the last state.
 pub fn logs_go_on()
     ensures go_on { LogsGoOn }
     ensures saved { SavedLogsGoOn }

@@ -36,7 +36,8 @@ enum FlowStore {
     Mapped(Box<FlowMaps>),
 }
 
-/// The flows of one binding, oldest first, no two of one remote endpoint. Contracts see a list.
+/// The flows of one binding, oldest first. No two have the same remote endpoint. Contracts see a
+/// list.
 #[derive(Drop)]
 pub struct Flows {
     kept: FlowStore,

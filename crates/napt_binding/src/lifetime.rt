@@ -75,8 +75,9 @@ pub(crate) fn is_standing(flow: &Flow, timers: IdleTimers, now: u64, protocol: P
     }
 }
 
-/// Returns whether a binding is live at `now` (ns): it is a redirect, or it or (for TCP) a flow was
-/// used less than its timer ago (RFC 4787 REQ-5 and REQ-6; RFC 5508 REQ-2; RFC 5382 REQ-5).
+/// Returns whether a binding is live at `now` (ns): whether it is a redirect, or was used less than
+/// its timer ago, or for TCP, one of its flows was used less than the timer of the flow ago (RFC
+/// 4787 REQ-5 and REQ-6; RFC 5508 REQ-2; RFC 5382 REQ-5).
 #[inline(always)]
 pub fn is_live(binding: &TableBinding, timers: IdleTimers, now: u64) -> bool
     ensures { result ≡ life.is_live timers now binding.now }

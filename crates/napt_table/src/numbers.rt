@@ -127,7 +127,8 @@ impl Numbers {
         }
     }
 
-    /// Returns a block's first free number from a place on: of its parity, or else of the other.
+    /// Returns the first free number of a block from a place on, of the parity of that place or, if
+    /// none of these is free, of the other parity.
     fn first_by_parity(&self, block: PortBlock, place: u16) -> Option<u16>
         requires block { IsPortBlock block }
         requires within { place < block.size }

@@ -59,8 +59,8 @@ pub(crate) fn fix_end(check: u16, old: Endpoint, new: Endpoint) -> u16
     fix_check(fixed, old.number, new.number)
 }
 
-/// Returns the UDP checksum after an endpoint changes from `old` to `new` (RFC 768). The result is 0
-/// if and only if `check` is 0, which means that there is no checksum.
+/// Returns the UDP checksum after an endpoint changes from `old` to `new` (RFC 768). The result is
+/// 0 if and only if `check` is 0, which means that there is no checksum.
 pub(crate) fn fix_end_udp(check: u16, old: Endpoint, new: Endpoint) -> u16
     ensures { result ≡ canon_udp check (end_words old) (end_words new) }
 {

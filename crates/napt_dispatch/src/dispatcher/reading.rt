@@ -53,7 +53,9 @@ impl<P: LegTrace> Dispatcher<P> {
         }
     }
 
-    /// Reads an input at `now`, in ns. Then serves its worker if a message is due, and one in turn.
+    /// Reads an input at `now`, in ns. Then takes answers from its worker and offers it legs, if a
+    /// message for it is due. Finally, takes answers from the worker whose turn it is, if any, and
+    /// offers it legs.
     #[inline(always)]
     fn serve<R: Wait, G: Gate>(
         &mut self,
