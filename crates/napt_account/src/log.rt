@@ -157,7 +157,8 @@ fn without_numbers(alloc: Global, numbered: &[LogEntry]) -> Result<Vec<Entry>, A
     numbered.iter().map(|one| one.entry).collect(alloc)
 }
 
-/// Law: the log of a run follows from the effects of its inputs; each is possible when it comes.
+/// Law: the log of a run follows from the effects of its inputs, and each of these effects is
+/// possible when its input arrives.
 pub fn effects_are_the_log()
     ensures log { EffectsAreTheLog }
     ensures come { EffectsCome }

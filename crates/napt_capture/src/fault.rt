@@ -9,8 +9,9 @@ use std::alloc::{AllocError, AllocFailed};
 use std::{error, fmt};
 use thiserror::Error;
 
-/// Why a capture cannot be read: its first fault. Records are numbered from 1. The fraction of a
-/// record is checked before its length, and both before its bytes, which may be cut off.
+/// Why a capture cannot be read: its first fault. Records are numbered from 1. The fraction in the
+/// time of a record is checked before the length of the record. Both are checked before the bytes
+/// are read, which may be cut off.
 #[derive(Clone, Copy, Debug, PartialEq, Eq, Error)]
 pub enum CaptureFault {
     /// The file has fewer than 24 bytes.

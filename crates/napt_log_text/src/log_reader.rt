@@ -98,8 +98,8 @@ impl<R: BufRead + Drop> LogReader<R> {
     }
 }
 
-/// Law: a new log begins with its header, and that any log contains the rows of its events,
-/// so that [`LogReader`] reads these events, in order. The run may continue from a state.
+/// Law: a new log begins with its header, and any log contains the rows of its events, so that
+/// [`LogReader`] reads these events, in order. The run may continue from a state.
 #[tactic(auto, using(crate::proofs::SavedLogs::has_rows))]
 pub fn log_has_rows()
     ensures { logs.LogHasRows }

@@ -77,9 +77,10 @@ pub fn log_grows()
     ensures { logs.LogGrows }
 {}
 
-/// Law: the log of a run without its rows of live bindings, followed by the log of the run
-/// that continues from there, also from a saved state, is the log of the run over all inputs. From
-/// the beginning of a piece, the log is that of a run that continues with a new log.
+/// Law: the log of a run without its rows of live bindings, followed by the log of the run that
+/// continues from there, is the log of the run over all inputs. This also holds if the second run
+/// starts from a saved state. From the beginning of a piece on, the log is that of a run that
+/// continues with a new log.
 pub fn logs_join()
     ensures join { logs.LogsJoin }
     ensures saved { logs.SavedLogsJoin }

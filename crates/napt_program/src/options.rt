@@ -47,8 +47,8 @@ Examples:
   napt --config napt.toml --inside inside.pcap --outside outside.pcap \\
        --to-outside to-outside.pcap --to-inside to-inside.pcap --report report.txt
 
---verbose adds a second line on standard error, which a terminal gets anyway: the
-option, its file, and what is wrong with it (in a configuration, with the place).
+--verbose prints a second line on standard error, as at a terminal in any case:
+the option, its file, and what is wrong (in a configuration, with the place).
 With --end-misfits the bindings that the configuration does not accept expire at
 the state's time, and one line on standard error counts them; all others continue.
 
@@ -65,7 +65,7 @@ Exit status, and the line on standard error that says why:
        bad-address        not an IPv4 address, or not an endpoint in a redirect
        bad-prefix         not an IPv4 prefix, or bits past its length are set
        bad-number         a number is out of its range
-       bad-word           the key does not take this word
+       bad-word           the key does not take this value
        bad-seed           the seed is not 32 hexadecimal digits
        seed-unused        there is a seed, and numbers are not random
        double-address     an address is in the pool twice
@@ -86,7 +86,7 @@ Exit status, and the line on standard error that says why:
        bad-magic        not a libpcap capture (pcapng is another format)
        bad-version      it is not version 2.4
        bad-link         the link type is neither 101 (raw IP) nor 228 (raw IPv4)
-       bad-fraction N   the fraction in the time of record N is a whole second or more
+       bad-fraction N   the fraction in record N's time is a second or more
        too-long N       record N has more than 262144 bytes
        too-large        reading would ask for more than 68719476736 bytes
        read             the file could not be read

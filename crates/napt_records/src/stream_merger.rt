@@ -40,7 +40,7 @@ fn take_first(inside: &mut Option<Record>, outside: &mut Option<Record>) -> Opti
 }
 
 /// Two captures that are merged into the inputs of a run while they arrive. Once the next record of
-/// each side is known, the earlier one is returned; on a tie, the inside one.
+/// each side is known, the earlier one is returned, or the inside one if both have the same time.
 #[derive(Drop)]
 pub struct StreamMerger<'a, 'b, R: Source, Q: Source> {
     alloc: Global,

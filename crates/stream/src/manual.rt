@@ -37,8 +37,8 @@ After success each output contains the bytes that napt writes. The differences a
   the number of packets read, the packets per second, and the live bindings.
   Warnings are printed even if it is not a terminal, and do not change the status.
 
---verbose adds a second line on standard error, which a terminal gets anyway: the
-option, its file, and what is wrong with it (in a configuration, with the place).
+--verbose prints a second line on standard error, as at a terminal in any case:
+the option, its file, and what is wrong (in a configuration, with the place).
 With --end-misfits the bindings that the configuration does not accept expire at
 the state's time, in the log too, and one line on standard error counts them; all
 others continue.
