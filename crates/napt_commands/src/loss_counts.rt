@@ -98,8 +98,8 @@ impl LossCounts {
         self.no_binding > self.all / 5 && self.no_binding > 1
     }
 
-    /// Returns whether no packet of the inside capture has an inside address as its source, but more
-    /// than half of the packets of the outside capture do.
+    /// Returns whether no packet of the inside capture has an inside address as its source, but
+    /// more than half of the packets of the outside capture do.
     pub fn are_swapped(&self) -> bool {
         self.inside > 0 && self.from_hosts == 0 && self.from_inside > self.all / 2
     }

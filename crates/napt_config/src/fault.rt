@@ -25,10 +25,10 @@ pub enum ConfigFault {
     #[error("expected at most 16 entries in `pool` and in `inside`, and at most 256 of `pair` and of `redirect`")]
     TooMany,
     /// A string is not an IPv4 address, or in a `redirect` not an address and a port.
-    #[error("expected an IPv4 address, as `203.0.113.1`, or in a `redirect` an endpoint, as `10.0.0.3:7000`, without leading zeros")]
+    #[error("expected an IPv4 address, such as `203.0.113.1`, or in a `redirect` an address and a port, such as `10.0.0.3:7000`, without leading zeros")]
     BadAddress,
     /// A string is not a prefix, or a bit past the prefix length is set.
-    #[error("expected an IPv4 prefix, as `10.0.0.0/8`, whose bits past its length are 0")]
+    #[error("expected an IPv4 prefix, such as `10.0.0.0/8`, whose bits past the prefix length are 0")]
     BadPrefix,
     /// A number is out of range, or the size of a block is odd.
     #[error("expected a timer or a `hold` of 0 to 1000000000 seconds, a `ring` of 1 to 4096, a `quota` of 1 to 65535, an even `block` of 64 to 32256, or an `external` port of 1 to 65535")]

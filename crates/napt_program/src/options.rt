@@ -49,8 +49,9 @@ Examples:
 
 --verbose prints a second line on standard error, as at a terminal in any case:
 the option, its file, and what is wrong (in a configuration, with the place).
-With --end-misfits the bindings that the configuration does not accept expire at
-the state's time, and one line on standard error counts them; all others continue.
+With --end-misfits, the bindings of the state that the configuration does not
+accept expire at the state's time, and a line on standard error prints their
+number. All other bindings continue.
 
 Exit status, and the line on standard error that says why:
   0  done, without a line

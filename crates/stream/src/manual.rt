@@ -30,18 +30,18 @@ After success each output contains the bytes that napt writes. The differences a
   The log is the one that explain log writes. The rows of a packet are in the
   log before the packet is written. A log that has text is refused, unless
   --resume names the state that was saved with it: then the log is continued.
-  With --log-each it is continued in the next file after FILE.1, FILE.2, .., and
-  without --resume these are refused. Captures may have any number of bytes and
-  of packets.
+  With --log-each the log is continued in the next file after FILE.1, FILE.2, ..;
+  if there are such files, --resume is required. Captures may have any number of
+  bytes and of packets.
   If standard error is a terminal, a run of more than two seconds prints there
   the number of packets read, the packets per second, and the live bindings.
   Warnings are printed even if it is not a terminal, and do not change the status.
 
 --verbose prints a second line on standard error, as at a terminal in any case:
 the option, its file, and what is wrong (in a configuration, with the place).
-With --end-misfits the bindings that the configuration does not accept expire at
-the state's time, in the log too, and one line on standard error counts them; all
-others continue.
+With --end-misfits, the bindings of the state that the configuration does not
+accept expire at the state's time, also in the log, and a line on standard error
+prints their number. All other bindings continue.
 
 Exit status, and the line on standard error that says why: as for napt, with
 ", $name, ": in place of napt: at its beginning. too-large never occurs, and too-many
