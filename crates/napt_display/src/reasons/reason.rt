@@ -7,8 +7,8 @@ use std::alloc::AllocError;
 /// A reason for a refusal.
 #[derive(Drop)]
 pub struct Reason {
-    /// The word before it: `why`, `at`, `line`, `meant`, `value`, `with_advice`, `expected`,
-    /// `format` or `advice`. It is empty if the reason continues the reason before.
+    /// The title of the reason, such as `why`, `format` or `advice`. It is empty if the text
+    /// continues that of the reason before.
     pub title: &'static str,
     pub text: String,
 }
