@@ -140,7 +140,7 @@ module _ {L : Type 0} {S : Ghosts L} where
   Adds from traces text old (Err (Write Log fault)) new = Breaks old text fault new.output
   Adds from traces text old (Err other) new = ⊥
 
-  -- The same is true for a text that is made first. If making it fails, nothing was written.
+  -- A text was made, and then written and flushed as in `Adds`. If making it fails, nothing was written.
   abbrev pub Closes : {T : Type 0} → LoggedOrigin → List Trace → TimeText → Output L S → Result T Fault →
       LogWriter L S →
       Type 0
