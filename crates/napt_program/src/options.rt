@@ -54,7 +54,7 @@ accept expire at the state's time, and a line on standard error prints their
 number. All other bindings continue.
 
 Exit status, and the line on standard error that says why:
-  0  done, without a line
+  0  success; no line is printed
   2  napt: usage
        an option is unknown, is given twice, or lacks its file
   3  napt: config WORD
@@ -296,7 +296,8 @@ impl From<AllocError> for LineFault {
 ///
 /// Each option is long and has one value, in the next argument or after `=`, at most once. A value
 /// starts with `-` only if it is `-` (never for a state) or follows `=`. `-h` and `--help` request
-/// help, `-V` and `--version` the version. `Memory` may come in place of any other result.
+/// help, `-V` and `--version` the version. `Memory` may be returned in place of any other
+/// result.
 pub fn parse_words(alloc: Global, words: Vec<String>) -> Result<RunOptions, LineFault>
     ensures ok { IfOk result (λ o. line_of_words (map string_bytes words.items)
         ≡ files (files_of o)) }

@@ -36,7 +36,8 @@ pub(crate) struct Bindings {
     /// The time of the last packet, in ns; before the first packet, that at which the table began.
     at: u64,
     held: BindingIndex,
-    /// One entry for each binding that is not fixed, with a time until which it is surely live.
+    /// One entry for each binding that is not fixed, with a time until which it is certain to be
+    /// live.
     due: Due<ExternalNumberKey>,
 }
 

@@ -46,9 +46,9 @@ prints their number. All other bindings continue.
 Exit status, and the line on standard error that says why: as for napt, with
 ", $name, ": in place of napt: at its beginning. too-large never occurs, and too-many
 only with a log, at packet 4611686018427387904.
-  0  done; a line warns if the log begins new entries for the bindings of the
+  0  success; a line warns if the log begins new entries for the bindings of the
      state, if a packet is earlier than the state, if the captures seem to be
-     swapped, and if one is cut
+     swapped, and if a capture is cut
   2  ", $name, ": usage
   3  ", $name, ": config WORD
   4  ", $name, ": capture SIDE WORD

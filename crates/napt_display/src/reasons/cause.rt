@@ -85,11 +85,11 @@ impl CauseText {
                 "nothing was sent to the remotes: `filter = \"independent\"` would accept their packets",
             ),
             Cause::OverQuota => CauseText::with_advice(
-                "the host has all the bindings that `quota` allows it",
+                "the host already has as many bindings as `quota` allows",
                 "raise `quota`, or omit it, so that there is no limit",
             ),
             Cause::NoPort => CauseText::with_advice(
-                "every number that may replace it is in use at this external address",
+                "every external number to which the packet's number may be mapped is in use at this external address",
                 "the pool is too small: add an address",
             ),
         }
