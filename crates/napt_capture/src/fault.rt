@@ -38,7 +38,7 @@ pub enum CaptureFault {
     /// A read failed.
     #[error("the capture could not be read")]
     Read,
-    /// An allocation failed.
+    /// Memory was refused.
     #[error("there is not enough memory for the capture")]
     Memory,
 }

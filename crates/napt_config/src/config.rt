@@ -326,7 +326,7 @@ fn place_in(pool: &[u32], address: u32) -> Option<usize>
     pool.iter().position(|other| *other == address)
 }
 
-/// Parses a TOML text. Fails with `NotToml`, or with `Memory` if memory runs out.
+/// Parses a TOML text. Fails with `NotToml`, or with `Memory` if memory is refused.
 fn table_of(alloc: Global, text: &str, place: &mut ConfigPlace) -> Result<Table, ConfigFault>
     ensures { MakePost table_view result (ok_or (parse_document text.now) NotToml) }
 {

@@ -58,7 +58,7 @@ impl ConfigPlace {
         self.field = None;
     }
 
-    /// Stays at an unknown key. Its name is left out if memory runs out.
+    /// Stays at an unknown key. Its name is left out if memory is refused.
     pub(crate) fn at_unknown(&mut self, alloc: Global, name: &str) {
         self.own = String::from_str(alloc, name).ok();
     }

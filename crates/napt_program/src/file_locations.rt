@@ -77,8 +77,8 @@ fn lost_file_with_new<R: Files>(
     output_named_again(&locations_of(rt, options, new))
 }
 
-/// Returns whether the log is a file that another option also names, or a standard stream. Fails if
-/// memory is refused, which is only needed if a state is saved.
+/// Returns whether the log is a file that another option also names, or a standard stream. Fails
+/// only if memory is refused, which is needed only if a state is saved.
 pub fn is_log_lost<R: Files>(
     rt: &R,
     alloc: Global,

@@ -8,9 +8,10 @@ pub fn merge_is_in_order()
     ensures { MergeIsInOrder }
 {}
 
-/// Law: merging returns a prefix of the merged list, and all of it if there is no fault. A fault is
-/// that of the capture of its side, and comes after the shortest prefix that has all records of
-/// that side. If both captures have a fault next, that of the inside capture is reported.
+/// Law: merging returns a prefix of the merged list, and the whole list if there is no fault. A
+/// fault of merging is the fault of the capture of one side, and is returned after the shortest
+/// prefix that has all records of that side. If both captures have a fault next, the fault of the
+/// inside capture is returned.
 pub fn merge_until_fault()
     ensures front { MergesFront }
     ensures whole { MergesWhole }

@@ -22,7 +22,8 @@ pub struct CutFlags {
     pub outside: bool,
 }
 
-/// Removes and returns the earlier of two records with its side; on a tie, the inside one.
+/// Removes and returns the earlier of two records with its side, or the inside record if both have
+/// the same time.
 #[inline(always)]
 fn take_first(inside: &mut Option<Record>, outside: &mut Option<Record>) -> Option<(Side, Record)>
     ensures { TakesRecord (option_to_list inside.old) (option_to_list outside.old) result
