@@ -32,7 +32,7 @@ WARNING = re.compile(
 # what who and log say of captures that are not of the configuration's numbers
 OTHER_NUMBERS = (
     "explain: the captured gateway used other numbers: {} of {} answers from outside, the first of them packet {}, do not reach the host "
-    "that asked for them (--as-napt answers from the run of napt)\n"
+    "that asked for them (to answer from the run of napt, give --as-napt)\n"
 )
 
 

@@ -152,8 +152,8 @@ fn print_without_outside<R: Files + Input + Print + Eprint + AllocGlobal>(
     if is_log || config.block().is_none() {
         let command = if is_log { "log" } else { "who" };
         let _ = eprintln!(rt;
-            "explain: {command} answers from the run that napt makes: give the packets from outside, too (--outside), which show \
-whether the gateway used the same numbers, or give --as-napt"
+            "explain: {command} answers from a run of napt: to check that the gateway used the same numbers, also give the packets \
+from outside (--outside); to answer without this check, give --as-napt"
         );
         return Err(Exit::Printed(Stop::Usage));
     }

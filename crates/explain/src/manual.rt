@@ -12,8 +12,8 @@ macro_rules! manual {
             name: $name,
             about: ABOUT,
             notes: concat!(
-                "If no command is named, it is show: it accepts the arguments of napt unchanged, and writes no output of napt.
-A FILE that is read, except that of --resume, may be - for standard input; a file of that name is ./-
+                "The default command is show. It accepts the arguments of napt unchanged, but writes none of napt's outputs.
+A FILE that is read, except that of --resume, may be - for standard input. For a file named -, write ./-.
 
 Examples:
   ", $name, " --config napt.toml --inside inside.pcap --outside outside.pcap --dropped

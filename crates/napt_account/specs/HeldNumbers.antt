@@ -11,7 +11,7 @@ AreEntriesApart timers earlier later = earlier.binding.protocol ≡ later.bindin
     earlier.binding.external ≡ later.binding.external → earlier.binding.inside ≢ later.binding.inside →
     is_before (hold_ago timers later.made) earlier.end ≡ false
 
--- The same holds of any two entries, in the order in which they were made.
+-- Any two entries, in the order in which they were made, are apart in this way.
 abbrev pub EntriesStayApart : Timers → List Entry → Type 0
 EntriesStayApart timers [] = Unit {0}
 EntriesStayApart timers (first ∷ rest) = Each (AreEntriesApart timers first) rest × EntriesStayApart timers rest

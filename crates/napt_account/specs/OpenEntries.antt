@@ -79,7 +79,8 @@ pub record IsIndexed (all : OpenEntries) : Type 0 where
   pub placed : (x : EntryKey) (o : OpenEntry) → open_at all x ≡ Some o → IsPlaced x o
   pub queued : (due : DueEntry) → is_queued all due ≡ entry_is_at (due_at all due.key) due.at
 
--- The same holds except for one endpoint, which the queue has at another time, in ns.
+-- Each entry is stored at its own endpoint, and the queue has exactly the times of the entries that have one, except
+-- that it has the endpoint `key` at the time `at`, in ns, if any.
 pub record IsIndexedExcept (key : EntryKey) (at : Option ℕ) (all : OpenEntries) : Type 0 where
   pub placed : (x : EntryKey) (o : OpenEntry) → open_at all x ≡ Some o → IsPlaced x o
   pub queued : (due : DueEntry) → is_queued all due

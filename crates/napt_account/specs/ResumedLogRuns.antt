@@ -25,7 +25,7 @@ abbrev pub LogsGoOn : Type 0
 LogsGoOn = (rules : Rules) (state : State) (log : LogModel) → IsNumbered log → (first rest : List Arrival) →
     LogGoesOn rules state (next_state rules state first) log first rest
 
--- The same holds from the state after it was saved and read.
+-- If the state after the first inputs was saved and read, the log of a run from there goes on in the same way.
 abbrev pub SavedLogsGoOn : Type 0
 SavedLogsGoOn = (rules : Rules) → RulesInvariant rules → (state saved : State) → TakesState rules state →
     (log : LogModel) →

@@ -83,7 +83,8 @@ impl Account {
         }
     }
 
-    /// Returns whether its number is in 1..=`made`, it was made by `clock` (ns), and may be saved.
+    /// Returns whether the number of the account is in 1..=`made`, the binding was made by `clock`
+    /// (ns), and the counts of packets are small enough to be saved.
     fn is_within(self, made: u64, clock: u64) -> bool
         ensures { result ≡ starts.is_account made clock self }
     {
@@ -103,7 +104,8 @@ impl SavedLogState {
         }
     }
 
-    /// Returns whether no binding of a state has an account, but one other than a redirect is live.
+    /// Returns whether a binding of the state other than a redirect is live, but no binding has an
+    /// account.
     pub fn lacks_all(&self, config: &Config, state: &State) -> bool {
         let (timers, now) = (config.timers(), u128::from(state.clock));
         let mut lives = false;
@@ -125,7 +127,8 @@ impl SavedLogState {
 
     /// Returns whether a run with a log can start with it: the entries and the packets of each are
     /// at most 2^61, each number is one of the log's, each binding was made by the clock, and no
-    /// two share a number or an external endpoint. Takes linear time. Fails if memory is refused.
+    /// two share a number or an external endpoint. Takes linear time. Fails only if memory is
+    /// refused.
     pub fn is_valid(&self, alloc: Global, state: &State) -> Result<bool, AllocError>
         ensures { IfOk result (λ is. is ≡ starts.is_saved_log_state state.now self.now) }
     {

@@ -157,7 +157,8 @@ fn without_numbers(alloc: Global, numbered: &[LogEntry]) -> Result<Vec<Entry>, A
     numbered.iter().map(|one| one.entry).collect(alloc)
 }
 
-/// Law: the log of a run follows from the effects of its inputs; each is possible when it comes.
+/// Law: the log of a run follows from the effects of its inputs, and each of these effects is
+/// possible when its input arrives.
 pub fn effects_are_the_log()
     ensures log { EffectsAreTheLog }
     ensures come { EffectsCome }
@@ -195,9 +196,10 @@ pub fn ended_entries_stay()
     ensures { EndedEntriesStay }
 {}
 
-/// Law: a run from a state, with the open entries of the log there, adds to the log with each input
-/// what the run over all inputs adds, and ends with the same open entries, also if the state was
-/// saved and read. These entries are those of the live bindings of the state at the end.
+/// Law: a run that starts from a state, with the open entries of the log there, adds to the log
+/// with each input what the run over all inputs adds, and ends with the same open entries. This
+/// also holds if the state was saved and read. The open entries at the end are those of the
+/// bindings that are live in the last state.
 pub fn logs_go_on()
     ensures go_on { LogsGoOn }
     ensures saved { SavedLogsGoOn }

@@ -22,7 +22,8 @@ pub struct AnswerBasis<'a> {
     pub entries: &'a [Entry],
     /// The time of the last packet, in ns.
     pub last: u64,
-    /// The greatest step back in time, in ns, by which a packet may have arrived after its time.
+    /// The greatest step back in time between packets, in ns. A packet may have arrived this much
+    /// later than its own time.
     pub later: u64,
     /// The configuration of the run, if it is known.
     pub config: Option<&'a Config>,

@@ -23,7 +23,7 @@ impl AddressCounts {
         }
     }
 
-    /// Makes room for one more address, and changes no count. Fails if memory is refused.
+    /// Makes room for one more address, and changes no count. Fails only if memory is refused.
     pub fn reserve(&mut self) -> Result<(), AllocError>
         ensures counts { (address : ℕ) → count_at self.new address ≡ count_at self.old address }
         ensures room { OnOk result (0 < room_of self.new) }

@@ -36,7 +36,8 @@ enum FlowStore {
     Mapped(Box<FlowMaps>),
 }
 
-/// The flows of one binding, oldest first, no two of one remote endpoint. Contracts see a list.
+/// The flows of one binding, oldest first. No two have the same remote endpoint. Contracts see a
+/// list.
 #[derive(Drop)]
 pub struct Flows {
     kept: FlowStore,
@@ -181,7 +182,8 @@ impl Flows {
         }
     }
 
-    /// Creates the flows from a list, oldest first, one of each remote. Fails if memory is refused.
+    /// Creates the flows from a list, oldest first, one of each remote. Fails only if memory is
+    /// refused.
     pub fn from_flows(alloc: Global, flows: &[Flow]) -> Result<Flows, AllocError>
         requires { AreDistinct flows.now }
         ensures { IfOk result (λ made. made ≡ flows.now) }
@@ -208,7 +210,8 @@ impl Flows {
         }
     }
 
-    /// Copies the flows of a protocol live at `now` (ns), in order. Fails if memory is refused.
+    /// Copies the flows of a protocol live at `now` (ns), in order. Fails only if memory is
+    /// refused.
     #[tactic(auto, using(crate::proofs::DistinctFlows::distinct_live))]
     pub fn live(
         &self,
@@ -241,7 +244,8 @@ impl Flows {
         })
     }
 
-    /// Returns the last time (ns) at which a TCP flow lives, at most 2^64 - 1. One must at `now`.
+    /// Returns the last time (ns) at which a TCP flow is live, or 2^64 - 1 if that is earlier. At
+    /// least one flow must be live at `now`.
     pub(crate) fn last_moment(&self, timers: IdleTimers, now: u64) -> u64
         requires live { list_any (life.is_live_flow timers now) self.now ≡ true }
         ensures later { now ≤ result }

@@ -75,8 +75,9 @@ pub(crate) fn is_standing(flow: &Flow, timers: IdleTimers, now: u64, protocol: P
     }
 }
 
-/// Returns whether a binding is live at `now` (ns): it is a redirect, or it or (for TCP) a flow was
-/// used less than its timer ago (RFC 4787 REQ-5 and REQ-6; RFC 5508 REQ-2; RFC 5382 REQ-5).
+/// Returns whether a binding is live at `now` (ns): whether it is a redirect, or was used less than
+/// its timer ago, or for TCP, one of its flows was used less than the timer of the flow ago (RFC
+/// 4787 REQ-5 and REQ-6; RFC 5508 REQ-2; RFC 5382 REQ-5).
 #[inline(always)]
 pub fn is_live(binding: &TableBinding, timers: IdleTimers, now: u64) -> bool
     ensures { result ≡ life.is_live timers now binding.now }
@@ -107,8 +108,8 @@ pub fn end_of(binding: &TableBinding, timers: IdleTimers) -> Option<u128>
     Some(end)
 }
 
-/// Returns a time (ns) from `now` on up to which a live binding lives, whatever packets come, but
-/// not after a packet at `now` would let it live: the last such time, except for a redirect.
+/// Returns the last time (ns), at or after `now`, at which the binding is certain to be live
+/// whatever packets come. The binding must be live at `now`. For a redirect, returns `now`.
 pub fn live_until(binding: &TableBinding, timers: IdleTimers, now: u64) -> u64
     requires live { life.is_live timers now binding.now ≡ true }
     ensures later { now ≤ result }

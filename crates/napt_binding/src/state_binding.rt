@@ -34,7 +34,8 @@ fn is_live(binding: &StateBinding, timers: IdleTimers, now: u64) -> bool
     }
 }
 
-/// Returns the binding without expired flows if live at `now` (ns). Fails if memory is refused.
+/// Returns the binding, without its expired flows, if it is live at `now` (ns). Fails only if
+/// memory is refused.
 pub fn from_state(
     alloc: Global,
     binding: &StateBinding,
@@ -57,7 +58,8 @@ pub fn from_state(
     }))
 }
 
-/// Returns the state's binding without flows expired at `now` (ns). Fails if memory is refused.
+/// Returns the binding of a state without the flows that have expired at `now` (ns). Fails only if
+/// memory is refused.
 pub fn to_state(
     alloc: Global,
     binding: &TableBinding,

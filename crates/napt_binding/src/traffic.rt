@@ -66,7 +66,7 @@ fn permits(binding: &TableBinding, inbound: InboundRules, remote: Endpoint) -> b
 
 /// Sends a packet of the binding's protocol out through the binding. A redirect does not change.
 /// Expired flows may remain and have no effect. No flow may have been used after the packet's
-/// time. Returns `AllocError`, and changes nothing, if memory for a new flow is refused.
+/// time. Fails only if memory for a new flow is refused; the binding is then unchanged.
 pub fn send(
     binding: &mut TableBinding,
     alloc: Global,

@@ -11,7 +11,7 @@ IsReadResult (Err Read) fact = ⊤
 IsReadResult (Err Memory) fact = ⊤
 IsReadResult _ fact = fact
 
--- The same for a fault.
+-- The fact holds, unless the fault is that the device or an allocation failed.
 abbrev pub IsReadFault : CaptureFault → Type 0 → Type 0
 IsReadFault Read fact = ⊤
 IsReadFault Memory fact = ⊤

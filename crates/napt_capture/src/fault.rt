@@ -9,15 +9,16 @@ use std::alloc::{AllocError, AllocFailed};
 use std::{error, fmt};
 use thiserror::Error;
 
-/// Why a capture cannot be read: its first fault. Records are numbered from 1. The fraction of a
-/// record is checked before its length, and both before its bytes, which may be cut off.
+/// Why a capture cannot be read: its first fault. Records are numbered from 1. The fraction in the
+/// time of a record is checked before the length of the record. Both are checked before the bytes
+/// are read, which may be cut off.
 #[derive(Clone, Copy, Debug, PartialEq, Eq, Error)]
 pub enum CaptureFault {
     /// The file has fewer than 24 bytes.
     #[error("the file is shorter than the 24 bytes of a capture's header")]
     NoHeader,
-    /// The first four bytes are none of the four known magics.
-    #[error("the file does not begin as a capture of microseconds or nanoseconds does")]
+    /// The first four bytes are none of the four known magic numbers.
+    #[error("the file does not begin with a pcap magic number (microseconds or nanoseconds)")]
     BadMagic,
     /// The version is not 2.4.
     #[error("the capture is not of version 2.4")]
@@ -25,8 +26,8 @@ pub enum CaptureFault {
     /// The link type is neither 101 (raw IP) nor 228 (raw IPv4).
     #[error("the capture's link type is neither 101 (raw IP) nor 228 (raw IPv4)")]
     BadLink,
-    /// The fraction in the time of this record is a second or more.
-    #[error("the time of record {0} has a fraction of a second or more")]
+    /// The fraction in the time of this record is a whole second or more.
+    #[error("the fraction in the time of record {0} is a whole second or more")]
     BadFraction(u64),
     /// The captured length of this record exceeds [`LARGEST_RECORD`].
     #[error("record {0} has more than {limit} bytes", limit = LARGEST_RECORD)]
@@ -37,7 +38,7 @@ pub enum CaptureFault {
     /// A read failed.
     #[error("the capture could not be read")]
     Read,
-    /// An allocation failed.
+    /// Memory was refused.
     #[error("there is not enough memory for the capture")]
     Memory,
 }

@@ -4,17 +4,17 @@ ghost use Rattle.std.specs.Prelude.{◌≡◌, ◌<◌};
 use crate::device::{DeviceFault, Sink, Source};
 use http_server::Log;
 
-/// What goes wrong in the call of the plan.
+/// What goes wrong in the call that a [`FaultPlan`] names.
 #[derive(Clone, Copy, Debug, PartialEq, Eq)]
 pub enum InjectedFault {
     /// The call fails.
     Fails,
-    /// The call returns 0: a read as at the end, a write as without room. A flush returns no
-    /// number, and succeeds.
+    /// A read returns 0, as at the end of the data. A write returns 0, as if there were no room. A
+    /// flush succeeds, since it returns no number.
     TakesNone,
 }
 
-/// The limits and the fault of a [`Faulty`] device from here on.
+/// The limit and the fault of the following calls of a [`Faulty`] device.
 #[derive(Clone, Copy, Debug, PartialEq, Eq)]
 pub struct FaultPlan {
     /// The largest number of bytes that a read or a write moves. It is not 0.
@@ -31,7 +31,7 @@ pub struct FaultPlan {
 pub struct Faulty<D> {
     device: D,
     plan: FaultPlan,
-    /// An entry for each call of its own that failed. It takes no memory: only proofs read it.
+    /// An entry for each call that failed by the plan. It takes no memory: only proofs read it.
     failures: Log<u64, u64>,
     ghost moves_bytes: { 0 < plan.most },
 }
@@ -39,7 +39,7 @@ pub struct Faulty<D> {
 impl<D> Faulty<D> {
     ghost use Rattle.napt_capture.specs.FaultyDevices.{device_of, plan_of, own_failed, fault_of_plan, after_a_call};
 
-    /// Wraps a device that follows the plan from here on.
+    /// Wraps a device, whose following calls obey the plan.
     pub fn new(device: D, plan: FaultPlan) -> Self
         requires { 0 < plan.most }
         ensures device { device_of result ≡ device }

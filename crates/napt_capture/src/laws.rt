@@ -4,7 +4,8 @@ ghost use Rattle.napt_capture.specs.declared.{fault.CaptureFault.{CaptureFault, 
 ghost use Rattle.napt_capture.specs.{declared.reading.NextRead.TheVariants.{Whole, End}, Contents.RecordModel};
 ghost use Rattle.napt_capture.specs.{Capture.{capture_of_bytes, contents_by, records_from, next_in, number_behind, read_whole}, Text.{IsWritable, as_written, text}};
 
-/// Law: the records of a text are the next one, followed by the records of the bytes after it.
+/// Law: the records in some bytes are the next record, followed by the records in the bytes after
+/// it. At the end or at a fault there are none.
 pub fn records_follow()
     ensures record { (s : CaptureFormat) (number : ℕ) (text : List ℕ) (entry : RecordModel) →
         next_in s number text ≡ Ok (Whole entry) → records_from s number 0 text ≡ record {
@@ -20,8 +21,9 @@ pub fn records_follow()
         records_from s number 0 text ≡ record { records = []; end = Err fault } }
 {}
 
-/// Law: what is written reads back, uncut, with the same times and bytes, and the length of each as
-/// its original length. It reads whole up to 68,719,476,720 bytes, where the end can be asked for.
+/// Law: a written capture is read back with the same times and bytes. The original length of each
+/// record is the length of its packet, and no record is cut. `read_capture` reads a capture of up
+/// to 68,719,476,720 bytes completely, since it can then still ask for the end.
 pub fn reads_back()
     ensures captured { (records : List RecordModel) → All IsWritable records →
         capture_of_bytes (text records) ≡ record {
@@ -33,7 +35,8 @@ pub fn reads_back()
         → read_whole (text records) ≡ Ok (record { records = map as_written records; cut = false }) }
 {}
 
-/// Law: no file of at most 68,719,214,576 bytes is `TooLarge`, and no file read by records is.
+/// Law: no file of at most 68,719,214,576 bytes is `TooLarge`, and no file that is read record by
+/// record is `TooLarge`.
 pub fn none_too_large()
     ensures whole { (bytes : List ℕ) → length bytes ≤ 68719214576 →
         read_whole bytes ≡ contents_by (capture_of_bytes bytes).records (capture_of_bytes bytes).end }

@@ -7,7 +7,8 @@ use crate::device::{DeviceFault, Source};
 use std::alloc::{AllocError, Global};
 use std::marker::Model;
 
-/// How many bytes of a capture are read ahead at most: more than a record and its header have.
+/// The largest number of bytes of a capture that are read ahead, which is more than a record with
+/// its header can have.
 pub const READ_AHEAD_BYTES: usize = 1_048_576;
 
 /// The bytes read from a source and not yet consumed: at most 1,048,576.

@@ -68,8 +68,9 @@ impl RecordReader {
     /// reused. The source is asked only while the buffer has no whole record, for as much as fits.
     ///
     /// Returns `BadFraction` or `TooLong` for the header of the record, `Read` if and only if a
-    /// read failed, and `Memory` if `vector` could not grow. After the end or a fault nothing is
-    /// lost: a later call continues there, and returns the end or the header's fault again.
+    /// read failed, and `Memory` if `vector` could not grow. After the end or a
+    /// fault, the unread bytes are kept: a later call continues there, and returns the end or the
+    /// header's fault again.
     #[inline(always)]
     pub fn next<R: Source>(
         &mut self,

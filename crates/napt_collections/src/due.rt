@@ -42,7 +42,7 @@ impl<T: Ord + Copy> Due<T> {
         }
     }
 
-    /// Reserves capacity for one more entry, or returns `AllocError` if memory is refused.
+    /// Reserves capacity for one more entry. Fails only if memory is refused.
     pub fn reserve(&mut self) -> Result<(), AllocError>
         ensures entries { self.new.entries ≡ self.old.entries }
         ensures room { OnOk result (0 < self.new.room) }

@@ -36,7 +36,8 @@ pub(crate) fn first_clear_of(words: &[u64], from: usize) -> Option<usize>
     None
 }
 
-/// Does the same for 1024 words. The bits of `full` let it skip full words after the first one.
+/// Returns the first clear bit of 1024 words from bit `from` on, counted over all words. Each set
+/// bit of `full` marks a full word, so that full words after the first one are skipped.
 pub(crate) fn first_clear_over(words: &[u64], full: &[u64], from: usize) -> Option<usize>
     requires marked { MarksFullWords words.now full.now }
     requires within { from < 65536 }

@@ -83,12 +83,14 @@ impl LossCounts {
         self.no_binding.saturating_add(self.not_ours)
     }
 
-    /// Returns whether more than a fifth of those from outside, and more than one, are unmet.
+    /// Returns whether more than one packet, and more than a fifth of those from outside, found no
+    /// binding or were not for the gateway.
     pub fn exceeds_fifth_unmet(&self) -> bool {
         self.unmet() > self.all / 5 && self.unmet() > 1
     }
 
-    /// Returns whether more than a fifth from outside, and more than one, found no binding.
+    /// Returns whether more than one packet, and more than a fifth of those from outside, found no
+    /// binding.
     pub fn exceeds_fifth_unbound(&self) -> bool
         ensures { (result ≡ true)
             ↔ ((self.now.all / 5 < self.now.no_binding) × (1 < self.now.no_binding)) }
@@ -96,8 +98,8 @@ impl LossCounts {
         self.no_binding > self.all / 5 && self.no_binding > 1
     }
 
-    /// Returns whether no packet from inside comes from an inside address, and more than half of
-    /// those from outside do.
+    /// Returns whether no packet of the inside capture has an inside address as its source, but
+    /// more than half of the packets of the outside capture do.
     pub fn are_swapped(&self) -> bool {
         self.inside > 0 && self.from_hosts == 0 && self.from_inside > self.all / 2
     }

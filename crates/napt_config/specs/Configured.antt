@@ -19,11 +19,11 @@ abbrev pub only_keys : List (List ℕ) → Members → Bool
 only_keys names no_members = true
 only_keys names (member key value rest) = list_any (λ name. bytes_eq name key) names && only_keys names rest
 
--- The same of the table in a value; a value of another kind has no keys.
+-- Returns whether each key of the table in a value is one of the names. A value of another type has no keys.
 abbrev pub only_keys_in : List (List ℕ) → Data → Bool
 only_keys_in names value = option_map_or (only_keys names) (as_table value) true
 
--- The same of each table in a list.
+-- Returns whether each key of each table in a list is one of the names.
 abbrev pub only_keys_in_each : List (List ℕ) → Items → Bool
 only_keys_in_each names no_items = true
 only_keys_in_each names (item entry rest) = only_keys_in names entry && only_keys_in_each names rest
@@ -42,11 +42,12 @@ pair_keys = codes "host" ∷ codes "external" ∷ []
 abbrev pub redirect_keys : List (List ℕ)
 redirect_keys = codes "protocol" ∷ codes "inside" ∷ codes "external" ∷ []
 
--- The same of each table in the list in a value; a value of another kind has no keys.
+-- Returns whether each key of each table in the array in a value is one of the names. A value of another type has no
+-- keys.
 abbrev pub only_keys_in_list : List (List ℕ) → Data → Bool
 only_keys_in_list names value = option_map_or (only_keys_in_each names) (as_array value) true
 
--- The same of the value at a key, if the key is present.
+-- Returns whether `knows` is true of the value at a key. An absent key has only known keys.
 abbrev pub knows_at : List ℕ → (Data → Bool) → Members → Bool
 knows_at key knows table = option_map_or knows (get_member key table) true
 

@@ -58,7 +58,7 @@ impl Config {
     ghost use Rattle.napt_config.specs.Configured.{configured, configuration_of, built_in};
 
     /// Reads the text of a configuration. Returns the configuration, or the fault of the first rule
-    /// that the text breaks, or `ConfigFault::Memory` if memory runs out before that. A text that
+    /// that the text breaks, or `ConfigFault::Memory` if memory is refused before that. A text that
     /// is not UTF-8 is refused before any memory is allocated.
     pub fn read(alloc: Global, text: &[u8]) -> Result<Config, ConfigFault>
         ensures exact { MakePost (λ config. config) result (configuration_of text.now) }
@@ -68,7 +68,8 @@ impl Config {
         Config::read_at(alloc, text, &mut ConfigPlace::new())
     }
 
-    /// Does what `read` does. After a fault, the place is that of the rule which the text breaks.
+    /// Reads the text of a configuration, as `read` does. After a fault, the place is that of the
+    /// rule that the text breaks.
     #[tactic(auto, unfolding(crate::specs::Configured::configuration_of))]
     pub fn read_at(
         alloc: Global,
@@ -130,7 +131,7 @@ impl Config {
     }
 
     /// Returns the configuration that is used without a text: the pool is 203.0.113.1, the private
-    /// networks of RFC 1918 are inside, and all else has its default.
+    /// networks of RFC 1918 are inside, and every other key has its default.
     #[tactic(auto, unfolding(crate::specs::Rules::block_in))]
     pub fn built_in(alloc: Global) -> Result<Config, AllocError>
         ensures exact { IfOk result (λ config. config ≡ built_in) }
@@ -153,7 +154,7 @@ impl Config {
         })
     }
 
-    /// Returns an equal configuration, or an error if memory runs out.
+    /// Returns an equal configuration. Fails only if memory is refused.
     pub fn copy(&self, alloc: Global) -> Result<Config, AllocError>
         ensures { IfOk result (λ config. config ≡ self.now) }
     {
@@ -172,10 +173,14 @@ impl Config {
         })
     }
 
-    /// Returns the external address of a host (RFC 4787, section 4.1, "paired" pooling): that of
-    /// its `pair` entry, or else the pool's address at the host's number modulo the pool's size;
-    /// with blocks, at the inside host's index modulo that size. Takes no memory, and time
-    /// logarithmic in the number of entries or linear in that of prefixes.
+    /// Returns the external address of a host (RFC 4787, section 4.1, "paired" pooling):
+    ///
+    /// - with a `pair` entry for the host, the address in that entry;
+    /// - with blocks, the pool address at the inside host's index modulo the pool's size;
+    /// - otherwise, the pool address at the host's address, as a number, modulo the pool's size.
+    ///
+    /// Takes no memory. The time is logarithmic in the number of `pair` entries or, with blocks,
+    /// linear in the number of prefixes.
     pub fn pair(&self, host: u32) -> u32
         ensures address { result ≡ pair_of self.now host }
         ensures in_pool { IsSome (pool_place self.now result) }
@@ -185,9 +190,12 @@ impl Config {
     }
 
     /// Returns the block of an inside host (RFC 7422, section 2): the numbers of its external
-    /// address that it has for itself, for each protocol; `None` if hosts have no blocks. A host's
-    /// index is its place among the addresses of the prefixes, prefix after prefix, from 0. The
-    /// hosts of one address have their blocks in ascending order of the index, from 1024 on.
+    /// address that are reserved for the host, in each protocol. Returns `None` if hosts have no
+    /// blocks.
+    ///
+    /// The index of a host is its position, from 0, among the addresses of all inside prefixes in
+    /// their order. At each external address, the blocks begin at 1024 and are in ascending order
+    /// of the index.
     pub fn block_of(&self, host: u32) -> Option<PortBlock>
         ensures block { result ≡ block_of self.now host }
         ensures kept { RulesInvariant self.now }
@@ -318,7 +326,7 @@ fn place_in(pool: &[u32], address: u32) -> Option<usize>
     pool.iter().position(|other| *other == address)
 }
 
-/// Parses a TOML text. Fails with `NotToml`, or with `Memory` if memory runs out.
+/// Parses a TOML text. Fails with `NotToml`, or with `Memory` if memory is refused.
 fn table_of(alloc: Global, text: &str, place: &mut ConfigPlace) -> Result<Table, ConfigFault>
     ensures { MakePost table_view result (ok_or (parse_document text.now) NotToml) }
 {

@@ -18,22 +18,22 @@ pub enum ConfigFault {
     /// A required key is absent, or its list is empty.
     #[error("expected `pool` and `inside` with at least one entry each, a `seed` with random `numbers`, `host` and `external` in each `pair`, and `protocol`, `inside` and `external` in each `redirect`")]
     Missing,
-    /// A value is not of the kind that its key asks for.
-    #[error("expected a value of another kind: a text, a whole number, a list or a table, as its key asks for")]
+    /// A value is not of the type that its key takes.
+    #[error("wrong type: the key takes a string, an integer, an array or a table")]
     BadShape,
-    /// A list has too many entries.
+    /// An array has too many entries.
     #[error("expected at most 16 entries in `pool` and in `inside`, and at most 256 of `pair` and of `redirect`")]
     TooMany,
-    /// A text is not an address, or not a transport address.
-    #[error("expected an IPv4 address, as `203.0.113.1`, or in a `redirect` an endpoint, as `10.0.0.3:7000`, without leading zeros")]
+    /// A string is not an IPv4 address, or in a `redirect` not an address and a port.
+    #[error("expected an IPv4 address, such as `203.0.113.1`, or in a `redirect` an address and a port, such as `10.0.0.3:7000`, without leading zeros")]
     BadAddress,
-    /// A text is not a prefix, or has bits set past its length.
-    #[error("expected an IPv4 prefix, as `10.0.0.0/8`, whose bits past its length are 0")]
+    /// A string is not a prefix, or a bit past the prefix length is set.
+    #[error("expected an IPv4 prefix, such as `10.0.0.0/8`, whose bits past the prefix length are 0")]
     BadPrefix,
     /// A number is out of range, or the size of a block is odd.
     #[error("expected a timer or a `hold` of 0 to 1000000000 seconds, a `ring` of 1 to 4096, a `quota` of 1 to 65535, an even `block` of 64 to 32256, or an `external` port of 1 to 65535")]
     BadNumber,
-    /// A text is not a word that its key allows.
+    /// A string is not one of the values that its key takes.
     #[error("expected `independent`, `address` or `address-port` as `filter`, `outbound` or `both` as `refresh`, `kept` or `free` as `parity`, `preserved` or `random` as `numbers`, or `udp` or `tcp` as `protocol`")]
     BadWord,
     /// A text is not a seed of 32 hexadecimal digits.

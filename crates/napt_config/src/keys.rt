@@ -54,7 +54,8 @@ fn only_keys_in_each(
     true
 }
 
-/// Returns the same of each table in the list in a value; other values have no keys.
+/// Returns whether each table in an array has only keys with these names. Other values have no
+/// keys.
 fn only_keys_in_list(alloc: Global, value: &Value, names: &[&str], place: &mut ConfigPlace) -> bool
     ensures { result ≡ only_keys_in_list (map (λ name. name.now) names.now) (view value.now) }
 {

@@ -25,7 +25,8 @@ fn pair_by_index(inside: &[Prefix], pool: &[u32], host: u32) -> u32
     }
 }
 
-/// Returns the external address of a host without a block: its entry's, or else the pool's.
+/// Returns the external address of a host without a block: the address in its `pair` entry or, if
+/// it has none, the pool address at the host's address, as a number, modulo the pool's size.
 fn pair_by_entry(pool: &[u32], pairs: &BTreeMap<u32, u32>, host: u32) -> u32
     requires some { 1 ≤ length pool.now }
     ensures { result ≡ unwrap_or (paired_with pairs.now.entries host)

@@ -58,12 +58,12 @@ impl ConfigPlace {
         self.field = None;
     }
 
-    /// Stays at an unknown key. Its name is left out if memory runs out.
+    /// Stays at an unknown key. Its name is left out if memory is refused.
     pub(crate) fn at_unknown(&mut self, alloc: Global, name: &str) {
         self.own = String::from_str(alloc, name).ok();
     }
 
-    /// Stays where a text is not TOML. The parser's message is left out if memory runs out.
+    /// Stays where a text is not TOML. The parser's message is left out if memory is refused.
     pub(crate) fn at_syntax(&mut self, alloc: Global, text: &str, error: &Error) {
         self.own = String::from_str(alloc, error.message()).ok();
         if let Some(span) = error.span() {

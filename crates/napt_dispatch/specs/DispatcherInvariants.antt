@@ -183,7 +183,7 @@ IsSecondOf {P} number input later (Some leg) = (first : P)
     × (later ≡ record input { progress = Returning first; has_place = false })
     × (second_leg_asked number input.progress ≡ Some leg) × (first_in input.progress ≡ Some first)
 
--- The same holds of an input that is given by its number and has this second leg.
+-- The second leg of the input with this number was removed, and its placeholder's mark is cleared.
 pub record ReturnsSecondLeg {P : Type 0} (number : ℕ) (window later : RunProgressModel P) (leg : Leg) : Type 0 where
   pub asks : AsksForSecondLeg number (progress_in window) (Some leg)
   pub first : P
@@ -254,7 +254,8 @@ pub record MovesLegs (q later : WorkerQueueModel) : Type 0 where
   pub count_stays : held_legs_count later ≡ held_legs_count q
   pub shorter : length later.held ≤ length q.held
 
--- The same holds of the queues of worker w, and the queues of the others did not change.
+-- In the queues of worker w, legs that were held first moved to the end of the next message. The queues of the other
+-- workers did not change.
 pub record MovesLegsAt (w : ℕ) (queues later : List WorkerQueueModel) : Type 0 where
   pub queue : WorkerQueueModel
   pub moves : MovesLegs (queue_of queues w) queue

@@ -152,7 +152,7 @@ whole_of tells rules start inputs = record {
   firsts = map (λ trace. tells trace.first) (traces_of rules start inputs);
 }
 
--- Returns the second leg that an answer requires: one if the packet goes onward (RFC 4787, REQ-9), otherwise none.
+-- Returns the second leg that an answer requires: one if it ends with `Onward` (RFC 4787, REQ-9), and otherwise none.
 abbrev pub second_leg_asked_by : ℕ → ℕ → End → Option Leg
 second_leg_asked_by number now (ends.Onward place packet) =
     Some (record { number = number; now = now; way = Incoming; packet = packet })

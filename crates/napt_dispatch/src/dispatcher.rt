@@ -1,9 +1,9 @@
 //! The dispatcher offers the legs of all inputs to the workers and takes their answers.
 //!
 //! Each worker has a queue of the legs that are not offered yet, in input order. An outgoing packet
-//! to an external address has a second leg at that address's worker if the first leg's answer is
-//! onward (RFC 4787, REQ-9). As soon as the input is read, a placeholder for the second leg enters
-//! that worker's queue. Only the entries that follow it there wait for that answer.
+//! to an external address has a second leg at that address's worker if the first leg's answer ends
+//! with `End::Onward` (RFC 4787, REQ-9). As soon as the input is read, a placeholder for the second
+//! leg enters that worker's queue. Only the entries that follow it there wait for that answer.
 ghost use Rattle.std.specs.Prelude.{◌≡◌, ◌<◌, ◌^◌, [], length, map, replicate, IfOk, IfErr, OnOk, OnErr};
 ghost use Rattle.napt_pool.specs.{Pools.{initial_machines, accepted_items, taken_answers, zip_with}, Histories.replies};
 ghost use Rattle.napt_rules.specs.Prelude.{State, initial_state};

@@ -183,7 +183,8 @@ impl RunSummary {
     ghost use Rattle.napt_dispatch.specs.RunsThrough.{LeavesState};
 
     /// Returns the state after the run, or `None` unless `is_saved`: the bindings live or held at
-    /// the last clock, by address in pool order, protocol and number. Fails if memory is refused.
+    /// the last clock, by address in pool order, protocol and number. Fails only if memory is
+    /// refused.
     pub fn into_state_if(self, is_saved: bool, alloc: Global) -> Result<Option<State>, AllocError>
         ensures saved { IfOk result (λ state. is_some state ≡ is_saved) }
         ensures state { (rules : Rules) (state : State) → LeavesState rules state self →
@@ -240,14 +241,16 @@ fn result_of<P: LegTrace>(
     })
 }
 
-/// Runs the inputs that `arrivals` supplies until their end or a fault, as `run_workers` does, from
-/// a state that the configuration accepts: its redirects, then the state's other bindings. Outcomes
-/// are written in input order, each once it is known. Stores at most 131,072 inputs, 65,536 legs.
+/// Runs the inputs that `arrivals` supplies until their end or a fault, as `run_workers` does. The
+/// run starts from a state that the configuration accepts: with the configuration's redirects, and
+/// then the other bindings of the state. Outcomes are written to `departures` in input order, each
+/// once it is known. At most 131,072 inputs and 65,536 legs are stored at a time.
 ///
 /// Before a device is read, at the end, and if the source fails, every outcome so far is written
 /// and flushed. The workers are joined before an error is returned. A fault of the run takes
-/// precedence over one of the sink, and that over one of the source. After a fault of the run or
-/// the sink, the written outcomes are the first ones of the run over the inputs that came.
+/// precedence over a fault of the sink, and a fault of the sink over a fault of the source. After a
+/// fault of the run or the sink, the written outcomes are the first ones of the run over the inputs
+/// that were read.
 pub fn run_through<
     R: Threads + Wait + Copy + Send + 'static,
     G: Gate + Send + Sync + Drop + 'static,

@@ -27,12 +27,12 @@ RunsGrow = (rules : Rules) (state : State) (inputs : List Arrival) (input : Arri
     ≡ effect_then course (step rules (length inputs) (max (last_clock state.clock inputs) input.clock) input
     course.list)
 
--- Returns the outcome of an input from the end of its last leg, or none if the end is onward.
+-- Returns the outcome of an input from the end of its last leg, or none if the end is `Onward`.
 abbrev pub outcome_of_end : End → Option Outcome
 outcome_of_end (Onward place packet) = None
 outcome_of_end end = Some (outcome_of end)
 
--- Each leg that does not end onward gives the outcome of its input.
+-- Each leg that does not end with `Onward` gives the outcome of its input.
 abbrev pub OutcomeIsGiven : List Outcome → LegAct → Type 0
 OutcomeIsGiven all a = IfSome (outcome_of_end a.end) (λ outcome. slice_get all a.leg.number ≡ Some outcome)
 
@@ -41,7 +41,7 @@ AnswersGiveOutcomes = (rules : Rules) (state : State) (inputs : List Arrival) �
     let course : RunEffect = effect_from rules state inputs in
     Each (OutcomeIsGiven course.outcomes) course.acts
 
--- A leg that ends onward is outgoing, and its place is that of its packet's destination (RFC 4787, REQ-9).
+-- A leg that ends with `Onward` is outgoing, and its place is that of its packet's destination (RFC 4787, REQ-9).
 pub record IsEndForeseen (rules : Rules) (leg : Leg) (place : ℕ) (packet : List ℕ) : Type 0 where
   pub way : leg.way ≡ Outgoing
   pub served : pool_place rules (destination leg.packet).address ≡ Some place

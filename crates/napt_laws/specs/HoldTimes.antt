@@ -40,7 +40,7 @@ AreHoldersApart timers earlier later = (row earlier.binding).protocol ≡ (row l
     (row earlier.binding).inside ≢ (row later.binding).inside →
     is_live timers (hold_ago timers later.made) earlier.binding ≡ false
 
--- The same holds of any two holders, in the order in which they were made.
+-- Any two holders, in the order in which they were made, are apart in this way.
 abbrev pub HoldersStayApart : Timers → List Holder → Type 0
 HoldersStayApart timers [] = Unit {0}
 HoldersStayApart timers (first ∷ rest) = Each (AreHoldersApart timers first) rest × HoldersStayApart timers rest

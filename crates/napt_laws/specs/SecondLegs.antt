@@ -26,7 +26,7 @@ all_but_first (a ∷ acts) = acts
 abbrev pub second_legs : ℕ → List LegAct → List Leg
 second_legs number acts = map (λ a. a.leg) (all_but_first (acts_of_number number acts))
 
--- Returns the second leg that a first leg with this end requires, which is none unless the end is onward.
+-- Returns the second leg that a first leg with this end requires, which is none unless the end is `Onward`.
 abbrev pub second_of : Leg → End → List Leg
 second_of leg (Onward place packet) = record leg { way = Incoming; packet = packet } ∷ []
 second_of leg _ = []

@@ -7,8 +7,9 @@ ghost use Rattle.napt_rules.specs.Prelude.{TakenStatesAreSound, TakenStatesKeepT
 use crate::steps::{no_host_exceeds_its_quota, opening_is_sound, steps_stay_sound};
 use napt_wire::packets_carry_numbers;
 
-/// Law: a run over two lists of inputs is a run over the first, followed by a run over the second
-/// from the state after the first, or from one that no packet can distinguish from it.
+/// Law: a run over two lists of inputs is a run over the first list, followed by a run over the
+/// second list from the state after the first run, or from a state that no packet can distinguish
+/// from that state.
 pub fn runs_go_on()
     ensures go_on { RunsGoOn }
     ensures gone { GoneBindingsChangeNothing }
@@ -41,9 +42,10 @@ pub fn runs_keep_to_blocks()
     ensures { RunsKeepToBlocks }
 {}
 
-/// Law: the laws of runs from the redirects hold of runs from each state that a configuration
-/// accepts; a host with more bindings than the quota gets no further one. Each binding is that of
-/// an inside host, was not used after the clock, and has at most one flow for each remote.
+/// Law: the laws of runs that start with the redirects also hold of runs from each state that a
+/// configuration accepts, except that a host may have more bindings than the quota there; it then
+/// gets no further one. Each binding is that of an inside host, was not used after the clock, and
+/// has at most one flow for each remote.
 pub fn taken_states_are_kept()
     ensures sound { TakenStatesAreSound }
     ensures blocks { TakenStatesKeepToBlocks }

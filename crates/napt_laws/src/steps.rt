@@ -8,7 +8,8 @@ pub fn opening_is_sound()
     ensures { OpeningIsSound }
 {}
 
-/// Law: a step at one address depends only on its bindings; a purge changes no later purge.
+/// Law: a step at one address depends only on the bindings of that address. A purge does not change
+/// the result of a later purge.
 pub fn steps_are_local()
     ensures purge { PurgeIsLocal }
     ensures later { LaterPurgeCounts }

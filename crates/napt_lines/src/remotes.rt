@@ -69,8 +69,8 @@ impl Remotes {
         self.unmet_answers > 0 && self.unmet_answers >= others
     }
 
-    /// Returns whether more than one in a thousand answers, and more than one, go astray, since the
-    /// captured gateway had other numbers.
+    /// Returns whether more than one answer, and more than one in a thousand, do not reach the host
+    /// that asked for them, since the captured gateway used other numbers.
     pub fn are_astray(&self) -> bool {
         self.astray > 1 && self.astray > self.answers / 1_000
     }
@@ -81,7 +81,7 @@ impl Remotes {
         let (astray, answers, first) = (self.astray, self.answers, self.first_astray);
         let _ = eprintln!(rt;
             "explain: the captured gateway used other numbers: {astray} of {answers} answers from outside, the first of them packet \
-{first}, do not reach the host that asked for them (--as-napt answers from the run of napt)"
+{first}, do not reach the host that asked for them (to answer from the run of napt, give --as-napt)"
         );
         Exit::OtherNumbers
     }

@@ -15,7 +15,7 @@ use std::io::BufRead;
 /// The reason why a log is refused.
 #[derive(Debug, Drop)]
 pub enum LogFileFault {
-    /// A read failed, memory ran out, or the bytes are not UTF-8.
+    /// A read failed, memory was refused, or the bytes are not UTF-8.
     Unread(io::Error),
     /// A line is not a row of a log; the value says what was expected.
     InvalidRow(&'static str),
@@ -98,8 +98,8 @@ impl<R: BufRead + Drop> LogReader<R> {
     }
 }
 
-/// Proves that a new log begins with its header, and that any log contains the rows of its events,
-/// so that [`LogReader`] reads these events, in order. The run may continue from a state.
+/// Law: a new log begins with its header, and any log contains the rows of its events, so that
+/// [`LogReader`] reads these events, in order. The run may continue from a state.
 #[tactic(auto, using(crate::proofs::SavedLogs::has_rows))]
 pub fn log_has_rows()
     ensures { logs.LogHasRows }

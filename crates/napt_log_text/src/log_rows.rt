@@ -72,14 +72,15 @@ pub fn add_living(config: &Config, living: &[LogEntry], text: &mut String) -> Re
     Ok(())
 }
 
-/// Proves that the log of a longer run begins with that of a shorter one, so that no row changes.
+/// Law: the log of a longer run begins with that of a shorter one, so that no row changes.
 pub fn log_grows()
     ensures { logs.LogGrows }
 {}
 
-/// Proves that the log of a run without its rows of live bindings, followed by the log of the run
-/// that continues from there, also from a saved state, is the log of the run over all inputs. From
-/// the beginning of a piece, the log is that of a run that continues with a new log.
+/// Law: the log of a run without its rows of live bindings, followed by the log of the run that
+/// continues from there, is the log of the run over all inputs. This also holds if the second run
+/// starts from a saved state. From the beginning of a piece on, the log is that of a run that
+/// continues with a new log.
 pub fn logs_join()
     ensures join { logs.LogsJoin }
     ensures saved { logs.SavedLogsJoin }
@@ -88,7 +89,7 @@ pub fn logs_join()
     logs_go_on();
 }
 
-/// Proves that the rows that follow from the effects of a run's inputs are those of its log.
+/// Law: the rows that follow from the effects of a run's inputs are those of its log.
 pub fn effects_have_the_rows()
     ensures { logs.EffectsHaveTheRows }
 {

@@ -8,7 +8,7 @@ use std::thread::Parker;
 use std::time::Duration;
 use std::{hint, thread};
 
-/// The number of first looks, each of which is followed by a spin.
+/// The number of first polls, each of which is followed by a spin.
 const SPINS: u32 = 32;
 
 /// The number of polls before the first sleep. All after the first 32 are followed by a yield.

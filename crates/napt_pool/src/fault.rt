@@ -15,7 +15,7 @@ pub enum PoolFault {
     NoThread,
     /// The gate refused this worker 1,000,000 times for one item.
     GateShut(u32),
-    /// The two ends of a ring do not agree. No cause of this is known.
+    /// The two ends of a ring (a queue between threads) do not agree. No cause of this is known.
     Ring,
 }
 

@@ -11,7 +11,7 @@ pub trait Gate {
     ghost is_open: { Bool };
 
     /// Returns whether a worker may do its next step, after `turn` steps (at most `u64::MAX`). If
-    /// not, the worker asks again, up to 1,000,000 times for one item, and then stops.
+    /// it may not, it asks again, at most 1,000,000 times for one item, and then stops.
     fn enter(&self, worker: u32, turn: u64) -> bool
         ensures { is_open ≡ true → IsTrue result };
 
@@ -31,7 +31,7 @@ impl Gate for OpenGate {
     }
 }
 
-/// Asks the gate until it is open, at most `MOST_REQUESTS` times, and returns whether it is.
+/// Asks the gate until it is open, at most 1,000,000 times, and returns whether it is open.
 pub(crate) fn enter_gate<G: Gate>(gate: &G, worker: u32, turn: u64) -> bool
     ensures { G.is_open ≡ true → IsTrue result }
 {

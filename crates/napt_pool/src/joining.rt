@@ -89,7 +89,8 @@ pub(crate) fn join_all<M: Machine, G: Gate, R: Threads>(
     into
 }
 
-/// Returns the ends of all workers, or the fault of the first one by number that stopped.
+/// Returns the ends of all workers or, if any stopped, the fault of the one with the smallest
+/// number.
 pub(crate) fn all_ended<M: Machine>(
     ends: Vec<Result<Ended<M>, WorkerFault>>,
     into: Vec<Ended<M>>,

@@ -29,7 +29,8 @@ use std::io::{ErrorKind, Printer, Write};
 use std::rt::Files;
 use std::{env, io};
 
-/// Returns the arguments. Fails with `Stop::Usage` if one is not UTF-8, or without memory.
+/// Returns the arguments. Fails with `Stop::Usage` if one is not UTF-8, or with
+/// `Stop::LineMemory` if memory is refused.
 pub fn words<R: Env + AllocGlobal>(rt: &R) -> Result<Vec<String>, Stop>
     ensures { IfErr result (λ stop. (stop ≡ Stop.Usage) ⊎ (stop ≡ Stop.LineMemory)) }
 {

@@ -93,7 +93,8 @@ fn source_over<D: Read + Drop>(
     }
 }
 
-/// Returns the device for a writer, with a buffer of `held` bytes. Fails if memory is refused.
+/// Returns the device for a writer, with a buffer of `held` bytes. Fails with `MEMORY` if memory
+/// is refused.
 fn sink<D: Write + Drop>(
     alloc: Global,
     device: D,
@@ -117,7 +118,8 @@ pub(crate) fn writer<D: Write + Drop>(
     BufWriter::with_capacity(alloc, held, device).map_err(|_| MEMORY)
 }
 
-/// Wraps the log, if any, in a buffer; pieces have their own. Fails if memory is refused.
+/// Wraps the log, if any, in a buffer; pieces have their own. Fails with `MEMORY` if
+/// memory is refused.
 pub(crate) fn buffered_log<D: Write + Drop, P: Write + Drop>(
     alloc: Global,
     log: Option<LogOutput<Either<D, P>>>,

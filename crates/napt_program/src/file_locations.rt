@@ -40,7 +40,8 @@ struct SaveLocations<'a> {
 }
 
 /// Returns the role of the first output whose file an earlier option also names. A state may be
-/// saved to the file that was read. Fails if memory is refused, which only a saved state needs.
+/// saved to the file that was read. Fails only if memory is refused, which only a saved state
+/// needs.
 pub fn lost_file<R: Files>(
     rt: &R,
     alloc: Global,
@@ -54,7 +55,7 @@ pub fn lost_file<R: Files>(
     Ok(lost_file_with_new(rt, options, new.as_ref()))
 }
 
-/// Returns the path of the new file of a state, if one is saved. Fails if memory is refused.
+/// Returns the path of the new file of a state, if one is saved. Fails only if memory is refused.
 fn path_of_new(alloc: Global, options: &RunOptions) -> Result<Option<String>, AllocError>
     ensures new { IfOk result (λ new. is_some new ≡ is_some options.now.save) }
     ensures memory { IfErr result (λ _. is_some options.now.save ≡ true) }
@@ -76,8 +77,8 @@ fn lost_file_with_new<R: Files>(
     output_named_again(&locations_of(rt, options, new))
 }
 
-/// Returns whether the log is a file that another option also names, or a standard stream. Fails if
-/// memory is refused, which is only needed if a state is saved.
+/// Returns whether the log is a file that another option also names, or a standard stream. Fails
+/// only if memory is refused, which is needed only if a state is saved.
 pub fn is_log_lost<R: Files>(
     rt: &R,
     alloc: Global,
@@ -167,7 +168,8 @@ fn output_named_again(places: &FileLocations<'_>) -> Option<FileRole>
     }
 }
 
-/// Returns whether the state's file or new file is no file, another option's, or replaces `resume`.
+/// Returns whether the state cannot be saved: its file or its new file is a device, a pipe or a
+/// folder, or is the file of another option, or the new file would replace the file of `resume`.
 fn is_save_lost(places: &FileLocations<'_>) -> bool
     ensures again { result ≡ is_save_lost places.now places.now.save }
     ensures placed { result ≡ true → is_some places.now.save ≡ true }

@@ -39,33 +39,34 @@ const ABOUT: &str = "Network address and port translation for IPv4: reads captur
 that inside hosts and the outside send, and writes the captures of what leaves for the other side, \
 with addresses and ports translated.";
 
-const NOTES: &str = "FILE may be -, standard input or standard output; a file of that name is ./-
-(the FILE of a state may not be -)
+const NOTES: &str = "FILE may be - for standard input or output. For a file named -, write ./-
+(the FILE of a state may not be -).
 
 Examples:
   napt < inside.pcap > to-outside.pcap
   napt --config napt.toml --inside inside.pcap --outside outside.pcap \\
        --to-outside to-outside.pcap --to-inside to-inside.pcap --report report.txt
 
---verbose adds a second line on standard error, which a terminal gets anyway: the
-option, its file, and what is wrong with it (in a configuration, with the place).
-With --end-misfits the bindings that the configuration does not accept expire at
-the state's time, and one line on standard error counts them; all others continue.
+--verbose prints a second line on standard error, as at a terminal in any case:
+the option, its file, and what is wrong (in a configuration, with the place).
+With --end-misfits, the bindings of the state that the configuration does not
+accept expire at the state's time, and a line on standard error prints their
+number. All other bindings continue.
 
 Exit status, and the line on standard error that says why:
-  0  done, without a line
+  0  success; no line is printed
   2  napt: usage
        an option is unknown, is given twice, or lacks its file
   3  napt: config WORD
        not-toml           the text is not TOML in UTF-8
-       unknown-key        no configuration has this key
+       unknown-key        the key is unknown
        missing            a required key is absent, or its list is empty
        bad-shape          a value is not of the type that its key takes
        too-many           a list has more entries than it may have
        bad-address        not an IPv4 address, or not an endpoint in a redirect
        bad-prefix         not an IPv4 prefix, or bits past its length are set
        bad-number         a number is out of its range
-       bad-word           the key does not take this word
+       bad-word           the key does not take this value
        bad-seed           the seed is not 32 hexadecimal digits
        seed-unused        there is a seed, and numbers are not random
        double-address     an address is in the pool twice
@@ -86,7 +87,7 @@ Exit status, and the line on standard error that says why:
        bad-magic        not a libpcap capture (pcapng is another format)
        bad-version      it is not version 2.4
        bad-link         the link type is neither 101 (raw IP) nor 228 (raw IPv4)
-       bad-fraction N   the time of record N has a fraction of a second or more
+       bad-fraction N   the fraction in record N's time is a second or more
        too-long N       record N has more than 262144 bytes
        too-large        reading would ask for more than 68719476736 bytes
        read             the file could not be read
@@ -95,14 +96,14 @@ Exit status, and the line on standard error that says why:
        memory           memory ran out
        too-many         there are more than 4294967295 packets
        no-thread        the system refused a worker its thread
-       gate-shut N      the gate kept worker N waiting; never in this program
-       ring             the ends of a ring disagree; no cause of this is known
+       gate-shut N      the gate stayed shut for worker N; not possible in this program
+       ring             internal error in a queue between threads; please report it
   6  napt: file OPTION
        it cannot be opened, read or created; its stream is closed; a configuration
        has over 64 MiB; or another option has the same output or standard stream
      napt: write OPTION
-       writing failed; help that could not be written is write to-outside, since
-       both go to standard output
+       writing failed; write to-outside also if the help text could not be
+       written, since both go to standard output
   8  napt: state WORD
        bad-line N       line N is not a line of a state, or is missing
        not-utf-8 N      line N is not UTF-8
@@ -295,7 +296,8 @@ impl From<AllocError> for LineFault {
 ///
 /// Each option is long and has one value, in the next argument or after `=`, at most once. A value
 /// starts with `-` only if it is `-` (never for a state) or follows `=`. `-h` and `--help` request
-/// help, `-V` and `--version` the version. `Memory` may come in place of any other result.
+/// help, `-V` and `--version` the version. `Memory` may be returned in place of any other
+/// result.
 pub fn parse_words(alloc: Global, words: Vec<String>) -> Result<RunOptions, LineFault>
     ensures ok { IfOk result (λ o. line_of_words (map string_bytes words.items)
         ≡ files (files_of o)) }

@@ -46,7 +46,7 @@ impl StopReason {
     }
 
     /// Finds the reason if a program with these options stopped, and the reason is to be printed.
-    /// No file is created or changed. Without memory, there is no reason.
+    /// No file is created or changed. If memory is refused, no reason is found.
     pub fn find<R: Files + AllocGlobal>(
         &mut self,
         rt: &R,

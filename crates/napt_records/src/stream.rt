@@ -97,8 +97,9 @@ impl<'a, R: Source> RecordStream<'a, R> {
         }
     }
 
-    /// Reads the next record into `first`, unless it has one or the end was reached. The record
-    /// uses `spare`, which a new vector replaces. After a fault, nothing of the rest is lost.
+    /// Reads the next record into `first`, unless `first` has one or the end was reached. The
+    /// record uses the memory of `spare`, which a new vector replaces. If this fails, `first` is
+    /// unchanged, and all bytes that were read but not yet returned as records are kept.
     #[inline(always)]
     pub fn read_ahead(
         &mut self,

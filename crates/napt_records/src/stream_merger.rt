@@ -22,7 +22,8 @@ pub struct CutFlags {
     pub outside: bool,
 }
 
-/// Removes and returns the earlier of two records with its side; on a tie, the inside one.
+/// Removes and returns the earlier of two records with its side, or the inside record if both have
+/// the same time.
 #[inline(always)]
 fn take_first(inside: &mut Option<Record>, outside: &mut Option<Record>) -> Option<(Side, Record)>
     ensures { TakesRecord (option_to_list inside.old) (option_to_list outside.old) result
@@ -40,7 +41,7 @@ fn take_first(inside: &mut Option<Record>, outside: &mut Option<Record>) -> Opti
 }
 
 /// Two captures that are merged into the inputs of a run while they arrive. Once the next record of
-/// each side is known, the earlier one is returned; on a tie, the inside one.
+/// each side is known, the earlier one is returned, or the inside one if both have the same time.
 #[derive(Drop)]
 pub struct StreamMerger<'a, 'b, R: Source, Q: Source> {
     alloc: Global,

@@ -1,9 +1,10 @@
 -- Which numbers may stand for a number, and in which order they are tried.
 --
--- RFC 4787, REQ-3 (a): a port of 0 to 1023 is mapped to one of that range, and a port of 1024 to 65535 likewise. REQ-4:
--- an even port is mapped to an even one, and an odd port to an odd one; a configuration may waive this (RFC 7857,
--- section 8). RFC 5508, section 3.1: the identifier of an echo may become any. RFC 7422, section 2: a host may have a
--- block of numbers for itself, for ports and identifiers alike; then the range of ports below 1024 is not preserved.
+-- RFC 4787, REQ-3 (a): a port of 0 to 1023 is mapped to a port of 0 to 1023, and a port of 1024 to 65535 to a port of
+-- 1024 to 65535. REQ-4: an even port is mapped to an even port, and an odd port to an odd port. A configuration may
+-- waive REQ-4 (RFC 7857, section 8). RFC 5508, section 3.1: the identifier of an echo may be mapped to any identifier.
+-- RFC 7422, section 2: a host may have a block of numbers for itself, for ports and identifiers alike. Then the range of
+-- ports below 1024 is not preserved.
 --
 -- A number is preserved if it is free. With a seed, the first candidate is the one at an index that a keyed hash of the
 -- inside endpoint gives (RFC 6056, section 3.3.3, without the remote endpoint and the counter, since a mapping is the

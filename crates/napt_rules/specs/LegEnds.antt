@@ -10,7 +10,8 @@ ErrorsChangeNothing = (rules : Rules) (address : ℕ) (leg : Leg) (kept : LocalS
     is_error (kind leg.packet) ≡ true →
     local_after rules address leg kept ≡ kept
 
--- A packet to the outside is not for the pool; one that goes onward is for its address at `place` (RFC 4787, REQ-9).
+-- A packet to the outside is for no address of the pool. A packet that ends with `Onward` is for the pool address at
+-- `place`, where it comes in again (RFC 4787, REQ-9).
 abbrev pub IsToItsSide : Rules → End → Type 0
 IsToItsSide rules (ToOutside packet) = pool_place rules (destination packet).address ≡ None
 IsToItsSide rules (Onward place packet) = pool_place rules (destination packet).address ≡ Some place
@@ -32,8 +33,8 @@ InboundStaysInside = (rules : Rules) (address : ℕ) (leg : Leg) (kept : LocalSt
 
 -- HAIRPINS (RFC 4787, REQ-9)
 
--- How an outgoing packet may end, given the place of its destination in the pool: it goes onward to that place or is
--- dropped; if the destination is not in the pool, it never goes onward.
+-- How an outgoing packet may end, given the place of its destination in the pool: it ends with `Onward` and that place,
+-- or is dropped. If the destination is not in the pool, it never ends with `Onward`.
 abbrev pub IsForeseen : Option ℕ → End → Type 0
 IsForeseen (Some place) (Onward to packet) = to ≡ place
 IsForeseen (Some place) (Dropped cause) = Unit {0}

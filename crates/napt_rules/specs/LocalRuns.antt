@@ -44,7 +44,8 @@ TranslatorsAnswerFrom = (rules : Rules) (state : State) (inputs : List Arrival) 
     (record { list = bindings_at address state.list; at = state.clock })
     ≡ answers_at address course.acts
 
--- Law: at any time from the last clock on, it has the same live bindings as the run has at that address.
+-- Law: at any time from the last clock on, the translator of an address has the same live bindings as the run has at
+-- that address.
 abbrev pub TranslatorsKeepFrom : Type 0
 TranslatorsKeepFrom = (rules : Rules) (state : State) (inputs : List Arrival) (address now : ℕ) →
     last_clock state.clock inputs ≤ now →
@@ -53,7 +54,8 @@ TranslatorsKeepFrom = (rules : Rules) (state : State) (inputs : List Arrival) (a
     (record { list = bindings_at address state.list; at = state.clock })).list
     ≡ purge rules.timers now (bindings_at address course.list)
 
--- Law: the same of the bindings that are live or held.
+-- Law: at any time from the last clock on, the translator of an address has the same live and held bindings as the run
+-- has at that address.
 abbrev pub TranslatorsHoldFrom : Type 0
 TranslatorsHoldFrom = (rules : Rules) (state : State) (inputs : List Arrival) (address now : ℕ) →
     last_clock state.clock inputs ≤ now →

@@ -39,7 +39,8 @@ pub struct Row {
     pub fixed: bool,
 }
 
-/// A binding with its row in an `R` and its flows in an `F`; contracts see a `Row` and a list.
+/// A stored binding, generic in how its row (`R`) and its flows (`F`) are stored. Contracts see a
+/// `Row` and a list.
 #[derive(Drop)]
 pub struct StoredBinding<R, F> {
     pub row: R,
@@ -156,7 +157,8 @@ pub enum End {
     ToOutside(Packet),
     /// The packet goes to an inside host.
     ToInside(Packet),
-    /// The packet went to the external address at this place of the pool, and comes in there.
+    /// A hairpin: the destination is the pool address at this index, where the packet comes in
+    /// again.
     Onward(u32, Packet),
     Dropped(Cause),
 }

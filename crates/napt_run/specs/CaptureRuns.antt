@@ -126,7 +126,7 @@ module _ {P A K : Type 0} (open_gate : Bool) (tells : Passage → P) (origin : O
     (hands : A → List Arrival → A → Type 0) (ends : A → Option SideFault → A → Type 0)
     (enters : K → List (Legs P) → K → Type 0) (fails : K → List (Legs P) → Fault → K → Type 0)
     (is_settled : K → Type 0) (from : A) (old : K) (left : A) (new : K) where
-  -- The same is true for a run over captures, whose fault may be one of its log.
+  -- The inputs and outcomes of a run over captures with this result, as in `EntersBy`. Its fault may be one of its log.
   abbrev pub EntersOr : Result ReportData Fault → Type 0
   EntersOr (Ok totals) = EntersTo tells origin hands ends enters fails is_settled from old left new None
   EntersOr (Err (Capture side fault)) =

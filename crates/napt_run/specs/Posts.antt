@@ -107,7 +107,8 @@ pub record SinkPost {D : Type 0} (S : Ghosts D) (texts : LogTexts) (which : Whic
   pub failed : FailedPost which result (S.failed old) (S.failed new)
   pub flushed : IsSettledBy result → S.is_flushed new
 
--- The same is true for a capture, which is untouched if the log could not be begun.
+-- The contents of a capture, its failed calls, and whether it is flushed. If the log could not be begun, the capture is
+-- untouched.
 abbrev pub CapturePost : {D : Type 0} → Ghosts D → Bool → Which → OriginModel → Option (List ℕ) → Option (List ℕ) →
     Result (Unit {0}) Fault → D → D → Type 0
 CapturePost S is_kept which origin inside outside result old new =
@@ -167,7 +168,7 @@ IsDone other = ⊥
 
 -- STEPS
 
--- The same is true for an output with its device.
+-- The contents of an output's device, its failed calls, and whether it is flushed.
 pub record OutputEnds {D : Type 0} {S : Ghosts D} (texts : LogTexts) (which : Which) (inside outside : Option (List ℕ))
     (result : Result (Unit {0}) Fault) (old new : Output D S) : Type 0 where
   pub same : new.device.ghost_name ≡ old.device.ghost_name

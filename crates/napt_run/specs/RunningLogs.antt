@@ -142,7 +142,7 @@ module _ {L : Type 0} {S : Ghosts L} where
   LogAdds from traces text old (Err (Write Log fault)) new = OutputBreaks old text fault new.output
   LogAdds from traces text old (Err other) new = ⊥
 
-  -- The same is true for a text that is made first. If making it fails, nothing was written.
+  -- A text was made, and then written and flushed as in `Adds`. If making it fails, nothing was written.
   abbrev pub LogCloses : {T : Type 0} → LoggedOrigin → List Trace → TimeText → Output L S → Result T Fault →
       LogWriter L S →
       Type 0

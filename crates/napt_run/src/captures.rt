@@ -144,8 +144,9 @@ fn write_report<W: Sink>(output: &mut W, report: &str) -> Result<(), Fault>
 }
 
 /// Translates both captures from a start, and writes the packets that leave to each side, and a
-/// report. The bytes are exactly those of the run on one thread, whatever the gate, the ring size
-/// or the schedule. Returns the end of the run, from which the next run continues.
+/// report. The written bytes are exactly those that a run on one thread would write, whatever the
+/// gate, the ring size or the schedule. Returns the end of the run, from which the next run
+/// continues.
 ///
 /// It first reads both captures. Then it runs in memory, with one worker thread for each external
 /// address; each worker asks the gate before each leg, and the gate only decides when the worker

@@ -69,7 +69,7 @@ pub(crate) fn resume_log<'a>(
     ensures { IfOk result (IsResumedFrom start.entry log_start.entry) }
 {
     started_logs_go_on();
-    // This is called only for its clause: the rules of a configuration are valid.
+    // Only the contract of this call is used: the rules of a configuration are valid.
     let _pool = start.config.pool();
     let started = LogBuilder::resume(alloc, start.config, start.state, log_start.saved)?;
     let opening = first_text(alloc, start.config, &started, log_start.is_new)?;
@@ -79,7 +79,7 @@ pub(crate) fn resume_log<'a>(
     })
 }
 
-/// Proves that the log of a state has the rows of the inputs of a run, by their traces.
+/// Law: the log of a state has the rows of the inputs of a run, by their traces.
 pub(crate) fn log_laws(start: Start<'_>)
     requires { TakesState start.config.now start.state.now }
     ensures { (log : LogModel) → IsLogOf start.entry.config.now (origin_of start.entry).state log →
@@ -87,6 +87,6 @@ pub(crate) fn log_laws(start: Start<'_>)
 {
     effects_are_the_log();
     effects_have_the_rows();
-    // This is called only for its clause: the rules of a configuration are valid.
+    // Only the contract of this call is used: the rules of a configuration are valid.
     let _pool = start.config.pool();
 }

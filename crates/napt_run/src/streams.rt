@@ -20,12 +20,14 @@ use std::thread::Threads;
 /// of the run if its devices have a [`LogWriter`](crate::LogWriter), and a report at the end.
 /// Returns the end of the run, from which the next run continues.
 ///
-/// Memory is bounded by the bindings (an expired one remains until a new one is made at its
-/// address), the 131,072 packets that may be in flight, and 16,384 buffers for reuse. If the run
-/// succeeds, each output contains exactly the bytes that `run_captures` writes. Captures may be of
-/// any length. The header of each capture is written before anything is read. Before a device is
-/// asked for more bytes, every packet read so far has been answered, written and flushed. Merging
-/// needs the next record of both sides; an empty record lets time pass on its side.
+/// Memory is bounded by the bindings, the 131,072 packets that may be in flight, and 16,384 buffers
+/// for reuse. An expired binding stays in memory until a new one is made at its address. Captures
+/// may be of any length.
+///
+/// The header of each output capture is written before anything is read. Merging needs the next
+/// record of both sides; a record without bytes lets time pass on its side. Before a device is
+/// asked for more bytes, every packet read so far has been answered, written and flushed. If the
+/// run succeeds, each output contains exactly the bytes that `run_captures` writes.
 ///
 /// # Errors
 ///
@@ -35,19 +37,20 @@ use std::thread::Threads;
 /// `Fault::Capture` if that side's capture is malformed or could not be read, once merging needs
 /// the record at fault. The packets before it are written and flushed, and there is no report.
 ///
-/// `Fault::Write` if writing that output failed. It contains the first `written` bytes of its text,
-/// a number that saturates. The other capture contains the text of some first packets, or both
-/// contain all of their text if the report failed. The inside capture is empty if the header of the
-/// outside one failed. A failed read before such a write is not reported.
+/// `Fault::Write` if writing that output failed. The output contains the first `written` bytes of
+/// its text; this number saturates. If the output is a capture, the other capture contains the text
+/// of some first packets. If it is the report, both captures are complete. If it failed at the
+/// header of the capture to the outside, the capture to the inside is empty. A failed read before
+/// such a write is not reported.
 ///
 /// `Fault::Run` with `Memory` if memory is refused, and with `Pool` if a worker could not be
 /// started or stopped early (never `GateShut` under a gate that is always open). Each capture then
 /// contains at least its header.
 ///
-/// With a log, also `Fault::Write` of `Which::Log` if writing it failed, and `Fault::Run` with
-/// `TooMany` at input 4,611,686,018,427,387,904. After a fault of a capture, the log contains the
-/// rows of the packets before it. After any fault it is flushed, unless one of its own calls
-/// failed. Both captures are empty if the log could not be begun.
+/// With a log, also `Fault::Write` with `Which::Log` if writing the log failed, and `Fault::Run`
+/// with `TooMany` at input 4,611,686,018,427,387,904. After a fault of a capture, the log contains
+/// the rows of the packets before the fault. After any fault the log is flushed, unless a call of
+/// its own device failed. If the log could not be begun, both output captures are empty.
 pub fn run_streams<
     T: Threads + Wait + Copy + Send + 'static,
     R: Source,

@@ -144,7 +144,7 @@ StepFollows rules now course state translators outcome =
     let later : SequentialRunModel = record { clock = now; acts = state.acts ++ course.acts; list = course.list } in
     (course.outcomes ≡ outcome ∷ []) × AreCountedTranslators rules later translators
 
--- The same holds, and the trace is that of the step.
+-- The outcome and the trace are those of a step at `now`, in ns, and the translators are those of the state after it.
 abbrev pub StepTraces : Rules → ℕ → RunEffect → SequentialRunModel → List CountedTranslator → StepResult → Type 0
 StepTraces rules now course state translators stepped = StepFollows rules now course state translators stepped.outcome
     × (stepped.trace ≡ trace_of rules.timers now course)

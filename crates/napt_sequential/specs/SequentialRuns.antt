@@ -20,7 +20,7 @@ pub record StepPost (rules : Rules) (state : State) (before : List Arrival) (inp
   pub time : result.trace.now ≡ last_clock state.clock (before ++ input ∷ [])
   pub trace : traces_of rules state (before ++ input ∷ []) ≡ traces_of rules state before ++ result.trace ∷ []
 
--- The same holds of a run from the redirects of the configuration.
+-- The run has had these inputs, and began with the redirects of the configuration.
 abbrev pub IsRunFromOpening : Rules → List Arrival → SequentialRun → Type 0
 IsRunFromOpening rules inputs it = SequentialRunInvariant rules (initial_state rules) inputs it
 

@@ -6,7 +6,8 @@ use napt_table::{Row, TimedRow};
 use napt_wire::{Endpoint, Protocol};
 use std::marker::Model;
 
-/// A binding that a leg used, and its expiry, in half the bytes of the `TimedRow` of contracts.
+/// A binding that a leg used, and the time at which it expires. It takes half the bytes of a
+/// `TimedRow`, as which contracts see it.
 #[derive(Clone, Copy, Debug, PartialEq, Eq)]
 pub struct PackedTimedRow {
     /// The time at which it expires, in ns, divided by 2^64; `low` is the remainder.
@@ -78,7 +79,7 @@ impl PackedTimedRow {
         }
     }
 
-    /// Returns the row and its expiry.
+    /// Returns the row and the time at which the binding expires.
     #[inline(always)]
     pub fn timed(self) -> TimedRow
         ensures { result ≡ self }

@@ -31,7 +31,7 @@ pub struct DroppedPacket {
     pub cause: Cause,
 }
 
-/// The effects of one input's legs. The expiry of a binding is that after the leg.
+/// The effects of one input's legs. The time at which a binding expires is that after the leg.
 #[derive(Clone, Copy, Debug, PartialEq, Eq)]
 pub struct Trace {
     /// The time of the legs, in ns.

@@ -1,4 +1,5 @@
-//! Sends each reply to the external endpoint that its inside endpoint has at that time.
+//! Readdresses replies that were captured inside to the external endpoint that their inside
+//! endpoint has when they arrive.
 
 ghost use Rattle.std.specs.{Prelude.{◌≡◌, ◌<◌, ◌≤◌, ◌^◌, ◌↔◌, ℕ, length, [], Some, Ok, Err, IfOk, IfErr, IfSome, OnOk}, Option.option_map, List.slice_get};
 ghost use Rattle.napt_wire.specs.{Fields.{kind, CanCarry}, Reading.reading};
@@ -197,10 +198,11 @@ fn follow_all(
     Ok(got)
 }
 
-/// Returns the inputs that a run gets if those from outside are replies: packets as inside hosts
-/// received them. Each is sent to the external endpoint that its inside endpoint has at that time,
-/// and comes in as any packet from outside does. A run over these inputs is the run that the
-/// replies follow. The side and the times of each input do not change, nor are its bytes copied.
+/// Returns the inputs of a run whose packets from outside are replies, given as inside hosts
+/// received them. Each reply is readdressed to the external endpoint that its inside endpoint has
+/// when the reply arrives, and then comes in as any packet from outside does. A run over these
+/// inputs is the run that the replies follow. The side and the time of each input do not change,
+/// and its bytes are not copied.
 ///
 /// Fails with `RunFault::TooMany` exactly if there are more than `MOST_INPUTS` inputs, with
 /// `RunFault::Memory` only if memory is refused, and never with `RunFault::Pool`.

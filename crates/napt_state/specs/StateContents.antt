@@ -19,7 +19,7 @@ abbrev pub StateUnlessUnread : {A : Type 0} → Result A StateReason → Type 0 
 StateUnlessUnread (Ok _) fact = fact
 StateUnlessUnread (Err reason) fact = unless_for reason fact
 
--- The same for a text that is read as a whole.
+-- The fact holds, unless a text that is read as a whole could not be read or memory was refused.
 abbrev pub UnlessFailed : {A : Type 0} → Result A StateFault → Type 0 → Type 0
 UnlessFailed (Ok _) fact = fact
 UnlessFailed (Err fault) fact = unless_for fault.reason fact

@@ -202,7 +202,8 @@ fn end_after(last: u64, seconds: u64) -> u64
 
 /// Returns a binding that ends at a time, in ns, under the timers of a configuration, so that its
 /// number is held from then on; a TCP binding has one flow. Returns `None` for a redirect, or if it
-/// would be live at the clock since its end is less than its timer. Fails if memory is refused.
+/// would be live at the clock since its end is less than its timer. Fails only if memory is
+/// refused.
 pub(crate) fn ended_binding(
     alloc: Global,
     row: Row,
@@ -235,7 +236,8 @@ fn timer_of(protocol: Protocol, config: &Config) -> u64
     }
 }
 
-/// Returns one flow for TCP, last used at a time (ns), else none. Fails only if memory is refused.
+/// Returns, for TCP, one flow that was last used at a time (ns), and otherwise no flow. Fails only
+/// if memory is refused.
 fn one_flow(alloc: Global, protocol: Protocol, last: u64) -> Result<Vec<Flow>, AllocError>
     ensures { IfOk result (λ flows. flows.items ≡ saved.one_flow protocol last) }
 {
@@ -267,9 +269,10 @@ pub(crate) fn made_so_far(log: Option<LogPosition>) -> u64
     }
 }
 
-/// Returns whether the accounts are those of a log: their numbers are distinct, from 1 to that of
-/// the entries, they were made by the clock, with counts that may be saved; no two bindings share
-/// an external endpoint, and no held one ends after the clock. Fails only if memory is refused.
+/// Returns whether the accounts are those of a log. This requires that their numbers are distinct
+/// and at most the number of entries, that their bindings were made by the clock, and that their
+/// counts of packets are small enough to be saved. Further, no two bindings share an external
+/// endpoint, and no held one ends after the clock. Fails only if memory is refused.
 pub(crate) fn has_accounts(alloc: Global, contents: &StateFileContents) -> Result<bool, AllocError>
     ensures { IfOk result (λ has. has ≡ saved.has_accounts contents.now) }
 {
@@ -305,7 +308,8 @@ pub(crate) fn has_accounts(alloc: Global, contents: &StateFileContents) -> Resul
     Ok(true)
 }
 
-/// Returns whether an account's number is in 1..=`made`, it was made by `clock`, and may be saved.
+/// Returns whether the number of an account is in 1..=`made`, the binding was made by `clock`, and
+/// the counts of packets are small enough to be saved.
 fn is_within(account: Account, made: u64, clock: u64) -> bool
     ensures { result ≡ is_account made clock account }
 {

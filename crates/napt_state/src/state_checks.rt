@@ -68,7 +68,8 @@ fn is_used_after(config: &Config, clock: u64, binding: &StateBinding) -> bool
     clock < binding.last || has_later(clock, &binding.flows)
 }
 
-/// Returns whether two flows that stand at a time (ns) share a remote. Fails if memory is refused.
+/// Returns whether two flows that stand at a time (ns) share a remote. Fails only if memory is
+/// refused.
 fn flows_share(
     alloc: Global,
     config: &Config,
@@ -97,7 +98,8 @@ fn flows_share(
     Ok(false)
 }
 
-/// Returns the time, in ns, at which each binding was live that is live or held at the clock.
+/// Returns the time one hold before the clock, in ns. What was live then is live or held at the
+/// clock.
 fn hold_ago(config: &Config, clock: u64) -> u64
     ensures { result ≡ life.hold_ago config.now.timers clock }
 {

@@ -78,10 +78,13 @@ impl StateFileContents {
         Ok(true)
     }
 
-    /// Converts the contents to a state for a configuration. If `ends_misfits`, each binding that
-    /// does not fit ends at the clock, with its entry; otherwise, or if the clock is not past a
-    /// timer and the hold, returns the first one and why. Redirects, and bindings neither live nor
-    /// held at the clock, need not fit. Takes linear time. Fails only if memory is refused.
+    /// Converts the contents to a state for a configuration. Redirects, and bindings that are
+    /// neither live nor held at the clock, need not fit.
+    ///
+    /// If `ends_misfits`, each other binding that does not fit ends at the clock, with its entry.
+    /// Otherwise, or if the clock is not past a timer and the hold, the first such binding is
+    /// returned, with the reason why it does not fit. Takes linear time. Fails only if memory is
+    /// refused.
     pub fn restore(
         self,
         alloc: Global,
@@ -161,7 +164,8 @@ pub fn ended_bindings_stay_ended()
     ensures { saved.EndedBindingsStayEnded }
 {}
 
-/// Adds a flow to the last binding if that is live; returns whether it is. Fails without memory.
+/// Adds a flow to the last binding if that is live, and returns whether it is live. Fails only if
+/// memory is refused.
 fn add_flow(list: &mut Vec<SavedBinding>, flow: Flow) -> Result<bool, AllocError>
     ensures added { result ≡ Ok true → said.IsAddedFlow flow list.old.items list.new.items }
     ensures none { result ≡ Ok false → said.LastIsNotLive list.old.items }

@@ -87,9 +87,11 @@ pub fn write_state<W: Write>(
 }
 
 /// Reads the text of a state to its end, in the memory of the state and of one line, and drops the
-/// reader. Also reads a text into which an earlier version wrote its log. Fails with the first
-/// fault: of a read, of memory, or of a line, also if the text is not whole or continues after its
-/// last line. It is not specified how many bytes were read before a fault.
+/// reader. Also reads a text into which an earlier version wrote its log.
+///
+/// Fails with the first fault: a read fails, memory is refused, a line is malformed, the text ends
+/// early, or it continues after its last line. It is not specified how many bytes were read before
+/// a fault.
 pub fn read_state<R: BufRead + Drop>(
     alloc: Global,
     reader: R,

@@ -1,4 +1,4 @@
--- No inside host exceeds its quota of bindings (RFC 6888, REQ-4).
+-- No inside host gets more bindings than its quota (RFC 6888, REQ-4).
 use Rattle.std.specs.Prelude.{◌≡◌, ℕ, ◌≤◌, max, List, Some}
 use Rattle.napt_config.specs.declared.settings.Timers.{Timers}
 use Rattle.napt_rules.specs.{declared.{AssignmentRules.AssignmentRules, InboundRules.InboundRules}, Prelude.{Binding, count_for}}

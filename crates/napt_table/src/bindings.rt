@@ -1,8 +1,11 @@
 //! The stored bindings of one external address, of all protocols.
 //!
-//! A binding that has ended is stored while held: no look-up finds it, and once its hold time is
-//! over, it is removed before a new one gets a number. Its queue entry has a time until which it
-//! surely lives. A packet that refreshes it does not move the entry; it is checked again when due.
+//! A binding that has expired is stored as long as it is held. No look-up finds it, and once its
+//! hold time is over, it is removed before a new binding gets a number.
+//!
+//! The queue has an entry for each binding, with a time until which the binding is certain to be
+//! live. A packet that refreshes the binding does not move the entry: when that time has come, the
+//! binding is checked and, if it is still live or held, queued again.
 
 ghost use Rattle.std.specs.{Prelude.{◌≡◌, ℕ, ◌+◌, ◌*◌, ◌^◌, ◌≤◌, ◌<◌, All, true, false, Some, None, OnOk, IfOk}, Option.{option_map, is_some}};
 ghost use Rattle.napt_rules.specs.Prelude.{Binding, ns_per_second, is_live, hold_ago};
@@ -33,7 +36,8 @@ pub(crate) struct Bindings {
     /// The time of the last packet, in ns; before the first packet, that at which the table began.
     at: u64,
     held: BindingIndex,
-    /// One entry for each binding that is not fixed, with a time until which it is surely live.
+    /// One entry for each binding that is not fixed, with a time until which it is certain to be
+    /// live.
     due: Due<ExternalNumberKey>,
 }
 
@@ -52,7 +56,8 @@ impl Model for Bindings {
     ghost invariant = { λ bindings. AreDue bindings.timers bindings.at bindings.held bindings.due.entries };
 }
 
-/// Removes a binding that is not queued if its hold time is over at `at` (ns), else queues it.
+/// Removes a binding that is not queued if its hold time is over at `at` (ns), and otherwise queues
+/// it.
 fn requeue_or_remove(
     held: &mut BindingIndex,
     due: &mut Due<ExternalNumberKey>,
@@ -94,7 +99,7 @@ impl Bindings {
     ghost use Rattle.napt_table.specs.BindingIndexes.{held_binding, held_at, IsSamePlace, IsNamed};
     ghost use Rattle.napt_table.specs.Bindings.{BindingsHaveRoom, IsPurged, IsLiveNumberOf, ReceivePost};
 
-    /// Creates an empty set of bindings, at a time in ns. Fails if memory is refused.
+    /// Creates an empty set of bindings, at a time in ns. Fails only if memory is refused.
     pub(crate) fn new(
         alloc: Global,
         address: u32,
@@ -171,7 +176,7 @@ impl Bindings {
         }
     }
 
-    /// Returns the live binding with the number at `now` (ns), and its expiry.
+    /// Returns the live binding with the number at `now` (ns), and the time at which it expires.
     pub(crate) fn timed(&self, now: u64, protocol: Protocol, number: u16) -> Option<TimedRow>
         ensures { result ≡ option_map (timed_row self.now.timers)
             (seen_binding self.now.timers now (held_at self.now.held protocol number)) }
@@ -186,8 +191,9 @@ impl Bindings {
         }
     }
 
-    /// Receives a packet. Returns the inside endpoint of the live binding with its number if the
-    /// filter admits the remote, else `NoBinding` or `Filtered`. Allocates no memory.
+    /// Receives a packet. Returns the inside endpoint of the live binding with its number. Fails
+    /// with `NoBinding` if there is none, or with `Filtered` if the filter refuses the remote.
+    /// Allocates no memory.
     pub(crate) fn receive(
         &mut self,
         inbound: InboundRules,

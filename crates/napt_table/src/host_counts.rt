@@ -15,7 +15,8 @@ pub(crate) struct HostCounts {
 impl HostCounts {
     ghost use Rattle.napt_table.specs.Counts.{are_counted, count_in, host_room};
 
-    /// Creates counts of 0, or none at all if `counted` is false. Allocates no memory.
+    /// Creates counts that are all 0. If `counted` is false, nothing is ever counted. Allocates no
+    /// memory.
     pub(crate) fn new(alloc: Global, counted: bool) -> HostCounts
         ensures counted { are_counted result ≡ counted }
         ensures none { (host : ℕ) → count_in result host ≡ 0 }
@@ -28,7 +29,7 @@ impl HostCounts {
         HostCounts { counts }
     }
 
-    /// Reserves memory for one more host. Fails if it is refused.
+    /// Reserves memory for one more host. Fails only if memory is refused.
     pub(crate) fn reserve(&mut self) -> Result<(), AllocError>
         ensures counted { are_counted self.new ≡ are_counted self.old }
         ensures counts { (host : ℕ) → count_in self.new host ≡ count_in self.old host }

@@ -35,7 +35,8 @@ pub struct TimedRow {
     pub end: Option<u128>,
 }
 
-/// Law: no host ever exceeds both the quota and its count at the start (RFC 6888, REQ-4).
+/// Law: a host never has more bindings than its quota, or than at the start if that was more (RFC
+/// 6888, REQ-4).
 pub fn tables_keep_the_quota()
     ensures { PlayedKeepsQuota }
 {}

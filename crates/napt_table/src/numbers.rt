@@ -61,7 +61,7 @@ fn least_of(from: u32, end: u32, even: Option<u32>, odd: Option<u32>) -> Option<
 
 impl Numbers {
     /// Creates a set in which no number is in use, of about 8 KiB. No other method allocates. Fails
-    /// if memory is refused.
+    /// only if memory is refused.
     pub fn new(alloc: Global, protocol: Protocol) -> Result<Numbers, AllocError>
         ensures protocol { IfOk result (λ numbers. numbers.protocol ≡ protocol) }
         ensures none { IfOk result (λ numbers. (n : ℕ) → is_used numbers n ≡ false) }
@@ -127,7 +127,8 @@ impl Numbers {
         }
     }
 
-    /// Returns a block's first free number from a place on: of its parity, or else of the other.
+    /// Returns the first free number of a block from a place on, of the parity of that place or, if
+    /// none of these is free, of the other parity.
     fn first_by_parity(&self, block: PortBlock, place: u16) -> Option<u16>
         requires block { IsPortBlock block }
         requires within { place < block.size }

@@ -80,7 +80,7 @@ impl TableBuilder {
     ghost use Rattle.napt_table.specs.BindingIndexes.{IsUsedBy};
     ghost use Rattle.napt_table.specs.Beginnings.{state_bindings_at};
 
-    /// Creates a builder without bindings, at a time in ns. Fails if memory is refused.
+    /// Creates a builder without bindings, at a time in ns. Fails only if memory is refused.
     fn new(
         alloc: Global,
         address: u32,

@@ -22,8 +22,9 @@ pub fn fix_check(check: u16, old: u16, new: u16) -> u16
     (0xffff - folded) as u16
 }
 
-/// Returns the UDP checksum after such a change (RFC 768). A checksum of 0 means that there is
-/// none, and is returned unchanged; any other result of 0 is returned as 0xFFFF.
+/// Returns the UDP checksum after a word that it covers changes from `old` to `new` (RFC 768). A
+/// checksum of 0 means that there is none, and is returned unchanged; any other result of 0 is
+/// returned as 0xFFFF.
 #[tactic(auto, unfolding(crate::specs::Checksum::canon_udp))]
 pub fn fix_check_udp(check: u16, old: u16, new: u16) -> u16
     ensures { result ≡ canon_udp check (old ∷ []) (new ∷ []) }
@@ -49,8 +50,8 @@ pub(crate) fn fix_address(check: u16, old: u32, new: u32) -> u16
     fix_check(high, (old & 0xffff) as u16, (new & 0xffff) as u16)
 }
 
-/// Returns the TCP checksum after an end changes from `old` to `new`. It covers the port, and by
-/// the pseudo-header the address (RFC 9293 section 3.1).
+/// Returns the TCP checksum after an endpoint changes from `old` to `new`. The checksum covers the
+/// port and, through the pseudo-header, the address (RFC 9293 section 3.1).
 pub(crate) fn fix_end(check: u16, old: Endpoint, new: Endpoint) -> u16
     ensures { result ≡ canon check (end_words old) (end_words new) }
 {
@@ -58,7 +59,8 @@ pub(crate) fn fix_end(check: u16, old: Endpoint, new: Endpoint) -> u16
     fix_check(fixed, old.number, new.number)
 }
 
-/// Returns the UDP checksum after such a change (RFC 768): 0 if and only if `check` is 0.
+/// Returns the UDP checksum after an endpoint changes from `old` to `new` (RFC 768). The result is
+/// 0 if and only if `check` is 0, which means that there is no checksum.
 pub(crate) fn fix_end_udp(check: u16, old: Endpoint, new: Endpoint) -> u16
     ensures { result ≡ canon_udp check (end_words old) (end_words new) }
 {

@@ -19,7 +19,7 @@ pub struct CountingGate {
 }
 
 impl CountingGate {
-    /// Returns a gate for `workers` workers. Fails if memory is refused.
+    /// Returns a gate for `workers` workers. Fails only if memory is refused.
     pub fn new(alloc: Global, workers: usize) -> Result<CountingGate, AllocError> {
         let mut counts = Vec::with_capacity(alloc, workers)?;
         for _ in 0..workers {

@@ -13,8 +13,8 @@ macro_rules! manual {
             name: $name,
             about: ABOUT,
             notes: concat!(
-                "FILE may be -, standard input or standard output; a file of that name is ./-
-(the FILE of a state may not be -)
+                "FILE may be - for standard input or output. For a file named -, write ./-
+(the FILE of a state may not be -).
 
 Examples:
   ", $name, " < inside.pcap > to-outside.pcap
@@ -30,25 +30,25 @@ After success each output contains the bytes that napt writes. The differences a
   The log is the one that explain log writes. The rows of a packet are in the
   log before the packet is written. A log that has text is refused, unless
   --resume names the state that was saved with it: then the log is continued.
-  With --log-each it is continued in the next file after FILE.1, FILE.2, .., and
-  without --resume these are refused. Captures may have any number of bytes and
-  of packets.
+  With --log-each the log is continued in the next file after FILE.1, FILE.2, ..;
+  if there are such files, --resume is required. Captures may have any number of
+  bytes and of packets.
   If standard error is a terminal, a run of more than two seconds prints there
   the number of packets read, the packets per second, and the live bindings.
   Warnings are printed even if it is not a terminal, and do not change the status.
 
---verbose adds a second line on standard error, which a terminal gets anyway: the
-option, its file, and what is wrong with it (in a configuration, with the place).
-With --end-misfits the bindings that the configuration does not accept expire at
-the state's time, in the log too, and one line on standard error counts them; all
-others continue.
+--verbose prints a second line on standard error, as at a terminal in any case:
+the option, its file, and what is wrong (in a configuration, with the place).
+With --end-misfits, the bindings of the state that the configuration does not
+accept expire at the state's time, also in the log, and a line on standard error
+prints their number. All other bindings continue.
 
 Exit status, and the line on standard error that says why: as for napt, with
 ", $name, ": in place of napt: at its beginning. too-large never occurs, and too-many
 only with a log, at packet 4611686018427387904.
-  0  done; a line warns if the log begins new entries for the bindings of the
+  0  success; a line warns if the log begins new entries for the bindings of the
      state, if a packet is earlier than the state, if the captures seem to be
-     swapped, and if one is cut
+     swapped, and if a capture is cut
   2  ", $name, ": usage
   3  ", $name, ": config WORD
   4  ", $name, ": capture SIDE WORD

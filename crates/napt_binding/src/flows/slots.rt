@@ -98,7 +98,7 @@ fn end_of_time(latest: Option<u64>, seconds: u64) -> u128
 }
 
 impl FlowSlots {
-    /// Creates an empty list of slots, with the ends of the rows. Fails if memory is refused.
+    /// Creates an empty list of slots, with the ends of the rows. Fails only if memory is refused.
     pub(crate) fn new(alloc: Global) -> Result<FlowSlots, AllocError>
         ensures { IfOk result (λ made. made.slots ≡ []) }
     {
@@ -136,7 +136,7 @@ impl FlowSlots {
         *self.flows.get(place)?
     }
 
-    /// Makes room for one more slot. Fails if memory is refused or there are 2^32 - 4 slots.
+    /// Makes room for one more slot. Fails only if memory is refused or there are 2^32 - 4 slots.
     pub(crate) fn reserve(&mut self) -> Result<(), AllocError>
         ensures slots { self.new.slots ≡ self.old.slots }
         ensures room { OnOk result (0 < self.new.room) }

@@ -19,7 +19,7 @@ pub(crate) enum InputProgress<P> {
     /// The answer to the second leg is awaited. Contains the record of the first leg.
     Returning(P),
     /// The leg that was answered last, its answer, and the records of the first and second leg. If
-    /// the answer is onward, the packet enters again by a second leg.
+    /// the answer ends with `End::Onward`, the packet comes in again by a second leg.
     Answered(AwaitedLeg, End, P, P),
 }
 
@@ -61,7 +61,7 @@ impl<P: LegTrace> InputProgress<P> {
         }
     }
 
-    /// Returns whether it is still unknown if there is a second leg.
+    /// Returns whether it is not yet known whether the input has a second leg.
     pub(crate) fn is_unknown(&self) -> bool
         ensures { result ≡ is_unknown (Some self.now) }
     {

@@ -60,7 +60,7 @@ impl<P: LegTrace> Dispatcher<P> {
         }
     }
 
-    /// Records an answer of worker `w`. Fails if no such answer is awaited; no worker gives one.
+    /// Records an answer of worker `w`. Fails if no such answer is awaited, which no worker causes.
     #[inline(always)]
     pub(super) fn note(&mut self, w: u32, traced: TracedAnswer<P>) -> Result<(), ImpossibleAnswer>
         requires { w < length self.old.queues }
@@ -92,7 +92,8 @@ impl<P: LegTrace> Dispatcher<P> {
         self.queues.none_held() && self.queues.none_owed()
     }
 
-    /// Fails unless every outcome has been written. It never fails once nothing is held or owed.
+    /// Fails unless every outcome has been written. Never fails if no leg is held and every worker
+    /// has answered every leg.
     pub(super) fn check_left(&self) -> Result<(), ImpossibleAnswer>
         ensures none { IsOk result ↔ (self.now.progress.under_way ≡ []) }
         ensures few { OnOk result (length self.now.progress.left < 2 ^ 64) }

@@ -17,8 +17,8 @@ use napt_pool::{Gate, Pool};
 use napt_sequential::{Input, InputSource, LegTrace, RunFault, way_from};
 use std::sync::Wait;
 
-/// The number of inputs that are read from one check of answers to the next, of the workers in
-/// turn. A check may fetch a cache line that another processor wrote, so that fewer cost less.
+/// The number of inputs after which the answers of the next worker, in turn, are checked. A check
+/// may fetch a cache line that another processor wrote, so rarer checks cost less.
 const LOOK_EACH: u64 = 64;
 
 impl<P: LegTrace> Dispatcher<P> {
@@ -53,7 +53,9 @@ impl<P: LegTrace> Dispatcher<P> {
         }
     }
 
-    /// Reads an input at `now`, in ns. Then serves its worker if a message is due, and one in turn.
+    /// Reads an input at `now`, in ns. Then takes answers from its worker and offers it legs, if a
+    /// message for it is due. Finally, takes answers from the worker whose turn it is, if any, and
+    /// offers it legs.
     #[inline(always)]
     fn serve<R: Wait, G: Gate>(
         &mut self,

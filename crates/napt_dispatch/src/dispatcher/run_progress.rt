@@ -206,7 +206,7 @@ impl<P: LegTrace> RunProgress<P> {
         }
     }
 
-    /// Returns whether it is still unknown if input `number` has a second leg.
+    /// Returns whether it is not yet known whether input `number` has a second leg.
     pub(crate) fn is_unknown(&self, number: u64) -> bool
         ensures { result ≡ is_unknown (slice_get (progress_in self.now) number) }
     {

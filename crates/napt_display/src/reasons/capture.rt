@@ -121,7 +121,7 @@ fn add_form(
 ) -> Result<(), AllocError>
     ensures { OnOk result (vec_len reasons.old + 1 ≤ vec_len reasons.new) }
 {
-    add(reasons, "it is", form_text(alloc, form))?;
+    add(reasons, "format", form_text(alloc, form))?;
     match form {
         FileForm::Empty | FileForm::Unread => Ok(()),
         FileForm::Unknown => {
@@ -129,14 +129,14 @@ fn add_form(
             let text = format!(in alloc;
                 "save it as pcap or pcapng; {command} then makes the captures that napt reads"
             );
-            add(reasons, "do", text)
+            add(reasons, "advice", text)
         }
         FileForm::Pcapng => add_split(alloc, reasons, splitting, "in.pcapng"),
         FileForm::Gzip => add_split(alloc, reasons, splitting, "in.pcap.gz"),
         FileForm::Pcap(_, 9 | 50 | 51) => {
             let text =
                 "capture at the ppp interface itself, as tcpdump -i ppp0 does: split does not read this";
-            add(reasons, "do", String::from_str(alloc, text))
+            add(reasons, "advice", String::from_str(alloc, text))
         }
         FileForm::Pcap(_, 1 | 12 | 14 | 113 | 276) => {
             add_split(alloc, reasons, splitting, "in.pcap")
@@ -165,7 +165,7 @@ fn add_split(
         call.push_str(&format!(in alloc; " {prefix}")?)?;
     }
     call.push_str(" --out DIR")?;
-    add(reasons, "do", Ok(call))?;
+    add(reasons, "advice", Ok(call))?;
     let more = "DIR/inside.pcap and DIR/outside.pcap are then what napt reads (docs/CAPTURES.md)";
     add(reasons, "", String::from_str(alloc, more))
 }

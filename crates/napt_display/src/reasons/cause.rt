@@ -39,11 +39,11 @@ impl CauseText {
             ),
             Cause::NotIpv4 => CauseText::with_advice(
                 "not version 4",
-                "IPv6 and ARP are not translated; else link headers or a VLAN tag were left in the capture, or cut twice",
+                "IPv6 and ARP are not translated; if these are IPv4 packets, link headers or a VLAN tag are still before them, or bytes were removed twice",
             ),
             Cause::BadHeader => CauseText::with_advice(
                 "an impossible length in a header",
-                "link headers were cut at the wrong place, or the card leaves total lengths 0: switch its offload off",
+                "link headers were cut at the wrong place, or the network card left the total length 0: switch off its segmentation offload (ethtool -K IF tso off)",
             ),
             Cause::BadChecksum => CauseText::with_advice(
                 "the checksum of the IP header, or of an ICMP error, is wrong",
@@ -59,7 +59,7 @@ impl CauseText {
             Cause::BadInner => CauseText::new(
                 "an ICMP error that quotes too little, or a packet that no inside host sent",
             ),
-            Cause::BadPort => CauseText::new("a port 0"),
+            Cause::BadPort => CauseText::new("a port is 0"),
             Cause::Spoofed => CauseText::with_advice(
                 "the source belongs to the other side",
                 "the captures are swapped, one is of both interfaces, or a prefix is missing in `inside`",
@@ -85,11 +85,11 @@ impl CauseText {
                 "nothing was sent to the remotes: `filter = \"independent\"` would accept their packets",
             ),
             Cause::OverQuota => CauseText::with_advice(
-                "the host has all the bindings that `quota` allows it",
+                "the host already has as many bindings as `quota` allows",
                 "raise `quota`, or omit it, so that there is no limit",
             ),
             Cause::NoPort => CauseText::with_advice(
-                "every number that may replace it is in use at this external address",
+                "every external number to which the packet's number may be mapped is in use at this external address",
                 "the pool is too small: add an address",
             ),
         }

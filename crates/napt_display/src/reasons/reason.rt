@@ -7,13 +7,13 @@ use std::alloc::AllocError;
 /// A reason for a refusal.
 #[derive(Drop)]
 pub struct Reason {
-    /// The word before it: `why`, `at`, `line`, `meant`, `value`, `with_advice`, `expected`, `it is` or
-    /// `do`. It is empty if the reason continues the reason before.
+    /// The title of the reason, such as `why`, `format` or `advice`. It is empty if the text
+    /// continues that of the reason before.
     pub title: &'static str,
     pub text: String,
 }
 
-/// Adds a reason to others. Fails if making its text fails, or if memory is refused.
+/// Adds a reason to others. Fails only if the text could not be made or memory is refused.
 pub fn add(
     reasons: &mut Vec<Reason>,
     title: &'static str,

@@ -57,7 +57,8 @@ impl BindingIndex {
     ghost use Rattle.napt_table.specs.declared.bindings.keys.ExternalNumberKey.{ExternalNumberKey as Key};
     ghost use Rattle.napt_table.specs.BindingIndexes.{held_binding, held_at, count_all, IsNumberOf, IsNamed, HasNoInside, IsSamePlace, HoldsSame};
 
-    /// Creates an index without bindings. Fails if the memory for the numbers in use is refused.
+    /// Creates an index without bindings. Fails only if the memory for the numbers in use is
+    /// refused.
     pub(crate) fn new(
         alloc: Global,
         address: u32,
@@ -165,7 +166,7 @@ impl BindingIndex {
         usize::from(quota) <= count
     }
 
-    /// Reserves memory for one more binding of the protocol. Fails if it is refused.
+    /// Reserves memory for one more binding of the protocol. Fails only if memory is refused.
     pub(crate) fn reserve(&mut self, protocol: Protocol) -> Result<(), AllocError>
         ensures same { HoldsSame self.old self.new }
         ensures room { OnOk result (0 < self.new.room) }
@@ -236,7 +237,7 @@ impl BindingIndex {
     ghost use Rattle.napt_table.specs.BindingIndexes.{held_binding, held_at, AreUsedUpTo, HoldsSame, ChangesOne, SendKnownPost};
 
     /// Sends a packet out through its inside endpoint's live binding, if there is one, and returns
-    /// its number. Fails if memory is refused; the stored bindings are then unchanged.
+    /// its number. Fails only if memory is refused; the stored bindings are then unchanged.
     pub(crate) fn send(
         &mut self,
         alloc: Global,
@@ -265,7 +266,8 @@ impl BindingIndex {
         Ok(Some(number))
     }
 
-    /// Replaces the last use (ns) and the flows of the binding with this key, not its endpoints.
+    /// Replaces the time of last use (ns) and the flows of the binding with this key. Its endpoints
+    /// stay the same.
     pub(crate) fn renew(&mut self, key: ExternalNumberKey, last: u64, flows: Flows)
         ensures one { ChangesOne key self.old self.new }
         ensures left { (b : Binding) → held_binding self.old key ≡ Some b →
@@ -281,8 +283,9 @@ impl BindingIndex {
         binding.flows = flows;
     }
 
-    /// Receives a packet. Returns the inside endpoint of the live binding with its number if the
-    /// filter admits the remote, else `NoBinding` or `Filtered`. Allocates no memory.
+    /// Receives a packet. Returns the inside endpoint of the live binding with its number. Fails
+    /// with `NoBinding` if there is none, or with `Filtered` if the filter refuses the remote.
+    /// Allocates no memory.
     pub(crate) fn receive(
         &mut self,
         timers: IdleTimers,

@@ -25,7 +25,7 @@ impl BindingPlaces {
         }
     }
 
-    /// Reserves the 128 KiB of a protocol's hints, if it has none. Fails if memory is refused.
+    /// Reserves the 128 KiB of a protocol's hints, if it has none. Fails only if memory is refused.
     pub(crate) fn reserve(&mut self, protocol: Protocol) -> Result<(), AllocError> {
         self.noted[protocol_rank(protocol) as usize].resize(NUMBERS, 0)
     }

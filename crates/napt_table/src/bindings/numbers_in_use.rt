@@ -24,7 +24,8 @@ impl NumbersInUse {
     ghost use Rattle.napt_table.specs.declared.bindings.keys.ExternalNumberKey.{ExternalNumberKey as Key};
     ghost use Rattle.napt_table.specs.NumbersInUse.{is_in_use, AreByProtocol};
 
-    /// Creates empty sets, of about 25 KiB; nothing else allocates. Fails if memory is refused.
+    /// Creates empty sets, of about 25 KiB; nothing else allocates. Fails only if memory is
+    /// refused.
     pub(crate) fn new(alloc: Global) -> Result<NumbersInUse, AllocError>
         ensures by_protocol { IfOk result AreByProtocol }
         ensures none { IfOk result (λ numbers. (key : Key) → is_in_use numbers key ≡ false) }

@@ -17,7 +17,7 @@ impl Bindings {
     ghost use Rattle.napt_table.specs.BindingIndexes.{held_binding, IsSamePlace, HasNoInside, IsUsedBy};
     ghost use Rattle.napt_table.specs.Bindings.{BindingsHaveRoom, BindingsUnchanged};
 
-    /// Reserves memory for one more binding of the protocol. Fails if it is refused.
+    /// Reserves memory for one more binding of the protocol. Fails only if memory is refused.
     fn make_room(&mut self, protocol: Protocol) -> Result<(), AllocError>
         ensures same { BindingsUnchanged self.old self.new }
         ensures room { OnOk result (BindingsHaveRoom self.new) }
@@ -65,7 +65,7 @@ impl Bindings {
     ghost use Rattle.napt_table.specs.Bindings.{BindingsHaveRoom, BindingsUnchanged, NewBindingOk, RenewedBindingOk, FindsLiveBinding, SendPost, SendsKnown};
 
     /// Stores a binding that is live or held and whose endpoints are free. A redirect never expires
-    /// and is not queued. Fails if memory is refused; no stored binding then changes.
+    /// and is not queued. Fails only if memory is refused; no stored binding then changes.
     pub(crate) fn add(&mut self, binding: TableBinding) -> Result<(), AllocError>
         requires live { is_live self.old.timers (hold_ago self.old.timers self.old.at) binding
             ≡ true }
@@ -92,7 +92,7 @@ impl Bindings {
     }
 
     /// Sends a packet out through its inside endpoint's live binding, if there is one. Returns its
-    /// number, and sets the time. Fails if memory is refused; no binding then changes.
+    /// number, and sets the time. Fails only if memory is refused; no binding then changes.
     #[inline(always)]
     fn send_held(
         &mut self,
@@ -151,7 +151,8 @@ impl Bindings {
         Flows::from_packet(alloc, self.timers, packet)
     }
 
-    /// Makes the packet's binding with these flows. Returns a number or `NoPort`. Never allocates.
+    /// Makes a binding for the packet, with these flows. Returns its external number, or `NoPort`
+    /// if no number is free. Allocates no memory.
     fn insert_new(&mut self, packet: OutboundPacket, flows: Flows) -> Result<u16, Cause>
         requires room { BindingsHaveRoom self.old }
         requires at { self.old.at ≡ packet.now }
@@ -214,8 +215,9 @@ impl Bindings {
         held.renew(ExternalNumberKey { number, protocol }, packet.now, flows);
     }
 
-    /// Sends a packet out. Returns the number of its live binding, else of its held one, else of a
-    /// new one, or `OverQuota` or `NoPort`. Fails if memory is refused; no binding then changes.
+    /// Sends a packet out, and returns the number of its binding: the live one, or else the held
+    /// one, or else a new one. A new binding is refused with `OverQuota` or `NoPort`. Fails only if
+    /// memory is refused; no binding then changes.
     #[inline(never)]
     pub(crate) fn send(
         &mut self,
