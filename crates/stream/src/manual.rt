@@ -39,6 +39,8 @@ After success each output contains the bytes that napt writes. The differences a
 
 --verbose adds a second line on standard error, which a terminal gets anyway: the
 option, its file, and what is wrong with it (in a configuration, with the place).
+--name NAME writes rows into the log that say whose it is, and where a run begins, ends
+or fails; a name has 1 to 64 letters, digits, dots, hyphens and underscores.
 With --end-misfits the bindings of the state that the configuration cannot keep end
 at its time, in the log too, and one line on standard error counts them; all others
 go on.
