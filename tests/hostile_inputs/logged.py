@@ -157,6 +157,11 @@ def joined(pieces):
     return "".join(rows)
 
 
+def without_gateway(text):
+    """A log without the rows of its gateway, which have no event and no protocol."""
+    return "".join(row for row in text.splitlines(True) if row.split(",")[EVENT : EVENT + 2] != ["", ""])
+
+
 def logged(configured, inside, outside):
     """The log of the run over two captures: its text, and the time of the last packet."""
     logger = Logger(configured)
