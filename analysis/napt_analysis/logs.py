@@ -31,6 +31,7 @@ COLUMNS = {
     "flowEndNanoseconds": "last_packet",
 }
 TIMES = ("observationTimeNanoseconds", "flowEndNanoseconds")
+NO_TIME = str(pd.NaT.value)
 # in a log of the version before, which also has times as dates
 DATES = ("time", "last_use")
 OF_A_BINDING = ["protocol", "host", "host_number", "address", "number", "redirect", "made"]
@@ -84,9 +85,9 @@ def read_log(*paths: str | Path) -> Log:
 
 
 def _events(path: str | Path) -> pd.DataFrame:
-    """Reads a file in parts, for less memory. Times are integers of 64 bits that may be missing: as other numbers, next to
-    empty ones, they would be rounded. Rows without a protocol are about the gateway, and are left out."""
-    kinds = {"sourceIPv4Address": "category", "postNATSourceIPv4Address": "category", **dict.fromkeys(TIMES, "Int64")}
+    """Reads a file in parts, since its times as texts take most of the memory. As numbers, next to empty ones, they would be
+    rounded. Rows without a protocol are about the gateway, and are left out."""
+    kinds = {"sourceIPv4Address": "category", "postNATSourceIPv4Address": "category", **dict.fromkeys(TIMES, str)}
     protocols = pd.CategoricalDtype(sorted(PROTOCOLS.values()))
     parts = []
     try:
@@ -94,7 +95,7 @@ def _events(path: str | Path) -> pd.DataFrame:
             part = part.rename(columns=COLUMNS)
             part = part[part.protocol.notna()]
             for column in ("time", "last_packet"):
-                part[column] = pd.to_datetime(part[column], unit="ns", utc=True)
+                part[column] = pd.to_datetime(part[column].fillna(NO_TIME).astype("int64"), utc=True)
             parts.append(part.assign(protocol=part.protocol.map(PROTOCOLS).astype(protocols)))
     except ValueError as error:
         raise LogError(f"{path} is not a log of napt: {error}") from None
