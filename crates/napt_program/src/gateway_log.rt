@@ -133,7 +133,7 @@ impl<W: Write> Write for GatewayLog<W> {
     }
 
     fn flush(&mut self) -> io::Result<()>
-        ensures { Keeps (gateway_contents W.contents self.old) (gateway_contents W.contents self.new) }
+        ensures bytes { Keeps (gateway_contents W.contents self.old) (gateway_contents W.contents self.new) }
     {
         self.device.flush()
     }
