@@ -54,17 +54,15 @@ impl LogRow {
             rows.csv_row rules event ≡ row.now ++ codes "\n" →
             result ≡ Some (saved.saved_row event) }
     {
-        match field_count(row) {
-            FIELDS => {
-                let (time, others) = first_field(row);
-                Some(LogRow::from_fields(time, others))
-            }
-            EARLIER_FIELDS => {
-                let (time, others) = first_field(row);
-                let (_, others) = first_field(others);
-                Some(LogRow::from_fields(time, others))
-            }
-            _ => None,
+        let fields = field_count(row);
+        let (time, others) = first_field(row);
+        if fields == FIELDS {
+            Some(LogRow::from_fields(time, others))
+        } else if fields == EARLIER_FIELDS {
+            let (_, others) = first_field(others);
+            Some(LogRow::from_fields(time, others))
+        } else {
+            None
         }
     }
 

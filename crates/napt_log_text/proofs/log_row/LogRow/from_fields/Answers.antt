@@ -16,13 +16,13 @@ returns-clause-binding c at event note listed some many fits first is =
     let f7 = c.first_field-7.ensures _ _ _ f6.1 in
     let f8 = c.first_field-8.ensures _ _ _ f7.1 in
     let f9 = c.first_field-9.ensures _ _ _ f8.1 in
-    let one = c.number_in-2.ensures at some first in
-    let two = c.number_in-3.ensures event many f1.0 in
-    let three = c.number_in.ensures (Some (csv_protocol binding.protocol)) (small_protocol binding.protocol) f2.0 in
+    let one = c.number_in.ensures at some first in
+    let two = c.number_in-2.ensures event many f1.0 in
+    let three = c.number_in-protocol.ensures (Some (csv_protocol binding.protocol)) (small_protocol binding.protocol) f2.0 in
     let four = c.endpoint_of.ensures.some binding.inside fits.1 f3.0 f4.0 in
     let five = c.endpoint_of-2.ensures.some binding.external fits.2 f5.0 f6.0 in
-    let six = c.number_in-4.ensures (Some listed.number) (omega (arith, fits.0)) f8.0 in
-    let seven = c.number_in-5.ensures (Some (flag_number binding.fixed)) (small_flag binding.fixed)
+    let six = c.number_in-3.ensures (Some listed.number) (omega (arith, fits.0)) f8.0 in
+    let seven = c.number_in-4.ensures (Some (flag_number binding.fixed)) (small_flag binding.fixed)
     (f9.0 ∙ flag_text-decimal binding.fixed) in
     let eight = c.is_of_gateway.ensures (csv_protocol binding.protocol) three in
     rw (one, two, three, four, five, six, seven, eight) refl
@@ -38,12 +38,12 @@ returns-clause-refusal c external shortage some first is =
     let f7 = c.first_field-7.ensures _ _ _ f6.1 in
     let f8 = c.first_field-8.ensures _ _ _ f7.1 in
     let f9 = c.first_field-9.ensures _ _ _ f8.1 in
-    let one = c.number_in-2.ensures (Some shortage.at) some first in
-    let two = c.number_in-3.ensures (Some (shortage_number shortage.cause)) (small_shortage shortage.cause) f1.0 in
-    let three = c.number_in.ensures (Some (csv_protocol shortage.protocol)) (small_protocol shortage.protocol) f2.0 in
+    let one = c.number_in.ensures (Some shortage.at) some first in
+    let two = c.number_in-2.ensures (Some (shortage_number shortage.cause)) (small_shortage shortage.cause) f1.0 in
+    let three = c.number_in-protocol.ensures (Some (csv_protocol shortage.protocol)) (small_protocol shortage.protocol) f2.0 in
     let four = c.endpoint_of.ensures.none f4.0 in
     let five = c.endpoint_of-2.ensures.none f6.0 in
-    let six = c.number_in-4.ensures None tt f8.0 in
-    let seven = c.number_in-5.ensures None tt f9.0 in
+    let six = c.number_in-3.ensures None tt f8.0 in
+    let seven = c.number_in-4.ensures None tt f9.0 in
     let eight = c.is_of_gateway.ensures (csv_protocol shortage.protocol) three in
     rw (one, two, three, four, five, six, seven, eight) refl
