@@ -8,12 +8,11 @@ from judging.judge import Judge
 from judging.mappings import LEAST, OF_ICMP, TRANSITORY
 from judging.packets import ICMP, OF_TCP, OF_UDP, QUERY, TCP, UDP, Endpoint, Packet, Plan, dotted
 from judging.pairing import CONNECTION, IN, OUT, SURE, Pair, Setup, UnmatchedDeparture
-from reading.captures import date
 
 FIELDS = (
-    "observationTimeNanoseconds", "time", "natEvent", "protocolIdentifier", "sourceIPv4Address", "sourceTransportPort",
+    "observationTimeNanoseconds", "natEvent", "protocolIdentifier", "sourceIPv4Address", "sourceTransportPort",
     "postNATSourceIPv4Address", "postNAPTSourceTransportPort", "natQuotaExceededEvent", "binding", "redirect",
-    "packets_out", "packets_in", "flowEndNanoseconds", "last_use",
+    "packets_out", "packets_in", "flowEndNanoseconds", "note",
 )
 MADE, ENDED = 8, 9
 # what each row has in a field that only quotas use, and that nothing reads
@@ -41,7 +40,7 @@ class Entry:
         time, last = (self.first, self.first) if is_made else (self.last + 1, self.last)
         counts = (int(self.sent > 0), int(self.sent == 0)) if is_made else (self.sent, self.received)
         ends = (dotted(self.inside[0]), self.inside[1], dotted(self.external[0]), self.external[1])
-        return (time, date(time), event, self.protocol, *ends, INFERRED, self.number, 0, *counts, last, date(last))
+        return (time, event, self.protocol, *ends, INFERRED, self.number, 0, *counts, last, "")
 
 
 class Log(Judge):
@@ -86,4 +85,4 @@ class Log(Judge):
         rows = [entry.row(event) for entry in self.entries for event in (MADE, ENDED)]
         writer = csv.writer(file, lineterminator="\n")
         writer.writerow(FIELDS)
-        writer.writerows(sorted(rows, key=lambda row: (row[0], -row[2], row[9])))
+        writer.writerows(sorted(rows, key=lambda row: (row[0], -row[1], row[8])))

@@ -3,7 +3,7 @@ import csv
 import io
 from collections import Counter
 
-from hostile_inputs.logged import ENDED, FIELDS, MADE, NO_PORT, OVER_QUOTA, dated
+from hostile_inputs.logged import ENDED, FIELDS, MADE, NO_PORT, OVER_QUOTA
 from shared import want
 
 PROTOCOLS = {1: "icmp", 6: "tcp", 17: "udp"}
@@ -81,18 +81,14 @@ class Log:
         self.first, self.last = min(times, default=0), max(times, default=0)
         order = [(at, ORDER[event]) for at, event in self.events]
         want(order == sorted(order), "events are not in the order of time")
-        dates = [it["time"] for it in self.rows]
-        timed = [it for it in dates if it]
-        want(dates == sorted(timed) + [""] * (len(dates) - len(timed)), "texts do not sort as times")
         made = [it.is_redirect for it in self.entries.values()]
         want(made == sorted(made, reverse=True), "a redirect is after another binding")
         want(not is_whole or all(it.is_told for it in self.entries.values()), "a binding has no row of its end, and none at the end")
 
     def take(self, row, at, event):
         self.events.append((at, event))
-        want(row["time"] == ("" if at == float("inf") else dated(at)), f"date: {row}")
+        want(row["note"] == "", f"note: {row}")
         want((row["natQuotaExceededEvent"] == "3") == (event == OVER_QUOTA), f"quota: {row}")
-        want(row["last_use"] == (dated(int(row["flowEndNanoseconds"])) if row["flowEndNanoseconds"] else ""), f"date: {row}")
         if event == MADE:
             entry = Entry(row)
             want(entry.number == len(self.entries) + 1 and entry.is_new(), f"made: {row}")
@@ -100,7 +96,7 @@ class Log:
         elif event in (ENDED, LIVING):
             self.entries[int(row["binding"])].tell(event, row)
         else:
-            want(not any(row[it] for it in FIELDS[5:6] + FIELDS[7:8] + FIELDS[9:]), f"shortage: {row}")
+            want(not any(row[it] for it in FIELDS[4:5] + FIELDS[6:7] + FIELDS[8:]), f"shortage: {row}")
             self.refused[event, row["sourceIPv4Address"]] += 1
 
     def standing(self, at, protocol, external):

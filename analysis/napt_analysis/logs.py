@@ -5,6 +5,7 @@ A log is what `explain log` and `stream --log` write (docs/FORMATS.md): one file
 
 from __future__ import annotations
 
+import io
 from dataclasses import dataclass, replace
 from pathlib import Path
 
@@ -16,7 +17,7 @@ REFUSED = {12: "no-port", 13: "over-quota"}
 PART = 50_000  # rows
 
 COLUMNS = {
-    "time": "time",
+    "observationTimeNanoseconds": "time",
     "natEvent": "event",
     "protocolIdentifier": "protocol",
     "sourceIPv4Address": "host",
@@ -27,8 +28,12 @@ COLUMNS = {
     "redirect": "redirect",
     "packets_out": "sent",
     "packets_in": "received",
-    "last_use": "last_packet",
+    "flowEndNanoseconds": "last_packet",
 }
+TIMES = ("observationTimeNanoseconds", "flowEndNanoseconds")
+NO_TIME = str(pd.NaT.value)
+# in a log of the version before, which also has times as dates
+DATES = ("time", "last_use")
 OF_A_BINDING = ["protocol", "host", "host_number", "address", "number", "redirect", "made"]
 
 
@@ -80,20 +85,34 @@ def read_log(*paths: str | Path) -> Log:
 
 
 def _events(path: str | Path) -> pd.DataFrame:
-    """Reads a file in parts, since its dates as texts take most of the memory. As numbers, next to empty ones, they would be
-    rounded."""
-    kinds = {"sourceIPv4Address": "category", "postNATSourceIPv4Address": "category"}
+    """Reads a file in parts, since its times as texts take most of the memory. As numbers, next to empty ones, they would be
+    rounded. Rows without a protocol are about the gateway, and are left out."""
+    kinds = {"sourceIPv4Address": "category", "postNATSourceIPv4Address": "category", **dict.fromkeys(TIMES, str)}
     protocols = pd.CategoricalDtype(sorted(PROTOCOLS.values()))
     parts = []
     try:
-        for part in pd.read_csv(path, usecols=list(COLUMNS), dtype=kinds, chunksize=PART):
+        for part in pd.read_csv(_without_dates(path), usecols=list(COLUMNS), dtype=kinds, chunksize=PART):
             part = part.rename(columns=COLUMNS)
+            part = part[part.protocol.notna()]
             for column in ("time", "last_packet"):
-                part[column] = pd.to_datetime(part[column], utc=True)
+                part[column] = pd.to_datetime(part[column].fillna(NO_TIME).astype("int64"), utc=True)
             parts.append(part.assign(protocol=part.protocol.map(PROTOCOLS).astype(protocols)))
     except ValueError as error:
         raise LogError(f"{path} is not a log of napt: {error}") from None
     return pd.concat(parts, ignore_index=True)
+
+
+def _without_dates(path: str | Path) -> str | Path | io.StringIO:
+    """Returns the path or, for a log of the version before, its text without the dates. A run of today may have added rows
+    to it that have none."""
+    names = list(pd.read_csv(path, nrows=0).columns)
+    if not set(DATES) <= set(names):
+        return path
+    with open(path, encoding="utf-8") as file:
+        rows = [row.rstrip("\n").split(",") for row in file]
+    dated = [names.index(name) for name in DATES]
+    kept = [[field for place, field in enumerate(row) if place not in dated] if len(row) == len(names) else row[:-1] for row in rows]
+    return io.StringIO("".join(",".join(row) + "\n" for row in kept))
 
 
 def _bindings(events: pd.DataFrame) -> pd.DataFrame:

@@ -1,5 +1,6 @@
 // Puts a translator between two TUN devices; the text of --help, below, says how.
 #define _GNU_SOURCE
+#include <ctype.h>
 #include <dirent.h>
 #include <errno.h>
 #include <fcntl.h>
@@ -34,8 +35,8 @@ static const char HELP[] =
     "\n"
     "INSIDE and OUTSIDE are the names of existing TUN devices; NAME@FILE is one of another network namespace, as\n"
     "outside0@/run/netns/outside. PROGRAM (%s) is started with the words given, and with --inside, --outside,\n"
-    "--to-outside and --to-inside, each with a pipe. Once it has opened its files and the devices carry packets, the relay\n"
-    "prints that it is ready.\n"
+    "--to-outside and --to-inside, each with a pipe; if the words have --log and no --name, it also gets --name with the\n"
+    "host's name. Once it has opened its files and the devices carry packets, the relay prints that it is ready.\n"
     "\n"
     "  --keep DIR      keeps the captures of the packets to PROGRAM and from it in DIR, named after its options, as\n"
     "                  inside.pcap. If one of an earlier run is there, the relay ends at once; with --state, or with --resume\n"
@@ -611,6 +612,24 @@ static void add_words(char **words, int *many, const char *option, const char *v
     words[(*many)++] = some(strdup(value));
 }
 
+static bool has_option(char **words, int many, const char *option) {
+    size_t length = strlen(option);
+    for (int at = 0; at < many; at++)
+        if (strncmp(words[at], option, length) == 0 && (words[at][length] == 0 || words[at][length] == '=')) return true;
+    return false;
+}
+
+// Adds the name of the host for the rows of its log that say whose it is, unless the words have a name. What no name may have becomes a
+// hyphen.
+static void add_name(char **words, int *many) {
+    char host[65] = "";
+    if (!has_option(words, *many, "--log") || has_option(words, *many, "--name")) return;
+    if (gethostname(host, sizeof host - 1) != 0 || host[0] == 0) return;
+    for (char *it = host; *it; it++)
+        if (!isalnum((unsigned char)*it) && !strchr(".-_", *it)) *it = '-';
+    add_words(words, many, "--name", host);
+}
+
 static void add_option(char **words, int *many, const char *option, int end) {
     char path[32];
     snprintf(path, sizeof path, "/dev/fd/%d", end);
@@ -620,7 +639,7 @@ static void add_option(char **words, int *many, const char *option, int end) {
 
 // Starts the program with its ends of the pipes.
 static void start(Relay *relay, char **given, int many) {
-    char **words = some(calloc((size_t)many + 15, sizeof *words));
+    char **words = some(calloc((size_t)many + 17, sizeof *words));
     memcpy(words, given, (size_t)many * sizeof *words);
     relay->program = fork();
     if (relay->program < 0) fail(1, "fork: %s", strerror(errno));
@@ -638,6 +657,7 @@ static void start(Relay *relay, char **given, int many) {
         if (relay->report.path) add_option(words, &many, "--report", relay->report.far);
         if (relay->state) add_words(words, &many, "--resume", relay->state);
         if (relay->state) add_words(words, &many, "--save", relay->saved);
+        add_name(words, &many);
         // nor does another key of a terminal end or stop it
         setpgid(0, 0);
         execvp(words[0], words);

@@ -7,8 +7,9 @@ import datetime
 from . import translating
 from .translating import SECOND, Dropped, shown
 
-FIELDS = """observationTimeNanoseconds time natEvent protocolIdentifier sourceIPv4Address sourceTransportPort postNATSourceIPv4Address
-    postNAPTSourceTransportPort natQuotaExceededEvent binding redirect packets_out packets_in flowEndNanoseconds last_use""".split()
+FIELDS = """observationTimeNanoseconds natEvent protocolIdentifier sourceIPv4Address sourceTransportPort postNATSourceIPv4Address
+    postNAPTSourceTransportPort natQuotaExceededEvent binding redirect packets_out packets_in flowEndNanoseconds note""".split()
+EVENT, REPEATED = FIELDS.index("natEvent"), "repeated"
 MADE, ENDED, NO_PORT, OVER_QUOTA = 8, 9, 12, 13
 SHORTAGES = {"no-port": NO_PORT, "over-quota": OVER_QUOTA}
 
@@ -30,13 +31,12 @@ class Entry:
         self.end = None
         self.sent = self.received = 0
 
-    def row(self, at, event):
+    def row(self, at, event, note=""):
         """Its row of the log as it is now; the event is empty at the end of the run, and the time too of what never ends."""
         ends = [part for address, number in (self.binding.inside, self.binding.external) for part in (shown(address), number)]
-        last = self.last if self.sent or self.received else None
-        times = [part for time in (at, last) for part in (("", "") if time is None else (time, dated(time)))]
+        last = self.last if self.sent or self.received else ""
         counts = [self.number, int(self.binding.is_fixed), self.sent, self.received]
-        return [*times[:2], event, self.binding.protocol, *ends, "", *counts, *times[2:]]
+        return ["" if at is None else at, event, self.binding.protocol, *ends, "", *counts, last, note]
 
 
 def end_of(binding, timers):
@@ -46,7 +46,7 @@ def end_of(binding, timers):
 def refusal(at, event, protocol, host, address):
     """The row of a packet that got no binding."""
     quota = 3 if event == OVER_QUOTA else ""
-    return [at, dated(at), event, protocol, shown(host), "", shown(address), "", quota, *[""] * 6]
+    return [at, event, protocol, shown(host), "", shown(address), "", quota, *[""] * 6]
 
 
 class Logger(translating.Translator):
@@ -78,8 +78,8 @@ class Logger(translating.Translator):
         self.keep_ends()
 
     def opening(self, entries):
-        """How a new log begins, in which these have not ended."""
-        return [FIELDS, *(it.row(it.made, MADE) for it in entries)]
+        """How a new log begins, which repeats the entries that have not ended."""
+        return [FIELDS, *(it.row(it.made, MADE, REPEATED) for it in entries)]
 
     def begin(self, binding):
         self.many += 1
@@ -150,12 +150,16 @@ def csv(rows):
 
 
 def joined(pieces):
-    """The text of a log in pieces, without the openings of those after the first: its fields and a row for each binding that is open."""
+    """The text of a log in pieces, without the openings of those after the first: its fields and the rows that a piece repeats."""
     rows = []
     for piece in pieces:
-        events = [row.split(",")[2] for row in rows]
-        rows += piece.splitlines(True)[1 + events.count(str(MADE)) - events.count(str(ENDED)) if rows else 0 :]
+        rows += [row for row in piece.splitlines(True)[1 if rows else 0 :] if not row.endswith(f",{REPEATED}\n")]
     return "".join(rows)
+
+
+def without_gateway(text):
+    """A log without the rows of its gateway, which have no event and no protocol."""
+    return "".join(row for row in text.splitlines(True) if row.split(",")[EVENT : EVENT + 2] != ["", ""])
 
 
 def logged(configured, inside, outside):

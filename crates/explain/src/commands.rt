@@ -162,7 +162,8 @@ fn show<'a>(alloc: Global, is_named: bool) -> Result<Command<'a>, AllocError> {
         .arg(value(alloc, "report", "FILE", NOT_WRITTEN).hide(true))?
         .arg(value(alloc, "save", "FILE", NOT_WRITTEN).hide(true))?
         .arg(value(alloc, "log", "FILE", NOT_WRITTEN).hide(true))?
-        .arg(value(alloc, "log-each", "SECONDS", NOT_WRITTEN).hide(true))
+        .arg(value(alloc, "log-each", "SECONDS", NOT_WRITTEN).hide(true))?
+        .arg(value(alloc, "name", "NAME", NOT_WRITTEN).hide(true))
 }
 
 fn who<'a>(alloc: Global) -> Result<Command<'a>, AllocError> {

@@ -7,7 +7,7 @@ use Rattle.napt_rules.specs.Prelude.{Arrival, Binding, Each, State, Timers, init
 use Rattle.napt_rules.specs.declared.Row.{Row}
 use Rattle.napt_account.specs.{Parties.is_meant, declared.log.{Entry.Entry, LogEntry.LogEntry, Shortage.Shortage}, Log.{LogModel, begun_after, first_entry, log_of, log_on, numbered_from, unnumbered, unused_entry}, LogParts.{IsNumbered, LogDelta, in_order_of_end, is_open, living_at}, OpenEntries.Has, ResumedLogRuns.{left_of, part_of}, WholeLogs.{ArePartsOfLog, PartsAreTheLog, all_parts, origin, parts_joined}}
 use Rattle.napt_account.proofs.{EndOrderings.{Differ, each_has, has_each}, EntryNumbers.{begun_numbered, differ_moved, log_rises}, AscendingNumbers.rises_differ, SortedLists.{has_back, has_moved}}
-use Rattle.napt_log_text.specs.{LogReaders.{events_after, part_events}, Logs.log_anew, Requests.{holders, is_asked, is_holder, meets}, declared.{event.LogEvent.{LogEvent, TheVariants.{Made, Ended, Living, Refused}}, request.{Request.Request, TimeSpan.TimeSpan}}}
+use Rattle.napt_log_text.specs.{LogReaders.{events_after, part_events}, Logs.log_anew, Requests.{holders, is_asked, is_holder, meets}, declared.{event.LogEvent.{LogEvent, TheVariants.{Made, Repeated, Ended, Living, Refused}}, request.{Request.Request, TimeSpan.TimeSpan}}}
 use Rattle.napt_attribution.specs.{RequestParties.is_asked_about, LogLaws.{RowsNameTheHolders, RowsDetermineTheLog, whole_events, without_counts}, SavedLogs.{asked_entries, bare_entry, row_end_among, end_told, entries_in, made_in}, declared.requests.HolderRequest.HolderRequest}
 
 -- THE ROWS THAT RECORD AN END, by their entries
@@ -25,6 +25,7 @@ end_by (l ∷ ls) number = end_told l number (end_by ls number)
 end_of_tellers : (es : List LogEvent) (number : ℕ) → row_end_among es number ≡ end_by (tellers es) number
 end_of_tellers [] number = refl
 end_of_tellers (Made l ∷ es) number = end_of_tellers es number
+end_of_tellers (Repeated l ∷ es) number = end_of_tellers es number
 end_of_tellers (Ended l ∷ es) number = ap (end_told l number) (end_of_tellers es number)
 end_of_tellers (Living l ∷ es) number = ap (end_told l number) (end_of_tellers es number)
 end_of_tellers (Refused s ∷ es) number = end_of_tellers es number
@@ -32,6 +33,7 @@ end_of_tellers (Refused s ∷ es) number = end_of_tellers es number
 tellers_joined : (es fs : List LogEvent) → tellers (es ++ fs) ≡ tellers es ++ tellers fs
 tellers_joined [] fs = refl
 tellers_joined (Made l ∷ es) fs = tellers_joined es fs
+tellers_joined (Repeated l ∷ es) fs = tellers_joined es fs
 tellers_joined (Ended l ∷ es) fs = ap (λ (ls : List LogEntry). l ∷ ls) (tellers_joined es fs)
 tellers_joined (Living l ∷ es) fs = ap (λ (ls : List LogEntry). l ∷ ls) (tellers_joined es fs)
 tellers_joined (Refused s ∷ es) fs = tellers_joined es fs
@@ -39,6 +41,7 @@ tellers_joined (Refused s ∷ es) fs = tellers_joined es fs
 made_joined : (es fs : List LogEvent) → made_in (es ++ fs) ≡ made_in es ++ made_in fs
 made_joined [] fs = refl
 made_joined (Made l ∷ es) fs = ap (λ (ls : List LogEntry). l ∷ ls) (made_joined es fs)
+made_joined (Repeated l ∷ es) fs = ap (λ (ls : List LogEntry). l ∷ ls) (made_joined es fs)
 made_joined (Ended l ∷ es) fs = made_joined es fs
 made_joined (Living l ∷ es) fs = made_joined es fs
 made_joined (Refused s ∷ es) fs = made_joined es fs

@@ -4,7 +4,7 @@ use Rattle.std.specs.{BTreeMap.BTreeMap, Option.{IsSome, is_some, option_or}}
 use Rattle.napt_wire.specs.declared.{Cause.TheVariants.OverQuota, Protocol.Protocol}
 use Rattle.napt_rules.specs.{Prelude.Each, declared.Row.Row}
 use Rattle.napt_account.{specs.{declared.log.{Entry.Entry, LogEntry.LogEntry, Shortage.Shortage}, LogParts.NumbersAscend}, proofs.AscendingNumbers.rises_pushed}
-use Rattle.napt_log_text.specs.{LogRows.{number_field, saved_row}, Rows.shortage_number, declared.{event.LogEvent.{LogEvent, TheVariants.{Made, Ended, Living, Refused}}, log_row.{LogField.TheVariants.{Empty, Number}, LogRow.LogRow}}}
+use Rattle.napt_log_text.specs.{LogRows.{number_field, saved_row}, Rows.shortage_number, declared.{event.LogEvent.{LogEvent, TheVariants.{Made, Repeated, Ended, Living, Refused}}, log_row.{LogField.TheVariants.{Empty, Number}, LogRow.LogRow}}}
 use Rattle.napt_attribution.specs.{SavedLogs.{EventFollows, HasBinding, HasOpenEntry, TracksEntries, RowsTrackEntries, RowsTrackEvents, bare_entry, row_end_among, end_told, entries_in, entry_of, entry_with_end, has_no_end, made_in, entry_if}, declared.{requests.HolderRequest.HolderRequest, kept_entries.KeptEntries.KeptEntries, saved_rows.SavedRows.SavedRows}}
 
 -- EVENTS
@@ -12,6 +12,7 @@ use Rattle.napt_attribution.specs.{SavedLogs.{EventFollows, HasBinding, HasOpenE
 made_more : (es : List LogEvent) (e : LogEvent) → made_in (es ++ e ∷ []) ≡ made_in es ++ made_in (e ∷ [])
 made_more [] e = refl
 made_more (Made l ∷ es) e = ap (λ (ls : List LogEntry). l ∷ ls) (made_more es e)
+made_more (Repeated l ∷ es) e = ap (λ (ls : List LogEntry). l ∷ ls) (made_more es e)
 made_more (Ended l ∷ es) e = made_more es e
 made_more (Living l ∷ es) e = made_more es e
 made_more (Refused s ∷ es) e = made_more es e
@@ -30,6 +31,7 @@ end_more : (es : List LogEvent) (e : LogEvent) (number : ℕ) →
     row_end_among (es ++ e ∷ []) number ≡ option_or (row_end_among es number) (row_end_among (e ∷ []) number)
 end_more [] e number = refl
 end_more (Made l ∷ es) e number = end_more es e number
+end_more (Repeated l ∷ es) e number = end_more es e number
 end_more (Ended l ∷ es) e number = ap (end_told l number) (end_more es e number)
     ∙ or_told (l.number == number) l.entry.end (row_end_among es number) (row_end_among (e ∷ []) number)
 end_more (Living l ∷ es) e number = ap (end_told l number) (end_more es e number)
@@ -50,6 +52,18 @@ pub entries_made : (es : List LogEvent) (l : LogEntry) → row_end_among es l.nu
 entries_made es l none = ap₂ with_ends (same_ends es (Made l) (λ number. refl)) (made_more es (Made l))
     ∙ (map-append (λ (m : LogEntry). bare_entry (row_end_among es m.number) m) (made_in es) (l ∷ [])
     ∙ ap (λ (x : Option ℕ). entries_in es ++ bare_entry x l ∷ []) none)
+
+-- A row that repeats a binding has the entry of one that makes it.
+pub repeated_as_made : (asked : List HolderRequest) (rows : SavedRows) (es : List LogEvent) (l : LogEntry) →
+    Tells asked rows (es ++ Made l ∷ []) → Tells asked rows (es ++ Repeated l ∷ [])
+repeated_as_made asked rows es l tells =
+    let ends : row_end_among (es ++ Made l ∷ []) ≡ row_end_among (es ++ Repeated l ∷ []) =
+    same_ends es (Made l) (λ number. refl) ∙ sym (same_ends es (Repeated l) (λ number. refl)) in
+    let made : made_in (es ++ Made l ∷ []) ≡ made_in (es ++ Repeated l ∷ []) =
+    made_more es (Made l) ∙ sym (made_more es (Repeated l)) in record {
+      keeps = subst (KeepsAll asked rows) (ap₂ with_ends ends made) tells.keeps;
+      ends = λ number above. (λ i. sym ends i number) ∙ tells.ends number above;
+    }
 
 pub entries_same : (es : List LogEvent) (e : LogEvent) → made_in (e ∷ []) ≡ [] →
     ((number : ℕ) → row_end_among (e ∷ []) number ≡ None) → entries_in (es ++ e ∷ []) ≡ entries_in es
@@ -222,18 +236,20 @@ shortage_at_least : (s : Shortage) → 12 ≤ shortage_number s.cause
 shortage_at_least s = elim s.cause as (λ cause. 12 ≤ shortage_number cause) [ OverQuota ↦ lit≤ tt | _ ↦ lit≤ tt ]
 
 module _ (row : LogRow) (P : LogEvent → Type 0) where
-  pub only_made : row.event ≡ Number 8 → ((l : LogEntry) → row ≡ saved_row (Made l) → P (Made l)) → (e : LogEvent) →
-      row ≡ saved_row e → P e
-  only_made is h (Made l) same = h l same
-  only_made is h (Ended l) same = let other = ap (λ (r : LogRow). r.event) same in absurd (cc (is, other))
-  only_made is h (Living l) same = let other = ap (λ (r : LogRow). r.event) same in absurd (cc (is, other))
-  only_made is h (Refused s) same = let e : shortage_number s.cause ≡ 8 =
+  pub only_made : row.event ≡ Number 8 → ((l : LogEntry) → row ≡ saved_row (Made l) → P (Made l)) →
+      ((l : LogEntry) → P (Made l) → P (Repeated l)) → (e : LogEvent) → row ≡ saved_row e → P e
+  only_made is h also (Made l) same = h l same
+  only_made is h also (Repeated l) same = also l (h l same)
+  only_made is h also (Ended l) same = let other = ap (λ (r : LogRow). r.event) same in absurd (cc (is, other))
+  only_made is h also (Living l) same = let other = ap (λ (r : LogRow). r.event) same in absurd (cc (is, other))
+  only_made is h also (Refused s) same = let e : shortage_number s.cause ≡ 8 =
       number_of (sym (ap (λ (r : LogRow). r.event) same) ∙ is) in
       let least = shortage_at_least s in absurd (omega (arith, e, least))
 
   pub only_ended : row.event ≡ Number 9 → ((l : LogEntry) → row ≡ saved_row (Ended l) → P (Ended l)) → (e : LogEvent) →
       row ≡ saved_row e → P e
   only_ended is h (Made l) same = let other = ap (λ (r : LogRow). r.event) same in absurd (cc (is, other))
+  only_ended is h (Repeated l) same = let other = ap (λ (r : LogRow). r.event) same in absurd (cc (is, other))
   only_ended is h (Ended l) same = h l same
   only_ended is h (Living l) same = let other = ap (λ (r : LogRow). r.event) same in absurd (cc (is, other))
   only_ended is h (Refused s) same = let e : shortage_number s.cause ≡ 9 =
@@ -243,6 +259,7 @@ module _ (row : LogRow) (P : LogEvent → Type 0) where
   pub only_living : row.event ≡ Empty → ((l : LogEntry) → row ≡ saved_row (Living l) → P (Living l)) → (e : LogEvent) →
       row ≡ saved_row e → P e
   only_living is h (Made l) same = let other = ap (λ (r : LogRow). r.event) same in absurd (cc (is, other))
+  only_living is h (Repeated l) same = let other = ap (λ (r : LogRow). r.event) same in absurd (cc (is, other))
   only_living is h (Ended l) same = let other = ap (λ (r : LogRow). r.event) same in absurd (cc (is, other))
   only_living is h (Living l) same = h l same
   only_living is h (Refused s) same = let other = ap (λ (r : LogRow). r.event) same in absurd (cc (is, other))
@@ -251,12 +268,22 @@ module _ (row : LogRow) (P : LogEvent → Type 0) where
       row ≡ saved_row e → P e
   only_refused n is le h (Made l) same =
       let e : n ≡ 8 = number_of (sym is ∙ ap (λ (r : LogRow). r.event) same) in absurd (omega (arith, e, le))
+  only_refused n is le h (Repeated l) same =
+      let e : n ≡ 8 = number_of (sym is ∙ ap (λ (r : LogRow). r.event) same) in absurd (omega (arith, e, le))
   only_refused n is le h (Ended l) same =
       let e : n ≡ 9 = number_of (sym is ∙ ap (λ (r : LogRow). r.event) same) in absurd (omega (arith, e, le))
   only_refused n is le h (Living l) same = let other = ap (λ (r : LogRow). r.event) same in absurd (cc (is, other))
   only_refused n is le h (Refused s) same = h s
 
 -- WHAT A ROW TELLS
+
+-- The row of an event is not one of the gateway.
+pub of_no_gateway : (row : LogRow) (e : LogEvent) → row ≡ saved_row e → row.is_of_gateway ≡ false
+of_no_gateway row (Made l) same = ap (λ (r : LogRow). r.is_of_gateway) same
+of_no_gateway row (Repeated l) same = ap (λ (r : LogRow). r.is_of_gateway) same
+of_no_gateway row (Ended l) same = ap (λ (r : LogRow). r.is_of_gateway) same
+of_no_gateway row (Living l) same = ap (λ (r : LogRow). r.is_of_gateway) same
+of_no_gateway row (Refused s) same = ap (λ (r : LogRow). r.is_of_gateway) same
 
 pub time_some : (end : Option ℕ) (at : ℕ) → number_field end ≡ Number at → end ≡ Some at
 time_some None at h = cc

@@ -2,13 +2,14 @@
 use Rattle.std.specs.{Prelude.{◌≡◌, ℕ, ◌==◌, ◌<◌, ◌≤◌, Bool, true, false, not, ◌&&◌, cond, List, [], ◌∷◌, ◌++◌, map, filter, Option, Some, None}, Option.{is_some, option_or}, BTreeMap.get, Ordering.nat_cmp}
 use Rattle.napt_rules.specs.{Prelude.Each, declared.Row.Row}
 use Rattle.napt_account.specs.{declared.log.{Entry.Entry, LogEntry.LogEntry}, Log.unused_entry, LogParts.NumbersAscend}
-use Rattle.napt_log_text.specs.declared.event.LogEvent.{LogEvent, TheVariants.{Made, Ended, Living, Refused}}
+use Rattle.napt_log_text.specs.declared.event.LogEvent.{LogEvent, TheVariants.{Made, Repeated, Ended, Living, Refused}}
 use Rattle.napt_attribution.specs.{RequestParties.{AreEndpointsAskedAbout, is_asked_about}, declared.{requests.HolderRequest.HolderRequest, kept_entries.KeptEntries.KeptEntries, saved_rows.SavedRows.SavedRows}}
 
--- Returns the entries of the bindings that rows make, in their order.
+-- Returns the entries of the bindings that rows make or repeat, in their order.
 abbrev pub made_in : List LogEvent → List LogEntry
 made_in [] = []
 made_in (Made listed ∷ events) = listed ∷ made_in events
+made_in (Repeated listed ∷ events) = listed ∷ made_in events
 made_in (_ ∷ events) = made_in events
 
 abbrev pub end_told : LogEntry → ℕ → Option ℕ → Option ℕ
@@ -88,7 +89,8 @@ HasOpenEntry entries listed = HasBinding listed.entry.binding (entry_if has_no_e
 
 abbrev pub EventFollows : List LogEntry → LogEvent → Type 0
 EventFollows entries (Made listed) = Each (λ other. other.number < listed.number) entries
-EventFollows entries (Ended listed) = HasOpenEntry entries listed
+EventFollows entries (Repeated listed) = Each (λ other. other.number < listed.number) entries
+Follows entries (Ended listed) = HasOpenEntry entries listed
 EventFollows entries (Living listed) = HasOpenEntry entries listed
 EventFollows entries (Refused shortage) = Unit {0}
 

@@ -1,7 +1,7 @@
 -- A row is split into its fields again, since no field contains a comma, and a log into its rows, since no row contains
 -- a line feed.
 use Rattle.std.proofs.lemmas.{Grind.common_steps, Bool.Decides.nat_tests}
-use Rattle.std.proofs.Common.{ℕ, zero, suc, ◌≡◌, ◌≢◌, ◌<◌, ◌^◌, get_or, ◌==◌, ◌||◌, ◌/◌, ◌%◌, ◌∙◌, Bool, true, false, List, [], ◌∷◌, ◌++◌, codes, decimal, length, Option, Some, None, IfSome, refl, sym, ap, subst, append_assoc, append-nil, length-append, replicate, if◌then◌else◌, lit<, arith}
+use Rattle.std.proofs.Common.{ℕ, zero, suc, ◌≡◌, ◌≢◌, ◌<◌, ◌^◌, get_or, ◌==◌, ◌||◌, ◌/◌, ◌%◌, ◌∙◌, Bool, true, false, List, [], ◌∷◌, ◌++◌, codes, decimal, length, Option, Some, None, IfSome, refl, sym, ap, subst, append_assoc, append-nil, length-append, if◌then◌else◌, lit<, arith}
 use Rattle.std.{proofs.{BufReadLemmas.{take_through-append, drop_through-append}, Math.Seq.get_or-append_seam}, specs.Fmt.{digit_glyph, digits, digits_onto}}
 use Rattle.std.specs.{Io.{BufRead.{take_through, drop_through}, KnownBytes.IsAtEnd}, List.{All, list_any, slice_split}, Net.Text.dotted_text}
 use Rattle.std.proofs.lemmas.{Bool.{both_ways, eqb-false, false_from_ne_true, or_parts}, List.{append_cancel_right, Elements.{All-append, All-cons}}}
@@ -9,9 +9,9 @@ use Rattle.std.proofs.lemmas.List.{Folds.{list_any-append, list_any_at}, Splits.
 use Rattle.napt_wire.specs.declared.{Cause.{Cause, TheVariants.OverQuota}, Protocol.{Protocol, TheVariants.{Icmp, Tcp, Udp}}}
 use Rattle.napt_config.specs.{Rules.Rules, Text.address_text}
 use Rattle.napt_account.specs.declared.log.LogEntry.{LogEntry}
-use Rattle.napt_log_text.specs.declared.event.LogEvent.{LogEvent}
-use Rattle.napt_log_text.specs.Rows.{csv_row, date_of_any, fields, csv_flag, listed_fields, number_if_any, csv_protocol, quota_text, row_text, shortage_number}
-use Rattle.napt_log_text.specs.{LogRows.{fields_in, flag_number, is_comma}, Times.{TimeText, clock_text, date_if_any, date_text, day_text, has_date, padded}}
+use Rattle.napt_log_text.specs.declared.event.LogEvent.{LogEvent, TheVariants.{Made, Repeated, Ended, Living, Refused}}
+use Rattle.napt_log_text.specs.Rows.{csv_row, fields, csv_flag, listed_fields, number_if_any, csv_protocol, quota_text, row_text, shortage_number}
+use Rattle.napt_log_text.specs.{LogRows.{fields_in, flag_number, is_comma}, Times.TimeText}
 
 -- A byte that ends a field.
 abbrev is_mark : ℕ → Bool
@@ -59,29 +59,9 @@ in_address : (address : ℕ) → has_mark (address_text address) ≡ false
 unfolding address_text
 in_address address = in_dotted _ _ _ _
 
-in_zeros : (many : ℕ) → has_mark (replicate many 48) ≡ false
-in_zeros zero = refl
-in_zeros (suc many) = in_zeros many
-
-in_padded : (width number : ℕ) → has_mark (padded width number) ≡ false
-unfolding padded
-in_padded width number = simp (list_any-append, in_zeros, in_decimal number)
-
-in_date : (time : ℕ) → has_mark (date_text time) ≡ false
-unfolding date_text day_text clock_text
-in_date time = simp (list_any-append, in_padded)
-
-in_date_if_any : (time : ℕ) → has_mark (date_if_any time) ≡ false
-in_date_if_any time = elim (has_date time) as (λ b. has_mark (if b then date_text time else []) ≡ false)
-    [ true ↦ in_date time | false ↦ refl ]
-
 in_number : (number : Option ℕ) → has_mark (number_if_any number) ≡ false
 in_number None = refl
 in_number (Some number) = in_decimal number
-
-in_date_of : (time : Option ℕ) → has_mark (date_of_any time) ≡ false
-in_date_of None = refl
-in_date_of (Some time) = in_date_if_any time
 
 in_flag : (flag : Bool) → has_mark (csv_flag flag) ≡ false
 in_flag true = refl
@@ -121,16 +101,19 @@ fields_in-row row (first ∷ more) some none is =
     ap (slice_split is_comma) (append_cancel_right _ _ (codes "\n") (sym is ∙ row_text-joined first more))
     ∙ split-joined first more none
 
-in_listed : (time event : Option ℕ) (listed : LogEntry) →
-    have_marks (number_if_any time ∷ date_of_any time ∷ listed_fields event listed) ≡ false
-in_listed time event listed =
-    simp (in_number, in_date_of, in_decimal, in_address, in_flag)
+in_listed : (time event : Option ℕ) (note : TimeText) (listed : LogEntry) → has_mark note ≡ false →
+    have_marks (number_if_any time ∷ listed_fields event note listed) ≡ false
+in_listed time event note listed none =
+    simp (in_number, in_decimal, in_address, in_flag, none)
 
 in_fields : (rules : Rules) (event : LogEvent) → have_marks (fields rules event) ≡ false
-in_fields rules event =
-    grind (arith, common_steps, nat_tests, in_listed, in_decimal, in_date_if_any, in_address, in_quota)
+in_fields rules (Made listed) = in_listed (Some listed.entry.made) (Some 8) [] listed refl
+in_fields rules (Repeated listed) = in_listed (Some listed.entry.made) (Some 8) (codes "repeated") listed refl
+in_fields rules (Ended listed) = in_listed listed.entry.end (Some 9) [] listed refl
+in_fields rules (Living listed) = in_listed listed.entry.end None [] listed refl
+in_fields rules (Refused shortage) = grind (arith, common_steps, nat_tests, in_decimal, in_address, in_quota)
 
-many : (rules : Rules) (event : LogEvent) → length (fields rules event) ≡ 15
+many : (rules : Rules) (event : LogEvent) → length (fields rules event) ≡ 14
 many rules event = grind (arith, common_steps, nat_tests)
 
 pub fields_read : (rules : Rules) (event : LogEvent) (row : TimeText) → csv_row rules event ≡ row ++ codes "\n" →
@@ -138,6 +121,11 @@ pub fields_read : (rules : Rules) (event : LogEvent) (row : TimeText) → csv_ro
 unfolding csv_row
 fields_read rules event row is =
     fields_in-row row (fields rules event) (omega (arith, many rules event)) (in_fields rules event) is
+
+-- A row of an event has 14 fields.
+pub fields_many : (rules : Rules) (event : LogEvent) (row : TimeText) → csv_row rules event ≡ row ++ codes "\n" →
+    length (fields_in row) ≡ 14
+fields_many rules event row is = ap length (fields_read rules event row is) ∙ many rules event
 
 pub small_protocol : (protocol : Protocol) → csv_protocol protocol < 2 ^ 128
 small_protocol Icmp = lit< tt

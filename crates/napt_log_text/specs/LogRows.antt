@@ -2,7 +2,7 @@
 use Rattle.std.specs.{Prelude.{ℕ, ◌<◌, ◌^◌, ◌==◌, Bool, true, false, List, Option, Some, None, IfSome}, List.slice_split}
 use Rattle.napt_wire.specs.declared.Endpoint.{Endpoint}
 use Rattle.napt_account.specs.declared.log.{LogEntry.LogEntry, Shortage.Shortage}
-use Rattle.napt_log_text.specs.declared.{event.LogEvent.{LogEvent, TheVariants.{Made, Ended, Living, Refused}}, log_row.LogField.LogField}
+use Rattle.napt_log_text.specs.declared.{event.LogEvent.{LogEvent, TheVariants.{Made, Repeated, Ended, Living, Refused}}, log_row.LogField.LogField}
 use Rattle.napt_log_text.specs.{declared.log_row.{LogField.TheVariants.{Empty, Number}, LogRow.LogRow}, Rows.{csv_protocol, shortage_number}}
 use Rattle.napt_log_text.specs.Times.{TimeText}
 
@@ -26,6 +26,7 @@ IsEntryField listed =
 
 abbrev pub IsEvent : LogEvent → Type 0
 IsEvent (Made listed) = (listed.entry.made < 2 ^ 64) × IsEntryField listed
+IsEvent (Repeated listed) = (listed.entry.made < 2 ^ 64) × IsEntryField listed
 IsEvent (Ended listed) = IsTimeField listed.entry.end × IsEntryField listed
 IsEvent (Living listed) = IsTimeField listed.entry.end × IsEntryField listed
 IsEvent (Refused shortage) = shortage.at < 2 ^ 64
@@ -38,7 +39,7 @@ abbrev pub flag_number : Bool → ℕ
 flag_number true = 1
 flag_number false = 0
 
--- Returns the values in the row of a binding, without its counts and its last use.
+-- Returns the values in the row of a binding, without its counts, its last use and its note.
 abbrev pub binding_row : Option ℕ → Option ℕ → LogEntry → LogRow
 binding_row time event listed = record {
   time = number_field time;
@@ -48,6 +49,7 @@ binding_row time event listed = record {
   external = Some listed.entry.binding.external;
   number = Number listed.number;
   redirect = Number (flag_number listed.entry.binding.fixed);
+  is_of_gateway = false;
 }
 
 -- Returns the values in the row of a packet that got no binding, without its host.
@@ -60,10 +62,12 @@ refusal_row shortage = record {
   external = None;
   number = Empty;
   redirect = Empty;
+  is_of_gateway = false;
 }
 
 abbrev pub saved_row : LogEvent → LogRow
 saved_row (Made listed) = binding_row (Some listed.entry.made) (Some 8) listed
+saved_row (Repeated listed) = binding_row (Some listed.entry.made) (Some 8) listed
 saved_row (Ended listed) = binding_row listed.entry.end (Some 9) listed
 saved_row (Living listed) = binding_row listed.entry.end None listed
 saved_row (Refused shortage) = refusal_row shortage

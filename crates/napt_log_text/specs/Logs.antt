@@ -1,4 +1,4 @@
--- The text of the log of a run, as it grows while packets come. It begins with a row for each live binding. Each input
+-- The text of the log of a run, as it grows while packets come. It begins by repeating each live binding. Each input
 -- adds the bindings that ended before it, the bindings that it made, and itself if it got no binding. The live bindings
 -- come last. A row contains the counts and the last use up to its event.
 use Rattle.std.specs.Prelude.{◌≡◌, ℕ, ◌*◌, ◌/◌, ◌^◌, nat_lt, max, Bool, true, false, if◌then◌else◌, List, [], ◌∷◌, ◌++◌, flat_map, Option, Some, None}
@@ -7,10 +7,13 @@ use Rattle.napt_rules.specs.Prelude.{Arrival, IsStateInOrder, State, TakesState,
 use Rattle.napt_account.specs.{declared.log.{LogEntry.LogEntry, Shortage.Shortage}, Log.{LogModel, after_input, begun_after}}
 use Rattle.napt_account.specs.{ResumedLogRuns.{left_of, part_of}, LogParts.{IsNumbered, LogDelta, in_order_of_end, kept_at, part_between}}
 use Rattle.napt_sequential.specs.{Traces.traces_of, declared.passage.Trace.Trace}
-use Rattle.napt_log_text.specs.{declared.event.LogEvent.TheVariants.{Made, Ended, Living, Refused}, Rows.{csv_row, csv_header}, Times.TimeText}
+use Rattle.napt_log_text.specs.{declared.event.LogEvent.TheVariants.{Made, Repeated, Ended, Living, Refused}, Rows.{csv_row, csv_header}, Times.TimeText}
 
 abbrev pub made_rows : Rules → List LogEntry → TimeText
 made_rows rules made = flat_map (λ numbered. csv_row rules (Made numbered)) made
+
+abbrev pub repeated_rows : Rules → List LogEntry → TimeText
+repeated_rows rules repeated = flat_map (λ numbered. csv_row rules (Repeated numbered)) repeated
 
 abbrev pub ended_rows : Rules → List LogEntry → TimeText
 ended_rows rules ended = flat_map (λ numbered. csv_row rules (Ended numbered)) ended
@@ -25,9 +28,10 @@ refused_rows rules refused = flat_map (λ shortage. csv_row rules (Refused short
 abbrev pub part_rows : Rules → LogDelta → TimeText
 part_rows rules part = ended_rows rules part.ended ++ (made_rows rules part.made ++ refused_rows rules part.refused)
 
--- Returns the beginning of a log or of a piece: the names of the fields, and a row for each binding that is live there.
+-- Returns the beginning of a log or of a piece: the names of the fields, and the repeated row of each binding that is
+-- live there.
 abbrev pub opening_text : Rules → LogModel → TimeText
-opening_text rules log = csv_header ++ made_rows rules log.entries
+opening_text rules log = csv_header ++ repeated_rows rules log.entries
 
 -- The origin of a log: the log as it was saved, the log with which the run begins, the part that is added before the
 -- first input, and whether a new text begins there.

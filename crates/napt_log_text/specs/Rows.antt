@@ -6,7 +6,7 @@ use Rattle.napt_wire.specs.declared.{Cause.{Cause, TheVariants.OverQuota}, Endpo
 use Rattle.napt_config.specs.{Rules.{Rules, pair_of}, Text.address_text}
 use Rattle.napt_rules.specs.declared.Row.{Row}
 use Rattle.napt_account.specs.declared.log.{Entry.Entry, Shortage.Shortage, LogEntry.LogEntry}
-use Rattle.napt_log_text.specs.{declared.event.LogEvent.{LogEvent, TheVariants.{Made, Ended, Living, Refused}}, Times.{TimeText, date_if_any}}
+use Rattle.napt_log_text.specs.{declared.event.LogEvent.{LogEvent, TheVariants.{Made, Repeated, Ended, Living, Refused}}, Times.TimeText}
 
 abbrev pub row_text : List TimeText → TimeText
 row_text [] = codes "\n"
@@ -23,17 +23,6 @@ before_more (field ∷ (next ∷ more)) = field ++ codes "," ++ before_more (nex
 abbrev pub number_if_any : Option ℕ → TimeText
 number_if_any None = []
 number_if_any (Some number) = decimal number
-
-abbrev pub date_of_any : Option ℕ → TimeText
-date_of_any None = []
-date_of_any (Some time) = date_if_any time
-
--- Returns the two fields of a time: in ns, and as a date in UTC.
-abbrev pub time_fields : Option ℕ → List TimeText
-time_fields time = number_if_any time ∷ date_of_any time ∷ []
-
-abbrev pub time_text : Option ℕ → TimeText
-time_text time = number_if_any time ++ codes "," ++ date_of_any time
 
 -- Returns the natEvent of a shortage (RFC 8158): 12, NAT ports exhausted, or 13, quota exceeded.
 abbrev pub shortage_number : Cause → ℕ
@@ -68,13 +57,13 @@ binding_fields event binding =
     number_if_any event ∷ decimal (csv_protocol binding.protocol) ∷ endpoint_fields binding.inside
     ++ endpoint_fields binding.external
 
-abbrev pub entry_fields : LogEntry → List TimeText
-entry_fields listed =
+abbrev pub entry_fields : TimeText → LogEntry → List TimeText
+entry_fields note listed =
     decimal listed.number ∷ csv_flag listed.entry.binding.fixed ∷ decimal listed.entry.sent
-    ∷ decimal listed.entry.received ∷ time_fields (last_use listed.entry)
+    ∷ decimal listed.entry.received ∷ number_if_any (last_use listed.entry) ∷ note ∷ []
 
-abbrev pub listed_fields : Option ℕ → LogEntry → List TimeText
-listed_fields event listed = binding_fields event listed.entry.binding ++ [] ∷ entry_fields listed
+abbrev pub listed_fields : Option ℕ → TimeText → LogEntry → List TimeText
+listed_fields event note listed = binding_fields event listed.entry.binding ++ [] ∷ entry_fields note listed
 
 -- Returns the fields of a packet that got no binding: its host has an external address, but no number there.
 abbrev pub refusal_fields : Shortage → List TimeText
@@ -88,11 +77,11 @@ shortage_fields external shortage =
     ++ address_text external ∷ [] ∷ quota_text shortage.cause ∷ [] ∷ [] ∷ [] ∷ [] ∷ [] ∷ [] ∷ []
 
 abbrev pub fields : Rules → LogEvent → List TimeText
-fields rules (Made listed) = time_fields (Some listed.entry.made) ++ listed_fields (Some 8) listed
-fields rules (Ended listed) = time_fields listed.entry.end ++ listed_fields (Some 9) listed
-fields rules (Living listed) = time_fields listed.entry.end ++ listed_fields None listed
-fields rules (Refused shortage) =
-    time_fields (Some shortage.at) ++ shortage_fields (pair_of rules shortage.host) shortage
+fields rules (Made listed) = decimal listed.entry.made ∷ listed_fields (Some 8) [] listed
+fields rules (Repeated listed) = decimal listed.entry.made ∷ listed_fields (Some 8) (codes "repeated") listed
+fields rules (Ended listed) = number_if_any listed.entry.end ∷ listed_fields (Some 9) [] listed
+fields rules (Living listed) = number_if_any listed.entry.end ∷ listed_fields None [] listed
+fields rules (Refused shortage) = decimal shortage.at ∷ shortage_fields (pair_of rules shortage.host) shortage
 
 unfoldable pub csv_row : Rules → LogEvent → TimeText
 csv_row rules event = row_text (fields rules event)
@@ -100,10 +89,21 @@ csv_row rules event = row_text (fields rules event)
 -- The first row contains the names of the fields. Names in mixed case are IPFIX information elements (IANA).
 abbrev pub names : List TimeText
 names =
+    codes "observationTimeNanoseconds" ∷ codes "natEvent" ∷ codes "protocolIdentifier"
+    ∷ codes "sourceIPv4Address" ∷ codes "sourceTransportPort" ∷ codes "postNATSourceIPv4Address"
+    ∷ codes "postNAPTSourceTransportPort" ∷ codes "natQuotaExceededEvent" ∷ codes "binding" ∷ codes "redirect"
+    ∷ codes "packets_out" ∷ codes "packets_in" ∷ codes "flowEndNanoseconds" ∷ codes "note" ∷ []
+
+abbrev pub csv_header : TimeText
+csv_header = row_text names
+
+-- The names of the version before, in which times are there twice, the second time as dates.
+abbrev pub earlier_names : List TimeText
+earlier_names =
     codes "observationTimeNanoseconds" ∷ codes "time" ∷ codes "natEvent" ∷ codes "protocolIdentifier"
     ∷ codes "sourceIPv4Address" ∷ codes "sourceTransportPort" ∷ codes "postNATSourceIPv4Address"
     ∷ codes "postNAPTSourceTransportPort" ∷ codes "natQuotaExceededEvent" ∷ codes "binding" ∷ codes "redirect"
     ∷ codes "packets_out" ∷ codes "packets_in" ∷ codes "flowEndNanoseconds" ∷ codes "last_use" ∷ []
 
-abbrev pub csv_header : TimeText
-csv_header = row_text names
+abbrev pub earlier_header : TimeText
+earlier_header = row_text earlier_names

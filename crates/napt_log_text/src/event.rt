@@ -1,9 +1,8 @@
 //! The events of the log, and their rows as CSV.
-ghost use Rattle.std.specs.Prelude.{◌≡◌, ◌++◌, OnOk, Some, decimal, codes, string_bytes};
+ghost use Rattle.std.specs.Prelude.{◌≡◌, ◌∷◌, ◌++◌, OnOk, decimal, codes, string_bytes};
 ghost use Rattle.napt_log_text.specs.Rows as rows;
 
 use crate::digits::{add_address, add_number};
-use crate::time_stamp::TimeStamp;
 use itoa::Buffer;
 use napt_account::{Entry, LogEntry, Shortage};
 use napt_config::Config;
@@ -20,12 +19,24 @@ const PORTS_EXHAUSTED: u64 = 12;
 
 const QUOTA_EXCEEDED: u64 = 13;
 
+/// The note of a row that repeats a binding.
+const REPEATED: &str = "repeated";
+
 /// The rest of a row without a binding, after natQuotaExceededEvent: all fields are empty.
 const NO_BINDING: &str = ",,,,,,\n";
 
 /// Returns the first row of the log: the names of its fields.
 pub fn header() -> &'static str
     ensures { result.now ≡ rows.csv_header }
+{
+    "observationTimeNanoseconds,natEvent,protocolIdentifier,sourceIPv4Address,sourceTransportPort,\
+    postNATSourceIPv4Address,postNAPTSourceTransportPort,natQuotaExceededEvent,binding,redirect,packets_out,\
+    packets_in,flowEndNanoseconds,note\n"
+}
+
+/// The first row of a log of the version before: times are there twice, the second time as dates.
+pub(crate) fn earlier_header() -> &'static str
+    ensures { result.now ≡ rows.earlier_header }
 {
     "observationTimeNanoseconds,time,natEvent,protocolIdentifier,sourceIPv4Address,sourceTransportPort,\
     postNATSourceIPv4Address,postNAPTSourceTransportPort,natQuotaExceededEvent,binding,redirect,packets_out,\
@@ -37,6 +48,8 @@ pub fn header() -> &'static str
 pub enum LogEvent {
     /// A binding was made.
     Made(LogEntry),
+    /// A binding was made before the text of the log begins, which repeats its row.
+    Repeated(LogEntry),
     /// A binding expired, at the end in its entry.
     Ended(LogEntry),
     /// No event: a binding is live at the last packet. It ends as its entry says if none comes.
@@ -56,12 +69,16 @@ impl LogEvent {
         match self {
             LogEvent::Made(listed) => {
                 let made = u128::from(listed.entry.made);
-                add_listed(listed, Some(made), Some(BINDING_MADE), text)
+                add_listed(listed, Some(made), Some(BINDING_MADE), "", text)
+            }
+            LogEvent::Repeated(listed) => {
+                let made = u128::from(listed.entry.made);
+                add_listed(listed, Some(made), Some(BINDING_MADE), REPEATED, text)
             }
             LogEvent::Ended(listed) => {
-                add_listed(listed, listed.entry.end, Some(BINDING_ENDED), text)
+                add_listed(listed, listed.entry.end, Some(BINDING_ENDED), "", text)
             }
-            LogEvent::Living(listed) => add_listed(listed, listed.entry.end, None, text),
+            LogEvent::Living(listed) => add_listed(listed, listed.entry.end, None, "", text),
             LogEvent::Refused(shortage) => {
                 add_shortage(shortage, config.pair(shortage.host), text)
             }
@@ -69,33 +86,34 @@ impl LogEvent {
     }
 }
 
-/// Appends the row of an event of a binding at a time, or of a binding without an event.
+/// Appends the row of an event of a binding at a time, or of a binding without an event, with a note.
 fn add_listed(
     listed: &LogEntry,
     at: Option<u128>,
     event: Option<u64>,
+    note: &str,
     text: &mut String,
 ) -> Result<(), AllocError>
     ensures { OnOk result (string_bytes text.new ≡ string_bytes text.old
-        ++ rows.row_text (rows.time_fields at ++ rows.listed_fields event listed.now)) }
+        ++ rows.row_text (rows.number_if_any at ∷ rows.listed_fields event note.now listed.now)) }
 {
     add_time(at, text)?;
-    text.push_str(",")?;
     add_binding(event, &listed.entry.binding, text)?;
     text.push_str(",")?;
     add_entry(listed, text)?;
+    text.push_str(note)?;
     text.push_str("\n")?;
     Ok(())
 }
 
-/// Appends the number of an entry and the fields after it.
+/// Appends the number of an entry and the fields after it up to the note, and a comma.
 fn add_entry(listed: &LogEntry, text: &mut String) -> Result<(), AllocError>
     ensures { OnOk result (string_bytes text.new
         ≡ string_bytes text.old ++ (decimal listed.now.number
         ++ codes "," ++ rows.csv_flag listed.now.entry.binding.fixed ++ codes ","
         ++ decimal listed.now.entry.sent ++ codes "," ++ decimal listed.now.entry.received
         ++ codes ","
-        ++ rows.time_text (rows.last_use listed.now.entry))) }
+        ++ rows.number_if_any (rows.last_use listed.now.entry) ++ codes ",")) }
 {
     add_field(listed.number, text)?;
     text.push_str(flag(listed.entry.binding.fixed))?;
@@ -106,9 +124,10 @@ fn add_entry(listed: &LogEntry, text: &mut String) -> Result<(), AllocError>
     Ok(())
 }
 
-/// Appends a time in ns and as a date, with a comma between them.
+/// Appends a time in ns, if there is one, and a comma.
 fn add_time(time: Option<u128>, text: &mut String) -> Result<(), AllocError>
-    ensures { OnOk result (string_bytes text.new ≡ string_bytes text.old ++ rows.time_text time) }
+    ensures { OnOk result (string_bytes text.new ≡ string_bytes text.old
+        ++ (rows.number_if_any time ++ codes ",")) }
 {
     let Some(time) = time else {
         return text.push_str(",");
@@ -116,7 +135,6 @@ fn add_time(time: Option<u128>, text: &mut String) -> Result<(), AllocError>
     let mut digits = Buffer::new();
     text.push_str(digits.format(time))?;
     text.push_str(",")?;
-    TimeStamp(time).add_date(text)?;
     Ok(())
 }
 
@@ -167,11 +185,9 @@ fn add_binding(event: Option<u64>, binding: &Row, text: &mut String) -> Result<(
 /// Appends the row of a shortage; `external` is the external address of its host.
 fn add_shortage(shortage: &Shortage, external: u32, text: &mut String) -> Result<(), AllocError>
     ensures { OnOk result (string_bytes text.new ≡ string_bytes text.old
-        ++ rows.row_text (rows.time_fields (Some shortage.now.at)
-        ++ rows.shortage_fields external shortage.now)) }
+        ++ rows.row_text (decimal shortage.now.at ∷ rows.shortage_fields external shortage.now)) }
 {
-    add_time(Some(u128::from(shortage.at)), text)?;
-    text.push_str(",")?;
+    add_field(shortage.at, text)?;
     add_refusal(shortage, text)?;
     add_address(text, external)?;
     text.push_str(",,")?;

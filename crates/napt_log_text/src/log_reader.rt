@@ -1,12 +1,12 @@
 //! Reads a saved log row by row.
-ghost use Rattle.std.specs.{Prelude.{◌≡◌, ◌≢◌, ◌++◌, ◌<◌, ℕ, List, [], IsOkAnd, length}, List.All};
+ghost use Rattle.std.specs.{Prelude.{◌≡◌, ◌≢◌, ◌++◌, ◌<◌, ℕ, List, [], IsOkAnd, length, string_bytes, true}, List.All};
 ghost use Rattle.napt_config.specs.Rules.{Rules};
 ghost use Rattle.napt_log_text.specs.Rows as rows;
 ghost use Rattle.napt_log_text.specs.LogReaders as logs;
 ghost use Rattle.napt_log_text.specs.LogRows as saved;
 ghost use Rattle.napt_log_text.specs.declared.event.LogEvent.{LogEvent as Told};
 
-use crate::event::header;
+use crate::event::{earlier_header, header};
 use crate::log_row::LogRow;
 use std::alloc::Global;
 use std::io;
@@ -33,7 +33,10 @@ pub struct LogReader<R> {
 impl<R: BufRead + Drop> LogReader<R> {
     /// Reads the header, the names of the fields. An error says why the log is refused.
     pub fn open(alloc: Global, reader: R) -> Result<LogReader<R>, LogFileFault>
-        ensures { (rest : List ℕ) → R.remaining reader ≡ Some (rows.csv_header ++ rest) →
+        ensures names { (rest : List ℕ) → R.remaining reader ≡ Some (rows.csv_header ++ rest) →
+            logs.LogUnlessUnread result (IsOkAnd result (λ log. R.remaining log.reader ≡ Some rest)) }
+        ensures earlier { (rest : List ℕ) →
+            R.remaining reader ≡ Some (rows.earlier_header ++ rest) →
             logs.LogUnlessUnread result (IsOkAnd result (λ log. R.remaining log.reader ≡ Some rest)) }
     {
         let mut log = LogReader {
@@ -43,7 +46,7 @@ impl<R: BufRead + Drop> LogReader<R> {
         if let Err(error) = log.reader.read_line(&mut log.line) {
             return Err(LogFileFault::Unread(error));
         }
-        if log.line.as_str() == header() {
+        if log.is_at_names() {
             Ok(log)
         } else {
             Err(LogFileFault::InvalidRow(
@@ -63,9 +66,15 @@ impl<R: BufRead + Drop> LogReader<R> {
     }
 
     /// Returns whether the line that was read last is the header, with which a piece may
-    /// begin.
-    pub fn is_at_header(&self) -> bool {
-        self.line.as_str() == header()
+    /// begin: those of today or
+    /// those of the version before. Rows differ by the number of their fields, since a run that goes on adds rows of
+    /// today to a log of that version.
+    pub fn is_at_header(&self) -> bool
+        ensures names { string_bytes self.now.line ≡ rows.csv_header → result ≡ true }
+        ensures earlier { string_bytes self.now.line ≡ rows.earlier_header → result ≡ true }
+    {
+        let line = self.line.as_str();
+        line == header() || line == earlier_header()
     }
 
     /// Reads the next row, or returns `None` at the end. An error says what was expected.

@@ -1,5 +1,5 @@
 //! Rows of a saved log.
-ghost use Rattle.std.specs.Prelude.{◌≡◌, ◌++◌, ◌∷◌, ℕ, List, [], Option, codes, decimal, length};
+ghost use Rattle.std.specs.Prelude.{◌≡◌, ◌++◌, ◌∷◌, ℕ, List, [], Option, codes, decimal, false, length};
 ghost use Rattle.napt_config.specs.{Rules.Rules, Text.address_text};
 ghost use Rattle.napt_wire.specs.declared.{Endpoint.Endpoint as End, Protocol.Protocol as Carried};
 ghost use Rattle.napt_account.specs.declared.log.{LogEntry.LogEntry as Logged, Shortage.Shortage as Short};
@@ -11,8 +11,11 @@ use napt_config::Address;
 use napt_rules::Row;
 use napt_wire::{Endpoint, Protocol};
 
-/// The number of fields after the redirect in a row of a log: the counts and the last use.
-const OTHERS: usize = 4;
+/// The number of fields in a row of a log.
+const FIELDS: usize = 14;
+
+/// The number of fields in a row of a log of the version before, which has two dates and no note.
+const EARLIER_FIELDS: usize = 15;
 
 /// A field that may have a number.
 #[derive(Clone, Copy, Debug, PartialEq, Eq)]
@@ -23,7 +26,7 @@ pub enum LogField {
     Other,
 }
 
-/// The values in a row of a log, except for the dates, the counts and the last use.
+/// The values in a row of a log, except for the counts, the last use and the note.
 #[derive(Clone, Copy, Debug, PartialEq, Eq)]
 pub struct LogRow {
     /// The time, in ns.
@@ -40,6 +43,8 @@ pub struct LogRow {
     pub number: LogField,
     /// 1 for a redirect, 0 for another binding.
     pub redirect: LogField,
+    /// Whether the row is about the gateway that writes the log, and about no binding or packet.
+    pub is_of_gateway: bool,
 }
 
 impl LogRow {
@@ -49,30 +54,31 @@ impl LogRow {
             rows.csv_row rules event ≡ row.now ++ codes "\n" →
             result ≡ Some (saved.saved_row event) }
     {
-        let (read, rest) = LogRow::from_fields(row);
-        if field_count(rest) == OTHERS {
-            Some(read)
+        let fields = field_count(row);
+        let (time, others) = first_field(row);
+        if fields == FIELDS {
+            Some(LogRow::from_fields(time, others))
+        } else if fields == EARLIER_FIELDS {
+            let (_, others) = first_field(others);
+            Some(LogRow::from_fields(time, others))
         } else {
             None
         }
     }
 
-    /// Returns the values of the fields up to the redirect, in the order of
-    /// [`header`](crate::header), and the text of the fields after it.
-    fn from_fields(row: &str) -> (LogRow, &str)
-        ensures binding { (time event : Option ℕ) (listed : Logged) →
-            saved.IsTimeField time → saved.IsTimeField event → saved.IsEntryField listed →
-            saved.fields_in row.now ≡ rows.time_fields time ++ rows.listed_fields event listed →
-            (result.0 ≡ saved.binding_row time event listed)
-            × (length (saved.fields_in result.1.now) ≡ 4) }
+    /// Returns the values of the time and of the fields after it, in the order of
+    /// [`header`](crate::header).
+    fn from_fields(time: &str, row: &str) -> LogRow
+        ensures binding { (at event : Option ℕ) (note : List ℕ) (listed : Logged) →
+            saved.IsTimeField at → saved.IsTimeField event → saved.IsEntryField listed →
+            time.now ≡ rows.number_if_any at →
+            saved.fields_in row.now ≡ rows.listed_fields event note listed →
+            result ≡ saved.binding_row at event listed }
         ensures refusal { (external : ℕ) (shortage : Short) → saved.IsTimeField (Some shortage.at) →
-            saved.fields_in row.now
-            ≡ rows.time_fields (Some shortage.at) ++ rows.shortage_fields external shortage →
-            (result.0 ≡ saved.refusal_row shortage)
-            × (length (saved.fields_in result.1.now) ≡ 4) }
+            time.now ≡ decimal shortage.at →
+            saved.fields_in row.now ≡ rows.shortage_fields external shortage →
+            result ≡ saved.refusal_row shortage }
     {
-        let (time, row) = first_field(row);
-        let (_, row) = first_field(row);
         let (event, row) = first_field(row);
         let (protocol, row) = first_field(row);
         let (inside, row) = first_field(row);
@@ -82,16 +88,17 @@ impl LogRow {
         let (_, row) = first_field(row);
         let (number, row) = first_field(row);
         let (redirect, row) = first_field(row);
-        let read = LogRow {
+        let protocol = number_in(protocol);
+        LogRow {
             time: number_in(time),
             event: number_in(event),
-            protocol: number_in(protocol),
+            protocol,
             inside: endpoint_of(inside, inside_number),
             external: endpoint_of(external, external_number),
             number: number_in(number),
             redirect: number_in(redirect),
-        };
-        (read, row)
+            is_of_gateway: is_of_gateway(protocol, row),
+        }
     }
 
     /// Returns the binding of a row. The error names an invalid field, and the expected value.
@@ -121,6 +128,19 @@ impl LogRow {
             external,
             fixed,
         })
+    }
+}
+
+/// Whether a row is about the gateway: it has no protocol, and of the fields after the redirect only a note, with which
+/// a run begins, ends or fails.
+fn is_of_gateway(protocol: LogField, others: &str) -> bool
+    ensures { (number : ℕ) → protocol ≡ LogField.Number number → result ≡ false }
+{
+    match (protocol, others.strip_prefix(",,,")) {
+        (LogField::Empty, Some(note)) => {
+            note.starts_with("gateway ") || note == "end" || note == "fault"
+        }
+        _ => false,
     }
 }
 

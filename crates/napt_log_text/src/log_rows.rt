@@ -11,14 +11,14 @@ use std::num::NonZeroU32;
 
 const NANOSECONDS_A_SECOND: u64 = 1_000_000_000;
 
-/// Appends the beginning of a log, or of a piece of one: the names of its fields, and a row for
-/// each entry that has not ended. Fails only if memory is refused.
+/// Appends the beginning of a log, or of a piece of one: the names of its fields, and the repeated row of each entry
+/// that has not ended. Fails only if memory is refused.
 pub fn add_opening(config: &Config, log: &OpenLog, text: &mut String) -> Result<(), AllocError>
     ensures { OnOk result (string_bytes text.new ≡ string_bytes text.old
         ++ logs.opening_text config.now log.now) }
 {
     text.push_str(header())?;
-    add_made(config, &log.entries, text)
+    add_repeated(config, &log.entries, text)
 }
 
 /// Appends the rows of ended and new entries before any input. Fails only if memory is refused.
@@ -102,6 +102,16 @@ fn add_made(config: &Config, made: &[LogEntry], text: &mut String) -> Result<(),
 {
     for listed in made {
         LogEvent::Made(*listed).add_row(config, text)?;
+    }
+    Ok(())
+}
+
+fn add_repeated(config: &Config, repeated: &[LogEntry], text: &mut String) -> Result<(), AllocError>
+    ensures { OnOk result (string_bytes text.new ≡ string_bytes text.old
+        ++ logs.repeated_rows config.now repeated.now) }
+{
+    for listed in repeated {
+        LogEvent::Repeated(*listed).add_row(config, text)?;
     }
     Ok(())
 }

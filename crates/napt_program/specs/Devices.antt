@@ -3,7 +3,7 @@ use Rattle.std.specs.{Prelude.{◌≡◌, ℕ, List, Option, option_map}, Io.Buf
 use Rattle.std.specs.declared.io.buffered.BufWriter.{BufWriter}
 use Rattle.either.specs.{Either.{either, left}, declared.Either.Either}
 use Rattle.napt_capture.specs.{Watched.device_of, declared.watched.Watched.Watched}
-use Rattle.napt_program.specs.declared.{devices.RunDevices.RunDevices, files.RunFiles.RunFiles}
+use Rattle.napt_program.specs.{GatewayLogs.gateway_contents, declared.{devices.RunDevices.RunDevices, files.RunFiles.RunFiles, gateway_log.GatewayLog.GatewayLog}}
 
 -- The bytes that a device has left to read, or that were written to it, if they are known.
 abbrev pub Bytes : Type 0
@@ -18,8 +18,9 @@ abbrev pub bytes_written : {D A : Type 0} → (D → Bytes) → Watched (BufWrit
 bytes_written contents made = writer_contents contents (device_of made)
 
 -- Returns the bytes that were written to the device of a log, from those of the writer in it or of its pieces.
-abbrev pub log_written : {D P A : Type 0} → (D → Bytes) → (P → Bytes) → Watched (Either (BufWriter D A) P) → Bytes
-log_written contents pieces made = either (writer_contents contents) pieces (device_of made)
+abbrev pub log_written : {D P A : Type 0} → (D → Bytes) → (P → Bytes) → Watched (GatewayLog (Either (BufWriter D A) P) A)
+    → Bytes
+log_written contents pieces made = gateway_contents (either (writer_contents contents) pieces) (device_of made)
 
 -- Each device reads or writes the bytes of its file, from the bytes of standard input and standard output, and those
 -- that a file has left to read and has written.

@@ -4,6 +4,7 @@ pub mod Config
 pub mod Devices
 pub mod Files
 pub mod LogFiles
+pub mod GatewayLogs
 pub mod FileLocation
 pub mod FileLocations
 pub mod Standard

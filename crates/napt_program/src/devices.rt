@@ -5,6 +5,7 @@ ghost use Rattle.either.specs.Either.{either, is_left, left};
 ghost use Rattle.napt_program.specs.Devices.{AreDevicesOfFiles, device_bytes_left, bytes_written, log_written};
 
 use crate::files::RunFiles;
+use crate::gateway_log::GatewayLog;
 use crate::log_file::LogOutput;
 use crate::stop::{MEMORY, Stop};
 use either::{Either, Left, Right};
@@ -36,8 +37,8 @@ pub struct OutputDevices<T: Write + Drop, F: Write + Drop> {
     pub report: Either<Watched<BufWriter<Either<T, F>>>, NullSink>,
 }
 
-/// The device of a log: `D` with a buffer, or its pieces, `P`.
-pub type LogDevice<D, P> = Watched<Either<BufWriter<D>, P>>;
+/// The device of a log: `D` with a buffer, or its pieces, `P`. The gateway may add rows.
+pub type LogDevice<D, P> = Watched<GatewayLog<Either<BufWriter<D>, P>>>;
 
 /// Wraps the files of a run in buffers; those of output captures have `held` bytes. Each device
 /// reads or writes what its file does. Fails with `MEMORY` if memory is refused.
@@ -140,7 +141,7 @@ pub(crate) fn buffered_log<D: Write + Drop, P: Write + Drop>(
         Right(pieces) => Right(pieces),
     };
     Ok(Some(LogOutput {
-        device: Watched::new(device),
+        device: Watched::new(GatewayLog::new(device)),
         is_new,
     }))
 }

@@ -5,6 +5,7 @@ ghost use Rattle.either.specs.Either.{is_left};
 ghost use Rattle.napt_program.specs.{Files.is_stream_log, LogFiles.{LogTextIsKept, IsLogStop, bytes_before, is_last_row, last_row, refusal_at, row_hash}, Standard.is_dash};
 
 use crate::devices::LogDevice;
+use crate::gateway_log::GatewayLog;
 use crate::log_pieces::LogPieces;
 use crate::options::is_dash;
 use crate::role::FileRole;
@@ -185,7 +186,8 @@ impl<'r, T: Write + Drop, F: SeekableFile + Drop, R: Files + AllocGlobal> LogOut
     pub fn synced_end(self) -> Result<LogEnd, Stop>
         ensures { IfErr result (λ stop. stop ≡ Stop.Log) }
     {
-        let writer = match self.device.into_inner() {
+        let GatewayLog { device, .. } = self.device.into_inner();
+        let writer = match device {
             Left(writer) => writer,
             Right(pieces) => return pieces.synced_end().map_err(|_| Stop::Log),
         };

@@ -20,20 +20,16 @@ use std::num::NonZeroU32;
 use std::test::Fail;
 
 /// The header and the row of the redirect.
-const OPENING: &str =
-    "observationTimeNanoseconds,time,natEvent,protocolIdentifier,sourceIPv4Address,\
+const OPENING: &str = "observationTimeNanoseconds,natEvent,protocolIdentifier,sourceIPv4Address,\
 sourceTransportPort,postNATSourceIPv4Address,postNAPTSourceTransportPort,natQuotaExceededEvent,binding,redirect,\
-packets_out,packets_in,flowEndNanoseconds,last_use\n\
-0,1970-01-01T00:00:00.000000000Z,8,17,10.0.0.3,7000,203.0.113.1,7000,,1,1,0,0,,\n";
+packets_out,packets_in,flowEndNanoseconds,note\n\
+0,8,17,10.0.0.3,7000,203.0.113.1,7000,,1,1,0,0,,\n";
 
 /// The first packet makes a binding, which the second uses. It and the redirect are live at the
 /// end.
-const ROWS: &str =
-    "10000,1970-01-01T00:00:00.000010000Z,8,17,10.0.0.2,5000,203.0.113.1,5000,,2,0,1,0,\
-10000,1970-01-01T00:00:00.000010000Z\n\
-300000020000,1970-01-01T00:05:00.000020000Z,,17,10.0.0.2,5000,203.0.113.1,5000,,2,0,2,0,\
-20000,1970-01-01T00:00:00.000020000Z\n\
-,,,17,10.0.0.3,7000,203.0.113.1,7000,,1,1,0,0,,\n";
+const ROWS: &str = "10000,8,17,10.0.0.2,5000,203.0.113.1,5000,,2,0,1,0,10000,\n\
+300000020000,,17,10.0.0.2,5000,203.0.113.1,5000,,2,0,2,0,20000,\n\
+,,17,10.0.0.3,7000,203.0.113.1,7000,,1,1,0,0,,\n";
 
 /// Returns a capture with a packet of one host at each of these times, in microseconds.
 fn sent_at(alloc: Global, times: &[u32]) -> Result<Vec<u8>, AllocError> {

@@ -39,6 +39,8 @@ After success each output contains the bytes that napt writes. The differences a
 
 --verbose prints a second line on standard error, as at a terminal in any case:
 the option, its file, and what is wrong (in a configuration, with the place).
+--name NAME writes rows into the log that say whose it is, and where a run begins, ends
+or fails; a name has 1 to 64 letters, digits, dots, hyphens and underscores.
 With --end-misfits, the bindings of the state that the configuration does not
 accept expire at the state's time, also in the log, and a line on standard error
 prints their number. All other bindings continue.

@@ -11,7 +11,7 @@ use crate::progress::ProgressReport;
 use crate::stream_run::{CaptureDevices, StreamRemainder, StreamResult, StreamRun};
 use napt_program::{
     MEMORY, OptionsWithLog, ProgramCall, ProgramHost, RunDevices, RunResources, StandardStreams,
-    Stop, StopReason, answer_line, open, parse_words_with_log, take_verbose, words,
+    Stop, StopReason, answer_line, open, parse_words_with_log, take_name, take_verbose, words,
 };
 use std::alloc::Global;
 use std::sync::Arc;
@@ -37,16 +37,19 @@ pub fn serve<R: ProgramHost + Clock>(
     if take_verbose(&mut words) {
         reason.is_requested = true;
     }
-    serve_words(rt, streams, call, words, reason)
+    let name = take_name(rt.alloc(), &mut words)?;
+    serve_words(rt, streams, call, words, name, reason)
 }
 
 /// Serves these arguments, of which the first is the program's name. Succeeds only if they are
-/// understood, and fails only with a stop that they can cause.
+/// understood, and fails only with a stop that they can cause. With the name of the gateway, the log has rows
+/// of it.
 pub fn serve_words<R: ProgramHost + Clock>(
     rt: &R,
     streams: StandardStreams,
     call: ProgramCall,
     words: Vec<String>,
+    name: Option<String>,
     reason: &mut StopReason,
 ) -> Result<(), Stop>
     ensures taken { OnOk result (LineIsAccepted (line_with_log (map string_bytes words.items))) }
@@ -55,7 +58,8 @@ pub fn serve_words<R: ProgramHost + Clock>(
 {
     match parse_words_with_log(rt.alloc(), call.manual(OWN, INSTALLED), words) {
         Ok(options) => {
-            let answer = run(rt, streams, call, &options, reason);
+            let name = name.as_ref().map(|name| name.as_str());
+            let answer = run(rt, streams, call, &options, name, reason);
             reason.find(rt, streams, &options, &answer);
             answer
         }
@@ -69,6 +73,7 @@ fn run<R: ProgramHost + Clock>(
     streams: StandardStreams,
     call: ProgramCall,
     options: &OptionsWithLog,
+    name: Option<&str>,
     reason: &mut StopReason,
 ) -> Result<(), Stop>
     ensures { IfErr result (IsRunStop streams (files_with_log options.now)) }
@@ -96,6 +101,7 @@ fn run<R: ProgramHost + Clock>(
     };
     let run = StreamRun {
         options,
+        name,
         config: &config,
         state: &state,
         saved: &saved,

@@ -29,6 +29,8 @@ use std::sync::Arc;
 #[derive(Drop)]
 pub struct StreamRun<'a> {
     pub options: &'a OptionsWithLog,
+    /// The name of the gateway, which its log then has.
+    pub name: Option<&'a str>,
     pub config: &'a Config,
     pub state: &'a State,
     /// The accounts of its log that the state contains.
@@ -94,7 +96,14 @@ impl<'a> StreamRun<'a> {
     {
         match log {
             None => self.without_log(rt, captures, outputs),
-            Some(log) => self.with_log(rt, captures, outputs, log),
+            Some(log) => match log.of_gateway(rt.alloc(), self.name, self.state.clock) {
+                Ok(log) => self.with_log(rt, captures, outputs, log),
+                Err(stop) => StreamResult {
+                    captures,
+                    outputs,
+                    answer: Err(stop),
+                },
+            },
         }
     }
 
@@ -276,7 +285,7 @@ fn result_without_log(
 }
 
 /// Returns the result of the program for that of a run with a log, with the log's accounts and end
-/// if the state is to be saved. Fails as the run does, and with `Stop::Log` on a failed sync.
+/// if the state is to be saved. Fails as the run does, and with `Stop::Log` on a failed write or sync.
 fn result_with_log<T: Write + Drop, F: SeekableFile + Drop, R: Files + AllocGlobal>(
     alloc: Global,
     options: &OptionsWithLog,
@@ -295,8 +304,12 @@ fn result_with_log<T: Write + Drop, F: SeekableFile + Drop, R: Files + AllocGlob
 {
     let end = match answer {
         Ok(end) => end,
-        Err(fault) => return Err(stop_of_run(options, fault)),
+        Err(fault) => {
+            log.failed(&fault);
+            return Err(stop_of_run(options, fault));
+        }
     };
+    let log = log.ended(alloc, end.passed.clock)?;
     if options.files.save.is_none() {
         return Ok(StreamRemainder { state: None });
     }

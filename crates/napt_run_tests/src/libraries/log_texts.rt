@@ -87,23 +87,25 @@ fn each_event_has_a_row(rt: HostRuntime) -> Result<(), Fail> {
     let made = row_of(rt.alloc(), LogEvent::Made(listed))?;
     assert_eq!(rt;
         made.as_str(),
-        "1000000000,1970-01-01T00:00:01.000000000Z,8,17,10.0.0.2,5000,203.0.113.1,1024,,7,0,3,2,4000000000,1970-01-01T00:00:04.000000000Z\n"
+        "1000000000,8,17,10.0.0.2,5000,203.0.113.1,1024,,7,0,3,2,4000000000,\n"
+    );
+    let repeated = row_of(rt.alloc(), LogEvent::Repeated(listed))?;
+    assert_eq!(rt;
+        repeated.as_str(),
+        "1000000000,8,17,10.0.0.2,5000,203.0.113.1,1024,,7,0,3,2,4000000000,repeated\n"
     );
     let ended = row_of(rt.alloc(), LogEvent::Ended(listed))?;
     assert_eq!(rt;
         ended.as_str(),
-        "304000000000,1970-01-01T00:05:04.000000000Z,9,17,10.0.0.2,5000,203.0.113.1,1024,,7,0,3,2,4000000000,1970-01-01T00:00:04.000000000Z\n"
+        "304000000000,9,17,10.0.0.2,5000,203.0.113.1,1024,,7,0,3,2,4000000000,\n"
     );
     let living = row_of(rt.alloc(), LogEvent::Living(listed))?;
     assert_eq!(rt;
         living.as_str(),
-        "304000000000,1970-01-01T00:05:04.000000000Z,,17,10.0.0.2,5000,203.0.113.1,1024,,7,0,3,2,4000000000,1970-01-01T00:00:04.000000000Z\n"
+        "304000000000,,17,10.0.0.2,5000,203.0.113.1,1024,,7,0,3,2,4000000000,\n"
     );
     let refused = row_of(rt.alloc(), LogEvent::Refused(shortage))?;
-    assert_eq!(rt;
-        refused.as_str(),
-        "5,1970-01-01T00:00:00.000000005Z,13,1,10.0.0.3,,203.0.113.1,,3,,,,,,\n"
-    );
+    assert_eq!(rt; refused.as_str(), "5,13,1,10.0.0.3,,203.0.113.1,,3,,,,,,\n");
     assert_eq!(rt; header().matches(',').count(), refused.matches(',').count());
     Ok(())
 }
@@ -118,12 +120,13 @@ fn saved(event: LogField) -> LogRow {
         external: Some(ENTRY.binding.external),
         number: LogField::Number(7),
         redirect: LogField::Number(0),
+        is_of_gateway: false,
     }
 }
 
 #[test]
 fn logs_are_read_back(rt: HostRuntime) -> Result<(), Fail> {
-    let ended = "304000000000,,9,17,10.0.0.2,5000,203.0.113.1,1024,,7,0,3,2,4000000000,";
+    let ended = "304000000000,9,17,10.0.0.2,5000,203.0.113.1,1024,,7,0,3,2,4000000000,";
     let text = format!(in rt.alloc(); "{}{ended}\n{ended}", header())?;
     let Ok(mut log) = LogReader::open(rt.alloc(), text.as_bytes()) else {
         return Err(Fail::from(text.len()));
@@ -133,7 +136,7 @@ fn logs_are_read_back(rt: HostRuntime) -> Result<(), Fail> {
     assert!(rt; matches!(log.next(), Ok(None)));
     assert!(rt; LogReader::open(rt.alloc(), ended.as_bytes()).is_err());
     assert_eq!(rt; saved(LogField::Empty).binding(), Ok(ENTRY.binding));
-    assert_eq!(rt; LogRow::read(",,,,,,,,,,,,,"), None);
+    assert_eq!(rt; LogRow::read(",,,,,,,,,,,,"), None);
     Ok(())
 }
 
@@ -145,7 +148,7 @@ fn fields_are_read_back(rt: HostRuntime) -> Result<(), Fail> {
         redirect: LogField::Number(1),
         ..saved(LogField::Number(8))
     };
-    let row = "x,,8,17,10.0.0.2,5000,203.0.113.1,1024,,x,1,0,0,,";
+    let row = "x,8,17,10.0.0.2,5000,203.0.113.1,1024,,x,1,0,0,,";
     assert_eq!(rt; LogRow::read(row), Some(redirect));
     let refused = LogRow {
         time: LogField::Number(5),
@@ -155,6 +158,10 @@ fn fields_are_read_back(rt: HostRuntime) -> Result<(), Fail> {
         redirect: LogField::Empty,
         ..saved(LogField::Number(12))
     };
+    assert_eq!(rt;
+        LogRow::read("5,12,17,10.0.0.3,,203.0.113.1,,,,,,,"),
+        Some(refused)
+    );
     assert_eq!(rt;
         LogRow::read("5,,12,17,10.0.0.3,,203.0.113.1,,,,,,,,"),
         Some(refused)

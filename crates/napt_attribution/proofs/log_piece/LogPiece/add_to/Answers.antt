@@ -9,4 +9,4 @@ pub returns-in-Ok-open : goal.returns-in-Ok-open
 returns-in-Ok-open g c = λ rules asked events first fit bytes tells.
     let whole = behind_buffer _ _ _ _ c.in-Ok.ensures.capacity c.in-Ok.ensures.empty
     (ap g.D.Read.remaining c.in-Ok.ensures.inner ∙ bytes) in
-    c.add_rows.ensures rules asked events fit (c.in-Ok-open.ensures (flat_map (csv_row rules) events) whole) tells
+    c.add_rows.ensures rules asked events fit (c.in-Ok-open.ensures.names (flat_map (csv_row rules) events) whole) tells

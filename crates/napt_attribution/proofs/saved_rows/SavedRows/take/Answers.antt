@@ -2,7 +2,7 @@
 use Rattle.std.proofs.Common.{◌≡◌, ◌≤◌, ◌∷◌, ◌++◌, [], refl, sym, ap, subst, arith, rules}
 use Rattle.napt_log_text.specs.declared.{event.LogEvent.{LogEvent, TheVariants.{Ended, Living, Made, Refused}}, log_row.LogField.TheVariants.{Empty, Number}}
 use Rattle.napt_attribution.specs.{SavedLogs.{EventFollows, RowsTrackEvents, entries_in}, declared.saved_rows.SavedRows.SavedRows}
-use Rattle.napt_attribution.proofs.SavedRows.{only_ended, only_living, only_made, only_refused, told_same}
+use Rattle.napt_attribution.proofs.SavedRows.{only_ended, only_living, only_made, only_refused, repeated_as_made, told_same}
 use Rattle.napt_attribution.proofs.saved_rows.SavedRows.take.Goals as goal
 use Rattle.napt_attribution.proofs.saved_rows.SavedRows.take.Goals.{in-Number-eq9+in_ok-end-in-Number-eq9, in-Number+in-Number+in_ok-time_of_other-in-Number, in-Empty+in_ok-add_living-in-Empty}
 
@@ -11,7 +11,8 @@ returns-in-Number-eq8 c = λ asked events event tells is.
     let at : c.args.row.now.event ≡ Number 8 = search rules in
     only_made c.args.row.now
     (λ e. EventFollows (entries_in events) e × RowsTrackEvents asked c.add_made.new.self (events ++ e ∷ [])) at
-    (λ l same. c.in_ok-binding-in-Number-eq8.ensures asked events l tells same) event is
+    (λ l same. c.in_ok-binding-in-Number-eq8.ensures asked events l tells same)
+    (λ l made. (made.0, repeated_as_made asked c.make.new.self events l made.1)) event is
 
 pub returns : goal.returns
 returns c = λ asked events event tells is.
