@@ -61,7 +61,7 @@ repeated_as_made asked rows es l tells =
     same_ends es (Made l) (λ number. refl) ∙ sym (same_ends es (Repeated l) (λ number. refl)) in
     let made : made_in (es ++ Made l ∷ []) ≡ made_in (es ++ Repeated l ∷ []) =
     made_more es (Made l) ∙ sym (made_more es (Repeated l)) in record {
-      keeps = subst (KeepsAll asked rows) (ap₂ with_ends ends made) tells.keeps;
+      keeps = subst (RowsTrackEntries asked rows) (ap₂ with_ends ends made) tells.keeps;
       ends = λ number above. (λ i. sym ends i number) ∙ tells.ends number above;
     }
 

@@ -46,7 +46,7 @@ impl<R: BufRead + Drop> LogReader<R> {
         if let Err(error) = log.reader.read_line(&mut log.line) {
             return Err(LogFileFault::Unread(error));
         }
-        if log.is_at_names() {
+        if log.is_at_header() {
             Ok(log)
         } else {
             Err(LogFileFault::InvalidRow(

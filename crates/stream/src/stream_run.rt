@@ -309,7 +309,7 @@ fn result_with_log<T: Write + Drop, F: SeekableFile + Drop, R: Files + AllocGlob
             return Err(stop_of_run(options, fault));
         }
     };
-    let log = log.ended(alloc, end.passed.clock)?;
+    let log = log.ended(alloc, end.summary.clock)?;
     if options.files.save.is_none() {
         return Ok(StreamRemainder { state: None });
     }
