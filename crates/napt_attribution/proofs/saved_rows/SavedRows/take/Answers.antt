@@ -12,7 +12,7 @@ returns-in-Number-eq8 c = λ asked events event tells is.
     only_made c.args.row.now
     (λ e. EventFollows (entries_in events) e × RowsTrackEvents asked c.add_made.new.self (events ++ e ∷ [])) at
     (λ l same. c.in_ok-binding-in-Number-eq8.ensures asked events l tells same)
-    (λ l made. (made.0, repeated_as_made asked c.make.new.self events l made.1)) event is
+    (λ l made. (made.0, repeated_as_made asked c.add_made.new.self events l made.1)) event is
 
 pub returns : goal.returns
 returns c = λ asked events event tells is.
