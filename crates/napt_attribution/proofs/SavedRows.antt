@@ -55,7 +55,7 @@ entries_made es l none = ap₂ with_ends (same_ends es (Made l) (λ number. refl
 
 -- A row that repeats a binding has the entry of one that makes it.
 pub repeated_as_made : (asked : List HolderRequest) (rows : SavedRows) (es : List LogEvent) (l : LogEntry) →
-    Tells asked rows (es ++ Made l ∷ []) → Tells asked rows (es ++ Repeated l ∷ [])
+    RowsTrackEvents asked rows (es ++ Made l ∷ []) → RowsTrackEvents asked rows (es ++ Repeated l ∷ [])
 repeated_as_made asked rows es l tells =
     let ends : row_end_among (es ++ Made l ∷ []) ≡ row_end_among (es ++ Repeated l ∷ []) =
     same_ends es (Made l) (λ number. refl) ∙ sym (same_ends es (Repeated l) (λ number. refl)) in
