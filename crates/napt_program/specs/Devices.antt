@@ -18,7 +18,7 @@ abbrev pub bytes_written : {D A : Type 0} → (D → Bytes) → Watched (BufWrit
 bytes_written contents made = writer_contents contents (device_of made)
 
 -- The bytes that were written to the device of a log, from those of the writer in it or of its pieces.
-abbrev pub log_written : {D P A : Type 0} → (D → Bytes) → (P → Bytes) → Watched (GatewayLog (Either (BufWriter D A) P) A)
+abbrev pub log_written : {D P A : Type 0} → (D → Bytes) → (P → Bytes) → Watched (GatewayLog (Either (BufWriter D A) P))
     → Bytes
 log_written contents pieces made = gateway_contents (either (writer_contents contents) pieces) (device_of made)
 

@@ -7,5 +7,5 @@ unless_named None contents = contents
 unless_named (Some row) contents = None
 
 -- The bytes that were written to a log, from those of its device. With rows of the gateway they are not known.
-abbrev pub gateway_contents : {W A : Type 0} → (W → Option (List ℕ)) → GatewayLog W A → Option (List ℕ)
+abbrev pub gateway_contents : {W : Type 0} → (W → Option (List ℕ)) → GatewayLog W → Option (List ℕ)
 gateway_contents contents log = unless_named log.begin (contents log.device)
