@@ -115,7 +115,6 @@ impl SavedRows {
             LogField::Number(event) if is_refusal(event) => {
                 self.times.other(row.time)?;
             }
-            LogField::Empty if row.is_of_gateway => {}
             LogField::Empty => self.live_on(row)?,
             _ => return Err(wrong("natEvent: expected 8, 9, 12, 13 or nothing")),
         }
