@@ -144,13 +144,16 @@ impl LogPiece<'_> {
         }
     }
 
-    /// Adds a row after the names, and returns that more may follow.
+    /// Adds a row after the names, unless it is about the gateway, and returns that more may follow.
     fn add_row(self, rows: &mut SavedRows, row: &LogRow) -> Result<bool, RowFault>
         ensures { (asked : List Asked) (events : List Told) (event : Told) →
             row.now ≡ saved_row event → logs.RowsTrackEvents asked rows.old events →
             IfOk result (λ more. (more ≡ true) × logs.EventFollows (logs.entries_in events) event
             × logs.RowsTrackEvents asked rows.new (events ++ event ∷ [])) }
     {
+        if row.is_of_gateway {
+            return Ok(true);
+        }
         let made = rows.take(row)?;
         if let Some(binding) = made
             && self.is_elsewhere(&binding)

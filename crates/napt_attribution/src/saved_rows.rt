@@ -116,7 +116,6 @@ impl SavedRows {
             LogField::Number(event) if is_refusal(event) => {
                 self.times.time_of_other(row.time)?;
             }
-            LogField::Empty if row.is_of_gateway => {}
             LogField::Empty => self.add_living(row)?,
             _ => return Err(invalid_row("natEvent: expected 8, 9, 12, 13 or nothing")),
         }
