@@ -28,7 +28,7 @@ fn workers(alloc: Global, config: &Config) -> Result<Vec<Worker<NoTrace>>, Alloc
         let translator = Translator::new(alloc, index, config.copy(alloc)?)?;
         made.push(Worker {
             translator,
-            told: PhantomData,
+            trace: PhantomData,
         })?;
     }
     Ok(made)

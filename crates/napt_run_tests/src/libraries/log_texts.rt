@@ -159,7 +159,7 @@ fn fields_are_read_back(rt: HostRuntime) -> Result<(), Fail> {
         ..saved(LogField::Number(12))
     };
     assert_eq!(rt;
-        LogRow::read("5,12,17,10.0.0.3,,203.0.113.1,,,,,,,"),
+        LogRow::read("5,12,17,10.0.0.3,,203.0.113.1,,,,,,,,"),
         Some(refused)
     );
     assert_eq!(rt;
