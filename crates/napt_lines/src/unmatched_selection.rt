@@ -55,7 +55,9 @@ impl UnmatchedSelection {
             Some(number) => eprintln!(rt;
                 "explain: --host {address}:{number}: no packet or binding has this endpoint"
             ),
-            None => eprintln!(rt; "explain: --host {address}: no packet or binding matches"),
+            None => eprintln!(rt;
+                "explain: --host {address}: no packet or binding has this address"
+            ),
         };
     }
 }
