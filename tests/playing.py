@@ -32,9 +32,13 @@ def shown_endpoint(text):
     return shown_end(texts.endpoint(text))
 
 
+# words that the code spells in another way
+CODE_WORDS = {"double": "Duplicate"}
+
+
 def shown_name(text):
     """A name as the player shows it: no-port is NoPort."""
-    return "".join(word.capitalize() for word in text.split("-"))
+    return "".join(CODE_WORDS.get(word, word.capitalize()) for word in text.split("-"))
 
 
 def shown_result(wanted, shown):
@@ -143,7 +147,7 @@ def step_pattern(wanted):
     used = r"BindingTally \{[^}]*\}"
     if "used" in told:
         note, _, out, _, into = told["used"].split()
-        used = re.escape(f"BindingTally {{ note: {note.capitalize()}, out: Some({out}), into: Some({into}) }}")
+        used = re.escape(f"BindingTally {{ note: {note.capitalize()}, outbound: Some({out}), inbound: Some({into}) }}")
     shown = ((shown_listed, "ended"), (shown_listed, "made"), (shown_shortage, "refused"))
     return " ".join([*map(re.escape, (shown_list(map(how, items_of(told.get(name, "none")))) for how, name in shown)), used])
 
