@@ -19,7 +19,8 @@ module _ (rules : Rules) where
 
   opened : (before : LogModel) (new : Bool) → (if new then opening_text rules before else [])
       ≡ (if new then csv_header else []) ++ flat_map (csv_row rules) (if new then map Repeated before.entries else [])
-  opened before true = ap (λ (t : TimeText). csv_header ++ t) (sym (flat_map-map (csv_row rules) Repeated before.entries))
+  opened before true =
+      ap (λ (t : TimeText). csv_header ++ t) (sym (flat_map-map (csv_row rules) Repeated before.entries))
   opened before false = refl
 
   ended : (living : List LogEntry) (goes_on : Bool) → (if goes_on then [] else living_rows rules living)

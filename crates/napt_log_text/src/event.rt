@@ -86,7 +86,8 @@ impl LogEvent {
     }
 }
 
-/// Appends the row of an event of a binding at a time, or of a binding without an event, with a note.
+/// Appends the row of an event of a binding at a time, or of a binding without an event, with a
+/// note.
 fn add_listed(
     listed: &LogEntry,
     at: Option<u128>,

@@ -12,7 +12,8 @@ use napt_wire::Protocol;
 use std::alloc::AllocError;
 
 /// Appends the line of a binding that had an endpoint. `last` is the time of the run's last packet,
-/// in ns; a later end comes only if no packet does. Fails only if memory is refused.
+/// in ns; an end after it is certain only if no packet arrives before it. Fails only if memory is
+/// refused.
 pub fn add_holder(entry: &Entry, last: u64, text: &mut String) -> Result<(), AllocError>
     ensures { OnOk result (string_bytes text.new
         ≡ string_bytes text.old ++ holders.holder_line last entry.now) }

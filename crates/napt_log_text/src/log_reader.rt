@@ -65,10 +65,9 @@ impl<R: BufRead + Drop> LogReader<R> {
         }
     }
 
-    /// Returns whether the line that was read last is the header, with which a piece may
-    /// begin: those of today or
-    /// those of the version before. Rows differ by the number of their fields, since a run that goes on adds rows of
-    /// today to a log of that version.
+    /// Returns whether the last line read is a header: that of this version or of the version
+    /// before. Both kinds of rows can be in one log, since a resumed run appends rows of this version
+    /// to an older log; they differ in the number of their fields.
     pub fn is_at_header(&self) -> bool
         ensures names { string_bytes self.now.line ≡ rows.csv_header → result ≡ true }
         ensures earlier { string_bytes self.now.line ≡ rows.earlier_header → result ≡ true }

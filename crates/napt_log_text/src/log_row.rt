@@ -131,8 +131,8 @@ impl LogRow {
     }
 }
 
-/// Whether a row is about the gateway: it has no protocol, and of the fields after the redirect only a note, with which
-/// a run begins, ends or fails.
+/// Whether a row is about the gateway: it has no protocol, and of the fields after the redirect
+/// only a note, with which a run begins, ends or fails.
 fn is_of_gateway(protocol: LogField, others: &str) -> bool
     ensures { (number : ℕ) → protocol ≡ LogField.Number number → result ≡ false }
 {

@@ -11,8 +11,8 @@ use std::num::NonZeroU32;
 
 const NANOSECONDS_A_SECOND: u64 = 1_000_000_000;
 
-/// Appends the beginning of a log, or of a piece of one: the names of its fields, and the repeated row of each entry
-/// that has not ended. Fails only if memory is refused.
+/// Appends the beginning of a log, or of a piece of one: the names of its fields, and the repeated
+/// row of each entry that has not ended. Fails only if memory is refused.
 pub fn add_opening(config: &Config, log: &OpenLog, text: &mut String) -> Result<(), AllocError>
     ensures { OnOk result (string_bytes text.new ≡ string_bytes text.old
         ++ logs.opening_text config.now log.now) }
@@ -35,8 +35,9 @@ pub fn add_first(
     add_made(config, made, text)
 }
 
-/// Appends the rows that an input adds: the bindings that ended since the time of the input before, the binding that
-/// its packet made, and the packet itself if no binding could be made for it. Fails only if memory is refused.
+/// Appends the rows that an input adds: the bindings that ended since the time of the input before,
+/// the binding that its packet made, and the packet itself if no binding could be made for it.
+/// Fails only if memory is refused.
 #[inline(never)]
 pub fn add_part(config: &Config, part: &InputPart, text: &mut String) -> Result<(), AllocError>
     ensures { OnOk result (string_bytes text.new ≡ string_bytes text.old

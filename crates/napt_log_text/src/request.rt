@@ -19,7 +19,7 @@ pub struct Request {
     /// The protocol, or any protocol if absent.
     pub protocol: Option<Protocol>,
     pub party: Party,
-    /// The span of time at some moment of which the endpoint was in use, or any time if absent.
+    /// The requested span: the endpoint was in use at some moment in it. `None` means any time.
     pub at: Option<TimeSpan>,
 }
 

@@ -75,8 +75,9 @@ impl TimeStamp {
         Ok(())
     }
 
-    /// Appends the date and the time of day in UTC (RFC 3339), such as `2026-11-26T10:02:07.000000001Z`, or nothing
-    /// from the year 10000 on. Fails only if memory is refused.
+    /// Appends the date and the time of day in UTC (RFC 3339), such as
+    /// `2026-11-26T10:02:07.000000001Z`, or nothing from the year 10000 on. Fails only if memory is
+    /// refused.
     pub fn add_date(self, text: &mut String) -> Result<(), AllocError>
         ensures { OnOk result (string_bytes text.new
             ≡ string_bytes text.old ++ times.date_if_any self.0) }

@@ -26,8 +26,9 @@ const ENDS: &str = ",,,,,,,,,,,,,end\n";
 /// The row of a run that failed.
 const FAILS: &str = ",,,,,,,,,,,,,fault\n";
 
-/// Removes the first `--name` from the arguments with its name, and returns the name. Fails with `Stop::Usage` if no
-/// name follows, and with `Stop::LineMemory` if memory is refused. A name has 1 to 64 letters, digits, `.`, `-` and `_`.
+/// Removes the first `--name` from the arguments with its name, and returns the name. Fails with
+/// `Stop::Usage` if no name follows, and with `Stop::LineMemory` if memory is refused. A name has 1
+/// to 64 letters, digits, `.`, `-` and `_`.
 pub fn take_name(alloc: Global, words: &mut Vec<String>) -> Result<Option<String>, Stop>
     ensures { IfErr result (λ stop. (stop ≡ Stop.Usage) ⊎ (stop ≡ Stop.LineMemory)) }
 {
@@ -60,7 +61,8 @@ fn is_name(text: &str) -> bool {
             || matches!(byte, b'.' | b'-' | b'_'))
 }
 
-/// A log to whose texts the rows of the gateway are added, if it has a name. A text is the file, or a piece.
+/// A log to whose texts the rows of the gateway are added, if it has a name. A text is the file, or
+/// a piece.
 #[derive(Drop)]
 pub struct GatewayLog<W> {
     pub(crate) device: W,
@@ -100,8 +102,8 @@ impl<W: Write> GatewayLog<W> {
         Ok(())
     }
 
-    /// Begins the file or a piece: ends the text before, if there is one, and writes the names of the fields and the row
-    /// with which the run begins.
+    /// Begins the file or a piece: ends the text before, if there is one, and writes the names of
+    /// the fields and the row with which the run begins.
     fn begin_text(&mut self) -> io::Result<()> {
         if self.has_begun {
             self.device.write_all(ENDS.as_bytes())?;
@@ -140,8 +142,8 @@ impl<W: Write> Write for GatewayLog<W> {
 }
 
 impl<W: Write + Drop> LogOutput<Watched<GatewayLog<W>>> {
-    /// Returns the log of the gateway with this name, if it has one, for a run that begins at a clock in ns. Fails with
-    /// `MEMORY` if memory is refused.
+    /// Returns the log of the gateway with this name, if it has one, for a run that begins at a
+    /// clock in ns. Fails with `MEMORY` if memory is refused.
     pub fn of_gateway(
         self,
         alloc: Global,
@@ -168,8 +170,8 @@ impl<W: Write + Drop> LogOutput<Watched<GatewayLog<W>>> {
         })
     }
 
-    /// Adds the row with which a run ends, at a clock in ns, if the gateway has a name. Fails with `Stop::Log`, and with
-    /// `MEMORY` if memory is refused.
+    /// Adds the row with which a run ends, at a clock in ns, if the gateway has a name. Fails with
+    /// `Stop::Log`, and with `MEMORY` if memory is refused.
     pub fn ended(self, alloc: Global, clock: u64) -> Result<LogOutput<Watched<GatewayLog<W>>>, Stop>
         ensures { IfErr result (λ stop. (stop ≡ Stop.Log) ⊎ (stop ≡ MEMORY)) }
     {
@@ -185,8 +187,8 @@ impl<W: Write + Drop> LogOutput<Watched<GatewayLog<W>>> {
         })
     }
 
-    /// Adds the row of a run that failed, if the gateway has a name and the log itself did not fail. If that fails too,
-    /// nothing says so.
+    /// Adds the row of a run that failed, if the gateway has a name and the log itself did not
+    /// fail. If that fails too, nothing says so.
     pub fn failed(self, fault: &Fault) {
         let LogOutput { device, is_new } = self;
         let mut log = device.into_inner();

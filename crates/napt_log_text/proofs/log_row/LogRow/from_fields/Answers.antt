@@ -18,7 +18,8 @@ returns-clause-binding c at event note listed some many fits first is =
     let f9 = c.first_field-9.ensures _ _ _ f8.1 in
     let one = c.number_in.ensures at some first in
     let two = c.number_in-2.ensures event many f1.0 in
-    let three = c.number_in-protocol.ensures (Some (csv_protocol binding.protocol)) (small_protocol binding.protocol) f2.0 in
+    let three = c.number_in-protocol.ensures (Some (csv_protocol binding.protocol))
+    (small_protocol binding.protocol) f2.0 in
     let four = c.endpoint_of.ensures.some binding.inside fits.1 f3.0 f4.0 in
     let five = c.endpoint_of-2.ensures.some binding.external fits.2 f5.0 f6.0 in
     let six = c.number_in-3.ensures (Some listed.number) (omega (arith, fits.0)) f8.0 in
@@ -40,7 +41,8 @@ returns-clause-refusal c external shortage some first is =
     let f9 = c.first_field-9.ensures _ _ _ f8.1 in
     let one = c.number_in.ensures (Some shortage.at) some first in
     let two = c.number_in-2.ensures (Some (shortage_number shortage.cause)) (small_shortage shortage.cause) f1.0 in
-    let three = c.number_in-protocol.ensures (Some (csv_protocol shortage.protocol)) (small_protocol shortage.protocol) f2.0 in
+    let three = c.number_in-protocol.ensures (Some (csv_protocol shortage.protocol))
+    (small_protocol shortage.protocol) f2.0 in
     let four = c.endpoint_of.ensures.none f4.0 in
     let five = c.endpoint_of-2.ensures.none f6.0 in
     let six = c.number_in-3.ensures None tt f8.0 in
