@@ -29,7 +29,7 @@ MOST, MOST_COUNT, MOST_END = 2**64 - 1, 2**61, 2**128 - 1
 # of a state that has no accounts of its bindings
 BEGUN = "{}: the log begins a new entry for each binding of the state, at {}: the run before had no log\n"
 # of bindings that end since they do not fit
-ENDED = "{}: {} of the bindings of the state expire now: the configuration does not accept them\n"
+ENDED = "{}: {} of the bindings of the state end now: the configuration does not accept them\n"
 # of packets that are earlier than the state
 BEFORE = "{}: a packet of {} is earlier than the state's time, {}: until then packets count as if they came at that time, and no timer ends\n"
 

@@ -57,11 +57,11 @@ const HOST: &str =
     "Prints only the packets and bindings with this address or endpoint, inside or external";
 
 const PAIRS: &str =
-    "Prints a [[pair]] for each host that has a live binding in a state, and that this configuration would give another \
-external address: with its pair, a host retains its bindings (at most 256 pairs, the limit of a configuration)";
+    "Prints a [[pair]] for each host with a live binding in a state that would get another external address under this \
+configuration; with that pair the host keeps its bindings (at most 256 pairs, the limit of a configuration)";
 
 const ENDED: &str =
-    "Bindings of the state that the configuration does not accept expire at the start; all others continue";
+    "Ends the bindings of the state that the configuration does not accept, at the start; all others continue";
 
 const WRITTEN: &str = "File to write, which no other option may name";
 

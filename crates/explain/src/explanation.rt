@@ -6,7 +6,7 @@ use crate::progress::ExplainProgress;
 use napt_account::{LogEntry, LoggedRun, OpenLog, RunFromState};
 use napt_attribution::LogOpening;
 use napt_commands::{
-    CommandOutput, EndedRun, Exit, LossCounts, PacketConsumer, Page, RunPacket, RunStart,
+    CommandOutput, EndedRun, Exit, LineBuffer, LossCounts, PacketConsumer, RunPacket, RunStart,
     print_warning,
 };
 use napt_lines::{PacketLine, Remotes, Replies, UnmatchedSelection};
@@ -16,7 +16,7 @@ use std::rt::Files;
 
 /// A run before its first packet.
 #[derive(Drop)]
-pub struct BegunRun<'a> {
+pub struct NewRun<'a> {
     run: LoggedRun<'a>,
     /// The time from which the run continues, in ns.
     clock: u64,
@@ -27,16 +27,16 @@ pub struct BegunRun<'a> {
     pub made: Vec<LogEntry>,
 }
 
-impl<'a> BegunRun<'a> {
+impl<'a> NewRun<'a> {
     /// Returns the run of a start, before its first packet.
-    pub fn from_start(alloc: Global, start: &RunStart<'a>) -> Result<BegunRun<'a>, AllocError> {
+    pub fn from_start(alloc: Global, start: &RunStart<'a>) -> Result<NewRun<'a>, AllocError> {
         let RunFromState {
             run,
             before,
             ended,
             made,
         } = start.logged_run(alloc)?;
-        Ok(BegunRun {
+        Ok(NewRun {
             run,
             clock: start.clock(),
             before,
@@ -46,7 +46,7 @@ impl<'a> BegunRun<'a> {
     }
 }
 
-impl BegunRun<'_> {
+impl NewRun<'_> {
     /// Returns the beginning of its log.
     pub fn opening(&self) -> LogOpening<'_> {
         LogOpening {
@@ -59,7 +59,7 @@ impl BegunRun<'_> {
 
 /// A run in progress. `O` is the output of the command.
 #[derive(Drop)]
-pub struct Explanation<'a, 'b, O> {
+pub struct RunInProgress<'a, 'b, O> {
     options: &'a ExplainOptions<'a>,
     running: LoggedRun<'a>,
     output: O,
@@ -69,24 +69,24 @@ pub struct Explanation<'a, 'b, O> {
     replies: Option<Replies<'b>>,
     unmatched: UnmatchedSelection,
     progress: ExplainProgress,
-    page: Page,
+    page: LineBuffer,
     /// The number of packets, the time from which the run continues, and the latest time, in ns.
     packets: u64,
     first: u64,
     last: u64,
 }
 
-impl<'a, 'b, O: Drop> Explanation<'a, 'b, O> {
+impl<'a, 'b, O: Drop> RunInProgress<'a, 'b, O> {
     /// Begins the run, before its first packet.
     pub fn begin<R: Files + AllocGlobal>(
         rt: &R,
         options: &'a ExplainOptions<'a>,
-        begun: BegunRun<'a>,
+        begun: NewRun<'a>,
         replies: Option<Replies<'b>>,
         output: O,
-    ) -> Result<Explanation<'a, 'b, O>, Exit> {
+    ) -> Result<RunInProgress<'a, 'b, O>, Exit> {
         let alloc = rt.alloc();
-        Ok(Explanation {
+        Ok(RunInProgress {
             options,
             output,
             losses: LossCounts::new(alloc, begun.run.config())?,
@@ -94,7 +94,7 @@ impl<'a, 'b, O: Drop> Explanation<'a, 'b, O> {
             replies,
             unmatched: UnmatchedSelection::new(options.choice, &begun.run.living(alloc)?),
             progress: ExplainProgress::new(rt),
-            page: Page::new(alloc),
+            page: LineBuffer::new(alloc),
             packets: 0,
             first: begun.clock,
             last: begun.clock,
@@ -111,7 +111,7 @@ impl<'a, 'b, O: Drop> Explanation<'a, 'b, O> {
     where
         O: CommandOutput<R>,
     {
-        let Explanation {
+        let RunInProgress {
             options,
             running,
             output,
@@ -150,7 +150,7 @@ impl<'a, 'b, O: Drop> Explanation<'a, 'b, O> {
 }
 
 impl<R: Print + Eprint + AllocGlobal, O: CommandOutput<R> + Drop> PacketConsumer<R>
-    for Explanation<'_, '_, O> {
+    for RunInProgress<'_, '_, O> {
     fn take(&mut self, rt: &R, number: u64, input: &Input) -> Result<(), Exit> {
         let alloc = rt.alloc();
         let config = self.running.config();

@@ -1,30 +1,30 @@
 //! The program `explain`, which shows people what a run of `napt` does.
 //!
-//! Each question is a command. A command over captures makes the run of `napt` on one thread, and
-//! prints its lines, its log or who had an endpoint. It accepts the arguments of `napt` and
+//! Each question is a command. A command on captures repeats the run of `napt` on one thread, and
+//! prints its packets, its log or the holder of an endpoint. It accepts the arguments of `napt` and
 //! `stream`, but never writes their outputs. It prints why they refuse a file, with their status.
 #![tactic(auto)]
 
 mod captures;
 mod commands;
+mod explain_run;
 mod explanation;
+mod file_checks;
 mod flaws;
 mod follow_command;
 mod manual;
 mod options;
 mod pairs;
-mod places;
 mod progress;
 mod reading;
 mod refusals;
-mod run_setting;
 
 use crate::commands::CommandTexts;
+use crate::explain_run::ExplainRun;
 use crate::manual::{INSTALLED, OWN};
 use crate::options::{ExplainOptions, OutputForm, options_of};
 use crate::pairs::print_pairs;
 use crate::reading::{answer, configuration, open_captures, read_given, requests_of, saved_at};
-use crate::run_setting::ExplainRun;
 use clap::Error;
 use clap::error::ErrorKind;
 use napt_attribution::{answer_by_blocks, print_blocks};

@@ -3,7 +3,7 @@
 use crate::manual::INSTALLED;
 use clap::ArgMatches;
 use napt_account::Party;
-use napt_attribution::{LogPaths, party_of, span_of};
+use napt_attribution::{LogPaths, parse_party, parse_span};
 use napt_commands::{Exit, OutsideCapture};
 use napt_lines::PacketSelection;
 use napt_log_text::{Request, TimeSpan};
@@ -23,7 +23,7 @@ pub struct ExplainOptions<'m> {
     pub log: Option<&'m str>,
     /// The kind of the outside capture.
     pub outside: OutsideCapture,
-    /// The command that runs split, from where this program was called.
+    /// The command for `split` in advice: `./split`, or `napt-split` if installed.
     pub split: &'m str,
     /// The pieces of the log from which requests are answered, or none if a run answers them.
     pub pieces: Vec<String>,
@@ -105,7 +105,7 @@ impl<'m> ExplainOptions<'m> {
     }
 
     /// Returns how many of other configuration, pieces of a log and requests are standard input.
-    pub fn more_from_input(&self) -> usize {
+    pub fn stdin_count(&self) -> usize {
         let named = self.other.iter().chain(&self.pieces);
         let many = named.filter(|path| path.as_str() == "-").count();
         match self.form {
@@ -140,7 +140,7 @@ pub enum OutputForm<'m> {
 
 impl<'m> OutputForm<'m> {
     /// Returns the name in messages of other files that are read.
-    pub fn name_of_read(self) -> &'static str {
+    pub fn read_option_name(self) -> &'static str {
         match self {
             OutputForm::Requests(_) => "--requests",
             OutputForm::Holders(_) => "--from-log",
@@ -197,8 +197,8 @@ pub fn options_of<'m, R: Eprint + AllocGlobal>(
     let only = matches.get_str("only");
     let host = matches.get_str("host");
     let choice = PacketSelection {
-        only: parsed_value(rt, "--only ", only, only.map(number_of))?,
-        host: parsed_value(rt, "--host ", host, host.map(host_of))?,
+        only: parsed_value(rt, "--only ", only, only.map(parse_packet_number))?,
+        host: parsed_value(rt, "--host ", host, host.map(parse_host))?,
         dropped: matches.get_flag("dropped"),
     };
     let options = ExplainOptions {
@@ -221,7 +221,7 @@ pub fn options_of<'m, R: Eprint + AllocGlobal>(
     Ok(options)
 }
 
-/// Refuses a state that cannot be used, since the command makes no run from one, or it is no file.
+/// Refuses a state if the command cannot start from one, or if the state is not a file.
 fn refuse_states<R: Eprint>(
     rt: &R,
     matches: &ArgMatches<'_>,
@@ -236,7 +236,7 @@ fn refuse_states<R: Eprint>(
     Ok(())
 }
 
-/// Refuses pieces of a log that is not a file, and seconds that are not a number.
+/// Refuses `--log-each` without a log file, or with an invalid number of seconds.
 fn refuse_pieces<R: Eprint>(
     rt: &R,
     matches: &ArgMatches<'_>,
@@ -289,9 +289,9 @@ fn form_of<'m, R: Eprint>(
 /// Returns the request of `who`.
 fn asked_of<'m, R: Eprint>(rt: &R, matches: &'m ArgMatches<'_>) -> Result<OutputForm<'m>, Exit> {
     let at = matches.get_str("at");
-    let at = parsed_value(rt, "--at ", at, at.map(moment_of))?;
+    let at = parsed_value(rt, "--at ", at, at.map(parse_time))?;
     let endpoint = matches.get_str("endpoint");
-    match parsed_value(rt, "", endpoint, endpoint.map(host_of))? {
+    match parsed_value(rt, "", endpoint, endpoint.map(parse_host))? {
         Some(party) => Ok(OutputForm::Holders(Request {
             protocol: None,
             party,
@@ -364,21 +364,21 @@ fn parsed_value<R: Eprint, T: Drop>(
     }
 }
 
-fn number_of(text: &str) -> Result<u64, &'static str> {
+fn parse_packet_number(text: &str) -> Result<u64, &'static str> {
     match text.parse::<u64>() {
         Ok(number) if number > 0 => Ok(number),
         _ => Err("expected a packet's number, from 1"),
     }
 }
 
-fn host_of(text: &str) -> Result<Party, &'static str> {
-    party_of(text).ok_or(
+fn parse_host(text: &str) -> Result<Party, &'static str> {
+    parse_party(text).ok_or(
         "expected an IPv4 address, as 10.0.0.2, or an endpoint, as 203.0.113.1:5000",
     )
 }
 
-fn moment_of(text: &str) -> Result<TimeSpan, &'static str> {
-    span_of(text).map_err(|no_time| no_time.message(
+fn parse_time(text: &str) -> Result<TimeSpan, &'static str> {
+    parse_span(text).map_err(|no_time| no_time.message(
         "expected seconds since 1970, as 90 or 1.5, or a date, as 2026-11-26T10:02:07Z",
     ))
 }

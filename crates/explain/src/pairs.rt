@@ -1,6 +1,6 @@
 //! The pairs by which hosts with live bindings retain their external addresses under another pool.
 
-use napt_commands::{Exit, Page};
+use napt_commands::{Exit, LineBuffer};
 use napt_config::{Address, Config};
 use napt_program::{StandardStreams, Stop};
 use napt_state::{SavedBinding, StateFileContents};
@@ -28,7 +28,7 @@ pub fn print_pairs<R: Print + Eprint + AllocGlobal>(
         return Err(Exit::NoOutput);
     }
     let moved = moved_hosts(rt.alloc(), config, saved)?;
-    let mut page = Page::new(rt.alloc());
+    let mut page = LineBuffer::new(rt.alloc());
     for (host, external) in moved.iter().take(MOST_PAIRS) {
         let (host, external) = (Address(*host), Address(*external));
         writeln!(

@@ -1,7 +1,7 @@
 //! Reads the configurations and opens the captures as `napt` does, and prints why it refuses them.
 
+use crate::file_checks::{print_closed, print_file, print_shared, refuse_log, refuse_written};
 use crate::options::{ExplainOptions, OutputForm};
-use crate::places::{print_closed, print_file, print_shared, refuse_log, refuse_written};
 use crate::refusals;
 use napt_attribution::{HolderRequest, answer_by_log, requests_at};
 use napt_commands::{Exit, RunStart, print_failed, text_at};
@@ -84,7 +84,7 @@ impl GivenLog {
 
 /// Opens the captures without reading them. Fails as `napt` would. The outputs of `napt` are
 /// neither created nor truncated; one that could not be written is refused if
-/// `napt_program::unmade` knows it.
+/// `napt_program::creation_error` knows it.
 pub fn open_captures<R: Files + Input + Eprint + AllocGlobal>(
     rt: &R,
     options: &ExplainOptions<'_>,
@@ -187,7 +187,7 @@ fn refuse_shared<R: Eprint + AllocGlobal>(
         rt,
         options,
         options.takes_input(),
-        options.form.name_of_read(),
+        options.form.read_option_name(),
     )
 }
 
@@ -200,7 +200,7 @@ fn refuse_more_input<R: Eprint + AllocGlobal>(
     name: &str,
 ) -> Result<(), Exit> {
     let most = if is_taken { 0 } else { 1 };
-    if options.more_from_input() > most {
+    if options.stdin_count() > most {
         return Err(print_shared(rt, name, FileRole::Config));
     }
     Ok(())

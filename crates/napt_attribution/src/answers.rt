@@ -6,7 +6,7 @@ use crate::requests::HolderRequest;
 use crate::saved_bindings::read_saved;
 use crate::saved_rows::SavedBindings;
 use napt_account::Entry;
-use napt_commands::{Exit, Page, SortedEntries};
+use napt_commands::{Exit, LineBuffer, SortedEntries};
 use napt_config::Config;
 use napt_log_text::{Request, TimeStamp, add_holder, add_mark, add_nobody};
 use napt_program::StandardStreams;
@@ -24,7 +24,7 @@ pub struct AnswerBasis<'a> {
     pub last: u64,
     /// The greatest step back in time between packets, in ns. A packet may have arrived this much
     /// later than its own time.
-    pub later: u64,
+    pub greatest_step_back: u64,
     /// The configuration of the run, if it is known.
     pub config: Option<&'a Config>,
     pub basis: Basis,
@@ -76,7 +76,7 @@ pub fn answer_by_blocks<R: Print + AllocGlobal>(
     let known = AnswerBasis {
         entries: &[],
         last: 0,
-        later: 0,
+        greatest_step_back: 0,
         config: Some(config),
         basis: Basis::Blocks,
     };
@@ -103,7 +103,7 @@ pub fn answer_by_log<R: Files + Input + Print + Eprint + AllocGlobal>(
     let known = AnswerBasis {
         entries: &entries,
         last,
-        later: 0,
+        greatest_step_back: 0,
         config,
         basis: Basis::Log(first),
     };
@@ -122,10 +122,10 @@ pub fn print_answers<R: Print + AllocGlobal>(
         0 | 1 => None,
         _ => Some(SortedEntries::from_entries(Vec::from_slice(rt.alloc(), known.entries)?)?),
     };
-    let mut page = Page::new(rt.alloc());
+    let mut page = LineBuffer::new(rt.alloc());
     let mut is_answered = true;
     for one in asked {
-        let one = one.until_later(known.later);
+        let one = one.until_later(known.greatest_step_back);
         let entries = match (&sorted, one.endpoint()) {
             (Some(sorted), Some(endpoint)) => sorted.at(endpoint),
             _ => known.entries,
@@ -146,7 +146,7 @@ fn print_answer<R: Print + AllocGlobal>(
     rt: &R,
     asked: &HolderRequest,
     known: AnswerBasis<'_>,
-    page: &mut Page,
+    page: &mut LineBuffer,
 ) -> Result<bool, Exit> {
     let is_owned = add_owners(asked, known, page)?;
     page.write_if_full(rt)?;

@@ -2,7 +2,7 @@
 
 ghost use Rattle.std.specs.Prelude.{◌≤◌, IfSome};
 
-use napt_commands::{Exit, Page};
+use napt_commands::{Exit, LineBuffer};
 use napt_config::{Address, Config};
 use napt_program::{StandardStreams, Stop};
 use std::alloc::AllocError;
@@ -30,7 +30,7 @@ pub fn print_blocks<R: Print + Eprint + AllocGlobal>(
     if !streams.output {
         return Err(Exit::NoOutput);
     }
-    let mut page = Page::new(rt.alloc());
+    let mut page = LineBuffer::new(rt.alloc());
     page.text.push_str(HEADER)?;
     for nth in 0..MOST_BLOCKS {
         for address in config.pool() {

@@ -4,7 +4,7 @@ use crate::answers::{AnswerBasis, Basis, print_answers};
 use crate::requests::HolderRequest;
 use crate::wanted_endpoints::WantedEndpoints;
 use napt_account::{LogEntry, in_order_of_making};
-use napt_commands::{CommandOutput, EndedRun, Exit, Page, RunPacket};
+use napt_commands::{CommandOutput, EndedRun, Exit, LineBuffer, RunPacket};
 use napt_config::Config;
 use std::alloc::{AllocError, Global};
 
@@ -51,14 +51,14 @@ impl<R: Print + AllocGlobal> CommandOutput<R> for Holders<'_> {
     }
 
     /// Prints the answers. Fails with `NoHolder` if a request has none.
-    fn end(self, rt: &R, _page: &mut Page, ending: &EndedRun<'_>) -> Result<(), Exit> {
+    fn end(self, rt: &R, _page: &mut LineBuffer, ending: &EndedRun<'_>) -> Result<(), Exit> {
         let mut holders = self;
         holders.add(&ending.living)?;
         let entries = in_order_of_making(rt.alloc(), holders.ended)?;
         let known = AnswerBasis {
             entries: &entries,
             last: ending.last,
-            later: ending.later,
+            greatest_step_back: ending.later,
             config: Some(ending.config),
             basis: Basis::Run(ending.first),
         };

@@ -26,6 +26,6 @@ pub use crate::blocks::print_blocks;
 pub use crate::holders::Holders;
 pub use crate::laws::saved_logs_name_the_holders;
 pub use crate::log_file::LogOpening;
-pub use crate::requests::{HolderRequest, party_of, requests_at};
+pub use crate::requests::{HolderRequest, parse_party, requests_at};
 pub use crate::run_log::{LogPaths, RunLog, begin_run_log};
-pub use crate::spans::{TimeFault, span_of};
+pub use crate::spans::{TimeFault, parse_span};

@@ -94,9 +94,7 @@ impl LogTimes {
                 self.last = at;
                 Ok(at)
             }
-            Ok(_) => Err(invalid_row(
-                "observationTimeNanoseconds: it is earlier than in a row above",
-            )),
+            Ok(_) => Err(invalid_row("observationTimeNanoseconds: earlier than in a row above")),
             Err(_) => Err(invalid_row(NO_TIME)),
         }
     }

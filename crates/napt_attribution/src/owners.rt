@@ -4,7 +4,7 @@ use crate::answers::{AnswerBasis, Basis, add_line_number};
 use crate::blocks::{MOST_BLOCKS, host_of_block, numbers_of};
 use crate::requests::HolderRequest;
 use napt_account::Party;
-use napt_commands::Page;
+use napt_commands::LineBuffer;
 use napt_config::{Address, Config, Redirect};
 use napt_log_text::Request;
 use napt_records::protocol_name;
@@ -17,7 +17,7 @@ use std::fmt::Write;
 pub fn add_owners(
     asked: &HolderRequest,
     known: AnswerBasis<'_>,
-    page: &mut Page,
+    page: &mut LineBuffer,
 ) -> Result<bool, AllocError> {
     let Some((config, size)) = known.config.and_then(|it| Some((it, it.block()?))) else {
         return Ok(false);

@@ -1,6 +1,6 @@
 //! Requests for who had an external endpoint, and when. The command line has one, a file has many.
 
-use crate::spans::{TimeFault, span_of};
+use crate::spans::{TimeFault, parse_span};
 use napt_account::Party;
 use napt_commands::{Exit, text_at};
 use napt_config::Address;
@@ -98,7 +98,7 @@ fn line_at(text: &[u8], place: usize) -> u64 {
 /// precede the time of day.
 fn request_of(line: &str) -> Result<Request, TimeFault> {
     let (party, rest) = first_word(line.trim());
-    let party = party_of(party).ok_or(TimeFault::Unread)?;
+    let party = parse_party(party).ok_or(TimeFault::Unread)?;
     let (time, last) = last_word(rest);
     let (time, protocol) = match protocol_of(last) {
         Some(protocol) => (time, Some(protocol)),
@@ -107,12 +107,12 @@ fn request_of(line: &str) -> Result<Request, TimeFault> {
     Ok(Request {
         protocol,
         party,
-        at: Some(span_of(time)?),
+        at: Some(parse_span(time)?),
     })
 }
 
 /// Parses a host or an endpoint, such as `10.0.0.2` or `203.0.113.1:5000`.
-pub fn party_of(text: &str) -> Option<Party> {
+pub fn parse_party(text: &str) -> Option<Party> {
     let (address, number) = match text.split_once(':') {
         Some((address, number)) => (address, Some(number.parse::<u16>().ok()?)),
         None => (text, None),

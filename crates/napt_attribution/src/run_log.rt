@@ -3,7 +3,9 @@
 use crate::blocks::print_log_not_needed;
 use crate::log_file::{LogFile, LogOpening, begin_log};
 use crate::packet_file::{PacketFile, begin_packets};
-use napt_commands::{CommandOutput, Coverage, EndedRun, Exit, Page, RunPacket, print_unwritten};
+use napt_commands::{
+    CommandOutput, Coverage, EndedRun, Exit, LineBuffer, RunPacket, print_unwritten,
+};
 use napt_config::Config;
 use napt_records::{OutcomeCounts, report_of};
 use std::fs;
@@ -117,7 +119,7 @@ impl<R: Files + Print + Eprint + AllocGlobal, W: Write + Drop> CommandOutput<R> 
     }
 
     /// Writes the rest of all files. Without a report, prints if blocks make a log unnecessary.
-    fn end(self, rt: &R, _page: &mut Page, ending: &EndedRun<'_>) -> Result<(), Exit> {
+    fn end(self, rt: &R, _page: &mut LineBuffer, ending: &EndedRun<'_>) -> Result<(), Exit> {
         let RunLog {
             mut log,
             mut packets,

@@ -43,7 +43,7 @@ impl TimeFault {
 }
 
 /// Returns the span that a time means: seconds since 1970, or a date of RFC 3339.
-pub fn span_of(text: &str) -> Result<TimeSpan, TimeFault> {
+pub fn parse_span(text: &str) -> Result<TimeSpan, TimeFault> {
     match span_of_seconds(text) {
         Some(span) if span.first / u128::from(SECOND) > u128::from(LAST) => Err(TimeFault::TooLate),
         Some(span) => Ok(span),

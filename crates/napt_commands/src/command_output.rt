@@ -1,7 +1,7 @@
 //! The output of a command about one run.
 
 use crate::exit::Exit;
-use crate::page::Page;
+use crate::page::LineBuffer;
 use crate::run_packet::{EndedRun, RunPacket};
 use napt_config::Config;
 
@@ -22,5 +22,5 @@ pub trait CommandOutput<R> {
     }
 
     /// Prints or writes the rest of the output at the end of the run.
-    fn end(self, rt: &R, page: &mut Page, ending: &EndedRun<'_>) -> Result<(), Exit>;
+    fn end(self, rt: &R, page: &mut LineBuffer, ending: &EndedRun<'_>) -> Result<(), Exit>;
 }

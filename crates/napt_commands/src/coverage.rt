@@ -44,11 +44,11 @@ impl Coverage {
     pub fn print<R: Eprint>(self, rt: &R) {
         if self.from_inside == 0 {
             let _ = eprintln!(rt;
-                "explain: no packet comes from inside: figures of bindings have no meaning"
+                "explain: no packet comes from inside, so figures about bindings are meaningless"
             );
         } else if self.from_outside == 0 {
             let _ = eprintln!(rt;
-                "explain: no packet comes from outside: connections count as never answered, and expire early"
+                "explain: no packet comes from outside, so every connection counts as unanswered and expires early"
             );
         }
         let all = self.from_inside.saturating_add(self.from_outside);

@@ -26,7 +26,7 @@ pub use crate::files::{
 };
 pub use crate::loss_counts::{LossCounts, SourceKind, destination_of, source_of};
 pub use crate::outside_capture::{OutsideCapture, copy_inputs};
-pub use crate::page::Page;
+pub use crate::page::LineBuffer;
 pub use crate::run_packet::{EndedRun, PacketConsumer, RunPacket, pass_all};
 pub use crate::seconds::Seconds;
 pub use crate::sorted_entries::SortedEntries;

@@ -22,7 +22,7 @@ pub struct LossCounts {
     /// The number of packets for an address that is not the gateway's.
     pub not_ours: u64,
     /// The number of packets whose source is an inside address.
-    pub from_inside: u64,
+    pub spoofed_from_inside: u64,
     /// The number of packets from each address of the pool, in the order of the pool.
     pub from_pool: Vec<u64>,
 }
@@ -37,7 +37,7 @@ impl LossCounts {
             refused: 0,
             no_binding: 0,
             not_ours: 0,
-            from_inside: 0,
+            spoofed_from_inside: 0,
             from_pool: vec![in alloc; 0; config.pool().len()]?,
         })
     }
@@ -64,7 +64,9 @@ impl LossCounts {
                 config,
                 &input.bytes,
             ) {
-                SourceKind::Inside => self.from_inside = self.from_inside.saturating_add(1),
+                SourceKind::Inside => self.spoofed_from_inside = self
+                    .spoofed_from_inside
+                    .saturating_add(1),
                 SourceKind::Pool(place) => {
                     if let Some(many) = self.from_pool.get_mut(place as usize) {
                         *many = many.saturating_add(1);
@@ -101,7 +103,7 @@ impl LossCounts {
     /// Returns whether no packet of the inside capture has an inside address as its source, but
     /// more than half of the packets of the outside capture do.
     pub fn are_swapped(&self) -> bool {
-        self.inside > 0 && self.from_hosts == 0 && self.from_inside > self.all / 2
+        self.inside > 0 && self.from_hosts == 0 && self.spoofed_from_inside > self.all / 2
     }
 
     /// Returns whether more than half of the packets from outside were not for the gateway.

@@ -8,14 +8,14 @@ const BUFFERED: usize = 65_536;
 
 /// The lines that have not been written yet.
 #[derive(Drop)]
-pub struct Page {
+pub struct LineBuffer {
     pub text: String,
 }
 
-impl Page {
+impl LineBuffer {
     /// Returns a buffer without lines.
-    pub fn new(alloc: Global) -> Page {
-        Page {
+    pub fn new(alloc: Global) -> LineBuffer {
+        LineBuffer {
             text: String::new(alloc),
         }
     }

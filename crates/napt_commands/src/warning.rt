@@ -27,7 +27,7 @@ pub fn print_warning<R: Eprint>(
         let (all, name) = (losses.all, outside.option());
         let _ = eprintln!(rt;
             "no packet of --inside comes from an inside host, and {} of {all} of {name} do: are the captures swapped?",
-            losses.from_inside
+            losses.spoofed_from_inside
         );
     } else {
         print_losses(rt, outside, losses);

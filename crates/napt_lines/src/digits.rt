@@ -1,4 +1,4 @@
-//! Appends numbers and spaces to a text, without `write!`, to save most of the time of many lines.
+//! Appends numbers and spaces to a text, without `write!`, which takes most of the time of many lines.
 
 use itoa::Buffer;
 pub use napt_log_text::{add_address, add_endpoint, add_number};

@@ -3,7 +3,7 @@
 use crate::lines::PacketLine;
 use crate::packet_selection::PacketSelection;
 use crate::replies::Replies;
-use napt_commands::{CommandOutput, EndedRun, Exit, Page, RunPacket};
+use napt_commands::{CommandOutput, EndedRun, Exit, LineBuffer, RunPacket};
 use napt_config::Config;
 
 /// Prints an object for each selected packet.
@@ -29,7 +29,7 @@ impl<R: AllocGlobal> CommandOutput<R> for PacketObjects<'_> {
         Ok(())
     }
 
-    fn end(self, _rt: &R, _page: &mut Page, _ending: &EndedRun<'_>) -> Result<(), Exit> {
+    fn end(self, _rt: &R, _page: &mut LineBuffer, _ending: &EndedRun<'_>) -> Result<(), Exit> {
         Ok(())
     }
 }

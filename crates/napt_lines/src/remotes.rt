@@ -41,8 +41,9 @@ pub struct Remotes {
     of_bindings: BTreeMap<u64, Vec<Remote>>,
     /// The number of answers among the packets that found no binding or were not for the gateway.
     unmet_answers: u64,
-    /// The number of answers for the gateway, and of those without a binding that sent the request.
+    /// The number of answers for the gateway.
     answers: u64,
+    /// How many of them went to a binding that had not sent the request, or to none.
     astray: u64,
     /// The number of the first packet that `astray` counts, or 0.
     first_astray: u64,

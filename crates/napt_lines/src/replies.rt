@@ -124,7 +124,7 @@ impl<'a> Replies<'a> {
     }
 
     fn add_spoofed(self, text: &mut String, losses: &LossCounts) -> Result<(), AllocError> {
-        let many = losses.from_inside;
+        let many = losses.spoofed_from_inside;
         if many > 0 {
             writeln!(text, "    {many} from inside addresses: {FROM_INSIDE}")?;
         }

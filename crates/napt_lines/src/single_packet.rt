@@ -6,7 +6,7 @@ use crate::lines::PacketLine;
 use crate::packet_selection::PacketSelection;
 use crate::replies::Replies;
 use napt_account::{Entry, LogEntry};
-use napt_commands::{CommandOutput, EndedRun, Exit, Page, RunPacket, Seconds};
+use napt_commands::{CommandOutput, EndedRun, Exit, LineBuffer, RunPacket, Seconds};
 use napt_config::Config;
 use napt_program::Stop;
 use std::alloc::AllocError;
@@ -113,7 +113,7 @@ impl<R: Print + Eprint + AllocGlobal> CommandOutput<R> for SinglePacket<'_> {
     }
 
     /// Prints the bindings, or that the captures do not contain the packet.
-    fn end(self, rt: &R, page: &mut Page, ending: &EndedRun<'_>) -> Result<(), Exit> {
+    fn end(self, rt: &R, page: &mut LineBuffer, ending: &EndedRun<'_>) -> Result<(), Exit> {
         if !self.is_found {
             let (number, packets) = (self.number, ending.packets);
             let _ = eprintln!(rt;

@@ -6,7 +6,7 @@ use crate::lines::{PacketLine, has_party};
 use crate::packet_selection::PacketSelection;
 use crate::replies::Replies;
 use napt_account::Entry;
-use napt_commands::{CommandOutput, EndedRun, Exit, Page, RunPacket, Seconds, SortedEntries};
+use napt_commands::{CommandOutput, EndedRun, Exit, LineBuffer, RunPacket, Seconds, SortedEntries};
 use napt_config::Config;
 use napt_display::reasons::CauseText;
 use napt_records::{OutcomeCounts, cause_name};
@@ -51,7 +51,7 @@ impl<'a> PacketLines<'a> {
     fn print_bindings<R: Print + AllocGlobal>(
         &self,
         rt: &R,
-        page: &mut Page,
+        page: &mut LineBuffer,
         ending: &EndedRun<'_>,
     ) -> Result<(), Exit> {
         let living = ending.living.iter().map(|listed| listed.entry);
@@ -159,7 +159,7 @@ impl<R: Print + AllocGlobal> CommandOutput<R> for PacketLines<'_> {
     }
 
     /// Prints the live bindings and the counts of outcomes.
-    fn end(self, rt: &R, page: &mut Page, ending: &EndedRun<'_>) -> Result<(), Exit> {
+    fn end(self, rt: &R, page: &mut LineBuffer, ending: &EndedRun<'_>) -> Result<(), Exit> {
         self.print_bindings(rt, page, ending)?;
         self.add_counts(&mut page.text, ending)?;
         page.end(rt)

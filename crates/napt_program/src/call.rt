@@ -53,7 +53,7 @@ pub fn print_new_entries(
 pub fn print_ended_bindings(rt: &impl Eprint, name: &str, ended: u64) {
     if ended > 0 {
         let _ = eprintln!(rt;
-            "{name}: {ended} of the bindings of the state expire now: the configuration does not accept them"
+            "{name}: {ended} of the bindings of the state end now: the configuration does not accept them"
         );
     }
 }
@@ -121,7 +121,8 @@ impl ProgramCall {
         ExitCode::from(status_at_end(answer))
     }
 
-    /// Returns the call with the name `installed`, if it was called so. Fails as `words` does.
+    /// Returns the call, under the name `installed` if the program was started by that name. Fails
+    /// as `words` does.
     pub fn as_called<R: Env + AllocGlobal>(
         self,
         rt: &R,
@@ -138,7 +139,7 @@ impl ProgramCall {
         Ok(ProgramCall { name, ..self })
     }
 
-    /// Returns the help of the name by which the program was called, of `own` and `installed`.
+    /// Returns `own` or `installed`, whichever is the help for the name of the program.
     pub fn manual(self, own: Manual, installed: Manual) -> Manual {
         if self.name == installed.name {
             installed

@@ -12,7 +12,7 @@ use std::alloc::Global;
 use std::io;
 use std::io::Write;
 
-/// The option before the name of the gateway, and with the name.
+/// The option for the name of the gateway: the name is the next argument, or follows `=`.
 const NAME: &str = "--name";
 
 const NAME_IS: &str = "--name=";
@@ -135,7 +135,8 @@ impl<W: Write> Write for GatewayLog<W> {
     }
 
     fn flush(&mut self) -> io::Result<()>
-        ensures bytes { Keeps (gateway_contents W.contents self.old) (gateway_contents W.contents self.new) }
+        ensures bytes { Keeps (gateway_contents W.contents self.old)
+            (gateway_contents W.contents self.new) }
     {
         self.device.flush()
     }
@@ -187,8 +188,8 @@ impl<W: Write + Drop> LogOutput<Watched<GatewayLog<W>>> {
         })
     }
 
-    /// Adds the row of a run that failed, if the gateway has a name and the log itself did not
-    /// fail. If that fails too, nothing says so.
+    /// Adds the row of a run that failed, if the gateway has a name and the log itself did not fail.
+    /// A failure to write this row is not reported.
     pub fn failed(self, fault: &Fault) {
         let LogOutput { device, is_new } = self;
         let mut log = device.into_inner();

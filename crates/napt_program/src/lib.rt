@@ -40,7 +40,7 @@ pub use crate::log_pieces::LogPieces;
 pub use crate::named_files::{NamedFiles, closed_text, input_reason, same_file_text, shared_text};
 pub use crate::options::{LineFault, Manual, RunOptions, VERSION, parse_words, parse_words_of};
 pub use crate::options_with_log::{OptionsWithLog, parse_words_with_log};
-pub use crate::outputs::{refuse_unmade, unmade};
+pub use crate::outputs::{creation_error, refuse_unmade};
 pub use crate::program_host::ProgramHost;
 pub use crate::record_counter::CountedSource;
 pub use crate::role::FileRole;

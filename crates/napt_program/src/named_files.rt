@@ -3,7 +3,7 @@
 use crate::config_file::MOST_BYTES;
 use crate::file_location::{FileLocation, is_same, location_of};
 use crate::options::{RunOptions, is_dash};
-use crate::outputs::unmade;
+use crate::outputs::creation_error;
 use crate::role::FileRole;
 use crate::state_file::new_path;
 use std::alloc::{AllocError, Global};
@@ -254,7 +254,7 @@ fn unmade_reason<R: Files>(
     name: &str,
     path: &str,
 ) -> Result<Option<String>, AllocError> {
-    match unmade(rt, path) {
+    match creation_error(rt, path) {
         Some(error) => Ok(Some(format!(in alloc; "{name} {path}: {error}")?)),
         None => Ok(None),
     }

@@ -50,11 +50,11 @@ Examples:
 --verbose prints a second line on standard error, as at a terminal in any case:
 the option, its file, and what is wrong (in a configuration, with the place).
 With --end-misfits, the bindings of the state that the configuration does not
-accept expire at the state's time, and a line on standard error prints their
+accept end at the state's time, and a line on standard error prints their
 number. All other bindings continue.
 
 Exit status, and the line on standard error that says why:
-  0  success; no line is printed
+  0  success
   2  napt: usage
        an option is unknown, is given twice, or lacks its file
   3  napt: config WORD

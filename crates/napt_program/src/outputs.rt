@@ -20,7 +20,7 @@ use std::rt::Files;
 use std::{fs, io};
 
 /// Fails with the role of the first output, in the order of the options, that cannot be created or
-/// emptied, as far as `unmade` can know. Creates and changes nothing.
+/// emptied, as far as `creation_error` can know. Creates and changes nothing.
 pub fn refuse_unmade<R: Files>(rt: &R, options: &RunOptions) -> Result<(), Stop>
     ensures { IfErr result (IsFileStop (files_of options.now)) }
 {
@@ -48,7 +48,7 @@ fn refuse_unmade_file<R: Files>(rt: &R, path: Option<&String>, role: FileRole) -
     ensures path { IfErr result (λ stop. IsSome path.entry) }
 {
     match path {
-        Some(path) if unmade(rt, path).is_some() => Err(Stop::File(role)),
+        Some(path) if creation_error(rt, path).is_some() => Err(Stop::File(role)),
         _ => Ok(()),
     }
 }
@@ -58,7 +58,7 @@ fn refuse_unmade_file<R: Files>(rt: &R, path: Option<&String>, role: FileRole) -
 /// Opens an existing file for writing, which changes nothing, but not `-`, a device or a pipe. A
 /// new file needs an existing folder. It is not known beforehand whether the folder accepts a file,
 /// whether a link leads to a missing folder, and whether writing fails, such as on a full disk.
-pub fn unmade<R: Files>(rt: &R, path: &str) -> Option<io::Error> {
+pub fn creation_error<R: Files>(rt: &R, path: &str) -> Option<io::Error> {
     if is_dash(path) {
         return None;
     }

@@ -58,7 +58,7 @@ pub fn state_at<R: Files + AllocGlobal>(
 }
 
 /// Reads a state from a reader to its end. If `ends_misfits`, the bindings that the configuration
-/// does not accept expire at its clock.
+/// does not accept end at its clock.
 ///
 /// Fails with `Stop::State` if the text is refused or a binding is not accepted, with the file's
 /// role if the reader fails, and with `MEMORY` if memory is refused.

@@ -39,7 +39,7 @@ pub enum Stop {
     Save,
 }
 
-/// The reason why a run must not write to the file of its log, which has text.
+/// The reason why a run must not append to a log file that already has text.
 #[derive(Clone, Copy, Debug, PartialEq, Eq)]
 pub enum LogRefusal {
     /// The run starts without a state, but there is text or a piece.
@@ -52,8 +52,8 @@ pub enum LogRefusal {
     OtherLog(u64),
     /// More than a partial row follows the first bytes, whose number the state records.
     ExtraText(u64),
-    /// The last piece is not the piece with this number, in which the state's log ends, or does not
-    /// end there.
+    /// The state's log ends in the piece with this number, but that is not the last piece, or it ends
+    /// elsewhere.
     OtherPiece(u64),
 }
 

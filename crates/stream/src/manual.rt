@@ -42,7 +42,7 @@ the option, its file, and what is wrong (in a configuration, with the place).
 --name NAME writes rows into the log that say whose it is, and where a run begins, ends
 or fails; a name has 1 to 64 letters, digits, dots, hyphens and underscores.
 With --end-misfits, the bindings of the state that the configuration does not
-accept expire at the state's time, also in the log, and a line on standard error
+accept end at the state's time, also in the log, and a line on standard error
 prints their number. All other bindings continue.
 
 Exit status, and the line on standard error that says why: as for napt, with

@@ -42,8 +42,8 @@ pub fn serve<R: ProgramHost + Clock>(
 }
 
 /// Serves these arguments, of which the first is the program's name. Succeeds only if they are
-/// understood, and fails only with a stop that they can cause. With the name of the gateway, the log has rows
-/// of it.
+/// understood, and fails only with a stop that they can cause. If the gateway has a `name`, the log
+/// also gets the rows of the gateway.
 pub fn serve_words<R: ProgramHost + Clock>(
     rt: &R,
     streams: StandardStreams,

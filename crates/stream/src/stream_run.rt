@@ -29,7 +29,7 @@ use std::sync::Arc;
 #[derive(Drop)]
 pub struct StreamRun<'a> {
     pub options: &'a OptionsWithLog,
-    /// The name of the gateway, which its log then has.
+    /// The name of the gateway, if its log is to contain it (`--name`).
     pub name: Option<&'a str>,
     pub config: &'a Config,
     pub state: &'a State,

@@ -1,7 +1,7 @@
 //! A run over captures, as the command line requests it.
 
 use crate::captures::{CaptureInputs, OpenCaptures, RefusedRun, StartedCaptures};
-use crate::explanation::{BegunRun, Explanation};
+use crate::explanation::{NewRun, RunInProgress};
 use crate::follow_command::follow;
 use crate::options::{ExplainOptions, OutputForm};
 use crate::reading::{GivenLog, RunStarts};
@@ -156,7 +156,7 @@ impl<'a> ExplainRun<'a> {
     ) -> Result<(), Exit> {
         let (options, start) = (self.options, &self.starts.first);
         let (alloc, choice) = (rt.alloc(), options.choice);
-        let begun = BegunRun::from_start(alloc, start)?;
+        let begun = NewRun::from_start(alloc, start)?;
         let packets = RunPackets {
             options,
             kept,
@@ -218,13 +218,13 @@ impl<'a, 'i, 'k> RunPackets<'a, 'i, 'k> {
         self,
         rt: &R,
         captures: &mut CaptureInputs<'_, '_, '_, A, B>,
-        begun: BegunRun<'a>,
+        begun: NewRun<'a>,
         output: O,
     ) -> Result<(), Exit>
     where
         R: Files + Print + Eprint + AllocGlobal,
     {
-        let mut explanation = Explanation::begin(rt, self.options, begun, self.replies, output)?;
+        let mut explanation = RunInProgress::begin(rt, self.options, begun, self.replies, output)?;
         match self.kept {
             None => captures.pass_to(rt, &mut explanation)?,
             Some(inputs) => pass_all(rt, inputs, &mut explanation)?,
