@@ -90,7 +90,7 @@ HasOpenEntry entries listed = HasBinding listed.entry.binding (entry_if has_no_e
 abbrev pub EventFollows : List LogEntry → LogEvent → Type 0
 EventFollows entries (Made listed) = Each (λ other. other.number < listed.number) entries
 EventFollows entries (Repeated listed) = Each (λ other. other.number < listed.number) entries
-Follows entries (Ended listed) = HasOpenEntry entries listed
+EventFollows entries (Ended listed) = HasOpenEntry entries listed
 EventFollows entries (Living listed) = HasOpenEntry entries listed
 EventFollows entries (Refused shortage) = Unit {0}
 

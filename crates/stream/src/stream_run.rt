@@ -94,9 +94,10 @@ impl<'a> StreamRun<'a> {
         ensures stop { (streams : StandardStreams) → IfErr result.answer
             (IsRunStop streams (files_with_log self.entry.options.now)) }
     {
+        let state = self.state;
         match log {
             None => self.without_log(rt, captures, outputs),
-            Some(log) => match log.of_gateway(rt.alloc(), self.name, self.state.clock) {
+            Some(log) => match log.of_gateway(rt.alloc(), self.name, state.clock) {
                 Ok(log) => self.with_log(rt, captures, outputs, log),
                 Err(stop) => StreamResult {
                     captures,
