@@ -277,14 +277,6 @@ module _ (row : LogRow) (P : LogEvent → Type 0) where
 
 -- WHAT A ROW TELLS
 
--- The row of an event is not one of the gateway.
-pub of_no_gateway : (row : LogRow) (e : LogEvent) → row ≡ saved_row e → row.is_of_gateway ≡ false
-of_no_gateway row (Made l) same = ap (λ (r : LogRow). r.is_of_gateway) same
-of_no_gateway row (Repeated l) same = ap (λ (r : LogRow). r.is_of_gateway) same
-of_no_gateway row (Ended l) same = ap (λ (r : LogRow). r.is_of_gateway) same
-of_no_gateway row (Living l) same = ap (λ (r : LogRow). r.is_of_gateway) same
-of_no_gateway row (Refused s) same = ap (λ (r : LogRow). r.is_of_gateway) same
-
 pub time_some : (end : Option ℕ) (at : ℕ) → number_field end ≡ Number at → end ≡ Some at
 time_some None at h = cc
 time_some (Some n) at h = cc
