@@ -58,7 +58,8 @@ static const char HELP[] =
     "After packets that were read together, the other side gets a record without bytes, which shows that time has passed, so\n"
     "that no packet waits for the next one of the other side. These records are not packets: the captures in DIR do not have\n"
     "them, and in the report (--report FILE of the words) the relay subtracts them from the packets and from those that are\n"
-    "truncated.\n"
+    "truncated. If no packet comes for a minute, both sides get a record without bytes, so that timers end, and a log with a\n"
+    "name gets a row; the captures in DIR have these records, and the report counts them.\n"
     "\n"
     "SIGTERM, SIGINT and SIGHUP end the captures: the packets so far are translated and leave, and PROGRAM writes all of the\n"
     "report, the log (--log FILE of the words) and the state (--save FILE). PROGRAM itself is started so that it ignores these\n"
@@ -84,7 +85,7 @@ enum {
     KEPT = 4,
 };
 
-static const uint64_t SECOND = 1000000000;
+static const uint64_t SECOND = 1000000000, MINUTE = 60 * SECOND;
 
 static const char *name = "relay";
 
@@ -425,12 +426,25 @@ static Side side_of(Device *device, const Folder *folder, const char *option) {
     return side;
 }
 
-// Tells a side that time has passed.
-static void tick(Side *side) {
-    uint8_t record[RECORD_BYTES];
+// Adds a record without bytes, which shows a side that time has passed.
+static const uint8_t *add_empty(Side *side) {
+    uint8_t *record = room_for(&side->waiting, RECORD_BYTES);
     set_record(record, 0);
-    put(&side->waiting, record, RECORD_BYTES);
+    side->waiting.end += RECORD_BYTES;
+    return record;
+}
+
+// Shows a side that time has passed since packets of the other one.
+static void tick(Side *side) {
+    add_empty(side);
     side->clocks++;
+}
+
+// Shows a side that no packet came for a minute, in its capture, too.
+static void tick_quiet(Side *side) {
+    if (!side->is_open || is_over) return;
+    keep(&side->kept, add_empty(side), RECORD_BYTES);
+    side->waiting.end -= flush_kept(&side->kept);
 }
 
 // Takes the packets that are there, up to some, and returns whether there were any.
@@ -573,6 +587,8 @@ typedef struct {
     // the state from which the run goes on and whose place its own takes, or NULL, where the program saves that, and what its start noted
     const char *state;
     char *saved, *begun;
+    // when the last packet came, or the last minute without one ended
+    uint64_t quiet_since;
     pid_t program;
     int ready_fd;
     // signals that were blocked at first: those that end the captures come while the relay waits, and at no other time
@@ -706,6 +722,19 @@ static void take_packets(Relay *relay, const struct pollfd *files) {
     for (int at = 0; at < 2; at++)
         if (files[at].revents & POLLIN && read_packets(&relay->sides[at])) last = at;
     if (last >= 0 && relay->sides[1 - last].is_open) tick(&relay->sides[1 - last]);
+    if (last >= 0) relay->quiet_since = now();
+}
+
+// Tells both sides that a minute has passed without a packet, if one has. Returns how long it is until then.
+static struct timespec watch_quiet(Relay *relay) {
+    uint64_t quiet = now() - relay->quiet_since;
+    if (quiet >= MINUTE) {
+        for (int at = 0; at < 2; at++) tick_quiet(&relay->sides[at]);
+        relay->quiet_since += quiet;
+        quiet = 0;
+    }
+    uint64_t rest = MINUTE - quiet;
+    return (struct timespec){.tv_sec = (time_t)(rest / SECOND), .tv_nsec = (long)(rest % SECOND)};
 }
 
 // Ends the captures where a device is gone, and says so.
@@ -736,10 +765,12 @@ static bool is_done(const Relay *relay) {
 // Hands on until the program has closed all that it writes.
 static void run(Relay *relay) {
     struct pollfd files[7];
+    relay->quiet_since = now();
     while (!is_done(relay)) {
+        struct timespec rest = watch_quiet(relay);
         hand_on(relay);
         watch(relay, files);
-        if (ppoll(files, 7, NULL, &relay->mask) < 0) continue;
+        if (ppoll(files, 7, &rest, &relay->mask) < 0) continue;
         watch_clock();
         watch_devices(relay, files);
         take_packets(relay, files);

@@ -152,6 +152,7 @@ impl LogPiece<'_> {
             × logs.RowsTrackEvents asked rows.new (events ++ event ∷ [])) }
     {
         if row.is_of_gateway {
+            rows.note_gateway(row);
             return Ok(true);
         }
         let made = rows.take(row)?;

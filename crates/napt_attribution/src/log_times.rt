@@ -16,6 +16,8 @@ pub struct LogTimes {
     after_opening: Option<u64>,
     /// The time of the last event.
     last: u64,
+    /// The greatest time of a row about the gateway, which shows that the log went on until then.
+    went_on: u64,
     /// Whether bindings that ended before the log began are missing, as in a new file of a log.
     lacks: bool,
     /// Whether bindings before the next one may be missing.
@@ -29,20 +31,31 @@ impl LogTimes {
             first: u64::MAX,
             after_opening: None,
             last: 0,
+            went_on: 0,
             lacks: false,
             may_lack: true,
         }
     }
 
-    /// Returns the time from which on the log contains every binding, and that of its last event.
-    /// If bindings are missing, the former is the time of the first event other than a making.
+    /// Returns the time from which on the log contains every binding, and that of its last row. If
+    /// bindings are missing, the former is the time of the first event other than a making.
     pub fn covered_span(&self) -> (u64, u64) {
+        let last = self.last.max(self.went_on);
         let first = match self.after_opening {
-            _ if !self.lacks => self.first.min(self.last),
+            _ if !self.lacks => self.first.min(last),
             Some(at) => at,
             None => self.last,
         };
-        (first, self.last)
+        (first, last)
+    }
+
+    /// Records the time of a row about the gateway, if it has one.
+    pub fn note_gateway(&mut self, time: LogField) {
+        if let LogField::Number(time) = time
+            && let Ok(at) = u64::try_from(time)
+        {
+            self.went_on = self.went_on.max(at);
+        }
     }
 
     /// Returns the time at which a row makes a binding.

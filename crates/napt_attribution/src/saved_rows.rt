@@ -100,6 +100,11 @@ impl SavedRows {
         })
     }
 
+    /// Records a row about the gateway: the log covers the time until then.
+    pub fn note_gateway(&mut self, row: &LogRow) {
+        self.times.note_gateway(row.time);
+    }
+
     /// Adds a row after the names. Returns the binding that it makes, if it makes one.
     pub fn take(&mut self, row: &LogRow) -> Result<Option<Row>, RowFault>
         ensures { (asked : List Asked) (events : List Told) (event : Told) →

@@ -231,6 +231,19 @@ impl ProgramCall {
         self.print_cut(rt, FileRole::Outside, outside.is_cut());
     }
 
+    /// Prints that a fifth of the packets from outside, or more, did not reach an inside host, so
+    /// that the log may be of other bindings than those of the captured gateway, if that is so.
+    pub fn print_other_numbers(self, rt: &impl Eprint, from_outside: u64, to_inside: u64) {
+        let lost = from_outside.saturating_sub(to_inside);
+        if !self.has_stderr || lost < 2 || lost <= from_outside / 5 {
+            return;
+        }
+        let name = self.name;
+        let _ = eprintln!(rt;
+            "{name}: {lost} of {from_outside} packets from outside reach no inside host: if the captured gateway chose other numbers, the log does not show its bindings (explain log refuses such captures)"
+        );
+    }
+
     fn print_cut(self, rt: &impl Eprint, role: FileRole, is_cut: bool) {
         if is_cut {
             let (name, side) = (self.name, role.name());

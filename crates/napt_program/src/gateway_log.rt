@@ -1,9 +1,11 @@
-//! The rows of the gateway in a log: whose log it is, and where a run begins, ends or fails.
+//! The rows of the gateway in a log: whose log it is, where a run begins, ends or fails, and which
+//! minutes were quiet.
 
 ghost use Rattle.std.specs.{Prelude.{◌≡◌, ◌⊎◌, IfErr, IfOk, None}, Io.{WritesAtMost, KnownBytes.{Keeps, WriteAppends}}};
 ghost use Rattle.napt_program.specs.GatewayLogs.{gateway_contents};
 
 use crate::log_file::LogOutput;
+use crate::record_counter::MINUTE;
 use crate::stop::{MEMORY, Stop};
 use napt_capture::Watched;
 use napt_log_text::header;
@@ -11,6 +13,8 @@ use napt_records::{Fault, Which};
 use std::alloc::Global;
 use std::io;
 use std::io::Write;
+use std::sync::Arc;
+use std::sync::atomic::{AtomicU64, Ordering};
 
 /// The option for the name of the gateway: the name is the next argument, or follows `=`.
 const NAME: &str = "--name";
@@ -61,6 +65,58 @@ fn is_name(text: &str) -> bool {
             || matches!(byte, b'.' | b'-' | b'_'))
 }
 
+/// The time of a record that shows a quiet minute, until its row is in the log.
+#[derive(Drop)]
+pub struct QuietMinute {
+    /// The time in ns, or 0.
+    time: AtomicU64,
+}
+
+impl QuietMinute {
+    /// Returns the value before the first record.
+    pub fn new() -> QuietMinute {
+        QuietMinute {
+            time: AtomicU64::new(0),
+        }
+    }
+
+    /// Records that there was no packet for a minute before a time in ns, unless the row of an
+    /// earlier minute is not yet in the log.
+    pub fn note(&self, time: u64) {
+        if self.time.load(Ordering::SeqCst) == 0 {
+            self.time.store(time, Ordering::SeqCst);
+        }
+    }
+}
+
+/// The rows of a gateway that has a name.
+#[derive(Drop)]
+struct NamedRows {
+    alloc: Global,
+    name: String,
+    quiet: Arc<QuietMinute>,
+    /// The time in ns before which no quiet minute ends.
+    next_quiet: u64,
+}
+
+impl NamedRows {
+    /// Returns the row of a quiet minute, if one has passed since the last such row. If memory is
+    /// refused, the next call tries again.
+    fn quiet_row(&mut self) -> Option<String> {
+        let time = self.quiet.time.load(Ordering::SeqCst);
+        let mut row = None;
+        if time >= self.next_quiet {
+            row = Some(format!(in self.alloc;
+                "{time},,,,,,,,,,,,,gateway {} is quiet\n",
+                self.name
+            ).ok()?);
+            self.next_quiet = time.saturating_add(MINUTE);
+        }
+        self.quiet.time.store(0, Ordering::SeqCst);
+        row
+    }
+}
+
 /// A log to whose texts the rows of the gateway are added, if it has a name. A text is the file, or
 /// a piece.
 #[derive(Drop)]
@@ -70,6 +126,7 @@ pub struct GatewayLog<W> {
     begin: Option<String>,
     /// Whether that row is in the text.
     has_begun: bool,
+    named: Option<NamedRows>,
 }
 
 impl<W> GatewayLog<W> {
@@ -82,6 +139,7 @@ impl<W> GatewayLog<W> {
             device,
             begin: None,
             has_begun: false,
+            named: None,
         }
     }
 }
@@ -100,6 +158,21 @@ impl<W: Write> GatewayLog<W> {
         }
         self.has_begun = true;
         Ok(())
+    }
+
+    /// Writes the row of a quiet minute, if one has passed since the last such row.
+    fn add_quiet_minute(&mut self) -> io::Result<()> {
+        let row = match &mut self.named {
+            Some(named) => named.quiet_row(),
+            None => None,
+        };
+        let Some(row) = row else {
+            return Ok(());
+        };
+        if !self.has_begun {
+            self.begin()?;
+        }
+        self.device.write_all(row.as_bytes())
     }
 
     /// Begins the file or a piece: ends the text before, if there is one, and writes the names of
@@ -138,18 +211,22 @@ impl<W: Write> Write for GatewayLog<W> {
         ensures bytes { Keeps (gateway_contents W.contents self.old)
             (gateway_contents W.contents self.new) }
     {
+        if self.begin.is_some() {
+            self.add_quiet_minute()?;
+        }
         self.device.flush()
     }
 }
 
 impl<W: Write + Drop> LogOutput<Watched<GatewayLog<W>>> {
-    /// Returns the log of the gateway with this name, if it has one, for a run that begins at a
-    /// clock in ns. Fails with `MEMORY` if memory is refused.
+    /// Returns the log of the gateway with this name, if it has one, and with these quiet minutes,
+    /// for a run that begins at a clock in ns. Fails with `MEMORY` if memory is refused.
     pub fn of_gateway(
         self,
         alloc: Global,
         name: Option<&str>,
         clock: u64,
+        quiet: Arc<QuietMinute>,
     ) -> Result<LogOutput<Watched<GatewayLog<W>>>, Stop>
         ensures new { IfOk result (λ log. log.is_new ≡ self.is_new) }
         ensures refused { IfErr result (λ stop. stop ≡ MEMORY) }
@@ -160,10 +237,17 @@ impl<W: Write + Drop> LogOutput<Watched<GatewayLog<W>>> {
         let LogOutput { device, is_new } = self;
         let GatewayLog { device, .. } = device.into_inner();
         let row = format!(in alloc; ",,,,,,,,,,,,,gateway {name} from {clock}\n")?;
+        let named = NamedRows {
+            alloc,
+            name: String::from_str(alloc, name)?,
+            quiet,
+            next_quiet: 1,
+        };
         let log = GatewayLog {
             device,
             begin: Some(row),
             has_begun: false,
+            named: Some(named),
         };
         Ok(LogOutput {
             device: Watched::new(log),

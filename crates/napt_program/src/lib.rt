@@ -5,6 +5,7 @@
 mod call;
 mod command;
 mod config_file;
+mod counted_sink;
 mod devices;
 mod file_location;
 mod file_locations;
@@ -30,11 +31,12 @@ pub use crate::command::{RunResources, open, stop_of_run, words};
 pub use crate::config_file::{
     MOST_BYTES, config_from, config_text, configuration, open_config, unread_config,
 };
+pub use crate::counted_sink::CountedSink;
 pub use crate::devices::{LogDevice, OutputDevices, RunDevices, buffered};
 pub use crate::file_location::{FileId, FileLocation, is_same, location_of};
 pub use crate::file_locations::{is_log_lost, lost_file};
 pub use crate::files::{FilesWithLog, InputFiles, RunFiles, open_files, open_inputs};
-pub use crate::gateway_log::{GatewayLog, take_name};
+pub use crate::gateway_log::{GatewayLog, QuietMinute, take_name};
 pub use crate::log_file::{LogOutput, SeekableFile};
 pub use crate::log_pieces::LogPieces;
 pub use crate::named_files::{NamedFiles, closed_text, input_reason, same_file_text, shared_text};

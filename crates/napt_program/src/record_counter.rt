@@ -1,10 +1,17 @@
-//! Counts the records of a capture in its bytes as they are read, and notes the first of them.
+//! Counts the records of a capture in its bytes as they are read, and notes the first of them, and
+//! those that show that no packet came for a minute.
 ghost use Rattle.std.specs.Prelude.{◌≡◌};
 
 use napt_capture::{DeviceFault, Source};
 
 /// The number of bytes of a packet up to the end of its source address (RFC 791, section 3.1).
 const SOURCE_END: u64 = 16;
+
+/// The number of bytes of a record without a packet.
+const EMPTY: usize = 16;
+
+/// The time in ns after the record before it after which such a record shows a quiet minute.
+pub(crate) const MINUTE: u64 = 60_000_000_000;
 
 /// The part of a capture to which its next bytes belong.
 #[derive(Clone, Copy)]
@@ -25,7 +32,7 @@ enum CounterState {
 
 /// Finds the records of a capture in its bytes as they are read.
 #[derive(Clone, Copy)]
-struct RecordCounter {
+pub(crate) struct RecordCounter {
     part: CounterState,
     /// The number of bytes of this part that have not been read.
     left: u64,
@@ -40,11 +47,17 @@ struct RecordCounter {
     first_time: Option<u64>,
     /// The source address of the first packet that has one.
     first_source: Option<u32>,
+    /// The time of the last record, in ns.
+    last_time: u64,
+    /// Whether the last record came a minute or more after the one before it.
+    is_late: bool,
+    /// Whether the last record has no bytes of a packet.
+    is_empty: bool,
 }
 
 impl RecordCounter {
     /// The state before the first byte of a capture.
-    const BEGIN: RecordCounter = RecordCounter {
+    pub(crate) const BEGIN: RecordCounter = RecordCounter {
         part: CounterState::Magic,
         left: 4,
         word: 0,
@@ -53,10 +66,13 @@ impl RecordCounter {
         unit: 0,
         first_time: None,
         first_source: None,
+        last_time: u64::MAX,
+        is_late: false,
+        is_empty: false,
     };
 
     /// Reads the next bytes of a capture. Returns the number of records that end in them.
-    fn pass(&mut self, bytes: &[u8]) -> u64 {
+    pub(crate) fn pass(&mut self, bytes: &[u8]) -> u64 {
         let mut records = 0u64;
         let mut rest = bytes;
         // Each turn consumes at least one byte.
@@ -83,27 +99,29 @@ impl RecordCounter {
         records
     }
 
-    /// Skips the time and the captured length of a record whose bytes need not be recorded, if both
+    /// Reads the time and the captured length of a record whose bytes need not be recorded, if both
     /// are there completely. Returns the bytes after them.
     fn skip_header<'a>(&mut self, bytes: &'a [u8]) -> Option<&'a [u8]> {
         let is_at_record = matches!(self.part, CounterState::Time) && self.left == 8;
-        if !is_at_record || self.first_time.is_none() || self.first_source.is_none() {
+        if !is_at_record || self.first_source.is_none() {
             return None;
         }
-        let [_, _, _, _, _, _, _, _, a, b, c, d, tail @ ..] = bytes else {
-            return None;
-        };
+        let (time, rest) = bytes.split_first_chunk::<8>()?;
+        let (captured, tail) = rest.split_first_chunk::<4>()?;
+        self.word = u64::from_le_bytes(*time);
+        self.note_time();
+        let captured = u64::from(self.number(*captured));
+        self.note_length(captured);
         self.part = CounterState::Record;
-        self.left = u64::from(self.number([*a, *b, *c, *d])) + 4;
+        self.left = captured + 4;
         Some(tail)
     }
 
     /// Returns whether the bytes of this part are read one by one.
     fn is_noted(&self) -> bool {
         match self.part {
-            CounterState::Magic | CounterState::Captured | CounterState::Source => true,
-            CounterState::Time => self.first_time.is_none(),
             CounterState::FileHeader | CounterState::Record => false,
+            _ => true,
         }
     }
 
@@ -117,7 +135,7 @@ impl RecordCounter {
             }
             CounterState::FileHeader | CounterState::Record => (CounterState::Time, 8),
             CounterState::Time => {
-                self.first_time = self.first_time.or(Some(self.time()));
+                self.note_time();
                 (CounterState::Captured, 4)
             }
             CounterState::Captured => self.begin_record(),
@@ -147,12 +165,33 @@ impl RecordCounter {
     fn begin_record(&mut self) -> (CounterState, u64) {
         let [.., a, b, c, d] = self.word.to_le_bytes();
         let captured = u64::from(self.number([a, b, c, d]));
+        self.note_length(captured);
         if self.first_source.is_none() && captured > SOURCE_END {
             self.after_source = captured - SOURCE_END;
             (CounterState::Source, 4 + SOURCE_END)
         } else {
             (CounterState::Record, captured + 4)
         }
+    }
+
+    /// Records the time of a record, which is in the last eight bytes.
+    fn note_time(&mut self) {
+        let time = self.time();
+        self.first_time = self.first_time.or(Some(time));
+        self.is_late = time.saturating_sub(self.last_time) >= MINUTE;
+        self.last_time = time;
+    }
+
+    /// Records the number of captured bytes of a record, whose time is known.
+    fn note_length(&mut self, captured: u64) {
+        self.is_empty = captured == 0;
+    }
+
+    /// Returns the time of the last record in ns, if it ended with the last byte and shows that no
+    /// packet came for a minute.
+    fn quiet_minute(self) -> Option<u64> {
+        let is_quiet = self.is_empty && self.is_late && !self.is_within();
+        is_quiet.then_some(self.last_time)
     }
 
     /// Returns the time in the last eight bytes, in ns.
@@ -188,6 +227,7 @@ pub struct CountedSource<S> {
     is_on: bool,
     tally: RecordCounter,
     records: u64,
+    quiet: Option<u64>,
 }
 
 impl<S> CountedSource<S> {
@@ -200,6 +240,7 @@ impl<S> CountedSource<S> {
             is_on,
             tally: RecordCounter::BEGIN,
             records: 0,
+            quiet: None,
         }
     }
 
@@ -211,6 +252,12 @@ impl<S> CountedSource<S> {
     /// Returns the time of the first record in ns, if it was read and records are counted.
     pub fn first_time(&self) -> Option<u64> {
         self.tally.first_time
+    }
+
+    /// Returns the time in ns of the record that was read last, if the read returned only that one,
+    /// it shows that no packet came for a minute, and records are counted.
+    pub fn quiet_minute(&self) -> Option<u64> {
+        self.quiet
     }
 
     /// Returns the source address of the first packet that has one, if it was read and records are
@@ -235,6 +282,7 @@ impl<S: Source> Source for CountedSource<S> {
         if self.is_on {
             let more = self.tally.pass(&buffer[..count]);
             self.records = self.records.saturating_add(more);
+            self.quiet = self.tally.quiet_minute().filter(|_| count == EMPTY);
         }
         Ok(count)
     }

@@ -44,6 +44,9 @@ impl<'p, S: Source, R: Eprint + Clock + AllocGlobal> Source for CountedDevice<'p
         let count = self.device.read(buffer)?;
         self.progress
             .count(self.device.records().saturating_sub(before));
+        if let Some(time) = self.device.quiet_minute() {
+            self.progress.note_quiet(time);
+        }
         if !self.has_begun
             && let Some(time) = self.device.first_time()
         {

@@ -39,8 +39,9 @@ After success each output contains the bytes that napt writes. The differences a
 
 --verbose prints a second line on standard error, as at a terminal in any case:
 the option, its file, and what is wrong (in a configuration, with the place).
---name NAME writes rows into the log that say whose it is, and where a run begins, ends
-or fails; a name has 1 to 64 letters, digits, dots, hyphens and underscores.
+--name NAME writes rows into the log that say whose it is, where a run begins, ends or
+fails, and which minutes were quiet; a name has 1 to 64 letters, digits, dots, hyphens
+and underscores.
 With --end-misfits, the bindings of the state that the configuration does not
 accept end at the state's time, also in the log, and a line on standard error
 prints their number. All other bindings continue.
@@ -50,7 +51,7 @@ Exit status, and the line on standard error that says why: as for napt, with
 only with a log, at packet 4611686018427387904.
   0  success; a line warns if the log begins new entries for the bindings of the
      state, if a packet is earlier than the state, if the captures seem to be
-     swapped, and if a capture is cut
+     swapped or of a gateway that chose other numbers, and if a capture is cut
   2  ", $name, ": usage
   3  ", $name, ": config WORD
   4  ", $name, ": capture SIDE WORD

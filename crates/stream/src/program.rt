@@ -10,8 +10,9 @@ use crate::manual::{INSTALLED, OWN};
 use crate::progress::ProgressReport;
 use crate::stream_run::{CaptureDevices, StreamRemainder, StreamResult, StreamRun};
 use napt_program::{
-    MEMORY, OptionsWithLog, ProgramCall, ProgramHost, RunDevices, RunResources, StandardStreams,
-    Stop, StopReason, answer_line, open, parse_words_with_log, take_name, take_verbose, words,
+    MEMORY, OptionsWithLog, ProgramCall, ProgramHost, QuietMinute, RunDevices, RunResources,
+    StandardStreams, Stop, StopReason, answer_line, open, parse_words_with_log, take_name,
+    take_verbose, words,
 };
 use std::alloc::Global;
 use std::sync::Arc;
@@ -94,7 +95,8 @@ fn run<R: ProgramHost + Clock>(
         outputs,
     } = devices;
     let gate = gate(rt.alloc(), config.pool().len())?;
-    let progress = ProgressReport::new(rt, share_gate(&gate)?, call, state.clock);
+    let quiet = Arc::new(rt.alloc(), QuietMinute::new()).map_err(|_| MEMORY)?;
+    let progress = ProgressReport::new(rt, share(&gate)?, call, share(&quiet)?, state.clock);
     let captures = CaptureDevices {
         inside: CountedDevice::over(inside, &progress),
         outside: CountedDevice::over(outside, &progress),
@@ -111,12 +113,16 @@ fn run<R: ProgramHost + Clock>(
     let StreamResult {
         captures,
         outputs,
+        to_inside,
         answer,
-    } = run.over(rt, captures, outputs, log);
+    } = run.over(rt, captures, outputs, log, quiet);
     progress.print_end();
     let StreamRemainder { state } = answer?;
     let (inside, outside) = (captures.inside.tallied(), captures.outside.tallied());
     call.print_flaws(rt, &config, inside, outside);
+    if options.log.is_some() && name.is_none() {
+        call.print_other_numbers(rt, outside.records(), to_inside);
+    }
     if let (Some(save), Some(state)) = (save, state) {
         outputs.sync()?;
         save.finish(rt, rt.alloc(), &state)?;
@@ -132,9 +138,9 @@ fn gate(alloc: Global, workers: usize) -> Result<Arc<CountingGate>, Stop>
     Arc::new(alloc, counting).map_err(|_| MEMORY)
 }
 
-/// Returns one more reference to the gate. Fails with `MEMORY` if memory is refused.
-fn share_gate(gate: &Arc<CountingGate>) -> Result<Arc<CountingGate>, Stop>
+/// Returns one more reference to a shared value. Fails with `MEMORY` if memory is refused.
+fn share<T: Drop>(shared: &Arc<T>) -> Result<Arc<T>, Stop>
     ensures { IfErr result (λ stop. stop ≡ MEMORY) }
 {
-    gate.clone().map_err(|_| MEMORY)
+    shared.clone().map_err(|_| MEMORY)
 }

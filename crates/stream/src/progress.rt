@@ -1,7 +1,7 @@
 //! The progress of a run, which is printed at a terminal.
 
 use crate::counting_gate::CountingGate;
-use napt_program::ProgramCall;
+use napt_program::{ProgramCall, QuietMinute};
 use std::cell::Cell;
 use std::sync::Arc;
 use std::time::{Clock, Instant};
@@ -40,6 +40,7 @@ pub struct ProgressReport<'r, R> {
     rt: &'r R,
     call: ProgramCall,
     gate: Arc<CountingGate>,
+    quiet: Arc<QuietMinute>,
     /// The clock of the state with which the run starts, in ns, until a packet is earlier.
     clock: Cell<u64>,
     /// The start of the run, or `None` if progress is not printed.
@@ -63,6 +64,7 @@ impl<'r, R: Eprint + Clock + AllocGlobal> ProgressReport<'r, R> {
         rt: &'r R,
         gate: Arc<CountingGate>,
         call: ProgramCall,
+        quiet: Arc<QuietMinute>,
         clock: u64,
     ) -> ProgressReport<'r, R> {
         let began = if call.at_terminal {
@@ -74,6 +76,7 @@ impl<'r, R: Eprint + Clock + AllocGlobal> ProgressReport<'r, R> {
             rt,
             call,
             gate,
+            quiet,
             clock: Cell::new(clock),
             began,
             packets: Cell::new(0),
@@ -90,6 +93,11 @@ impl<'r, R: Eprint + Clock + AllocGlobal> ProgressReport<'r, R> {
             let _ = call.print_earlier(rt, rt.alloc(), time, clock);
             self.clock.set(0);
         }
+    }
+
+    /// Records that a capture shows a quiet minute, which ends at a time in ns.
+    pub fn note_quiet(&self, time: u64) {
+        self.quiet.note(time);
     }
 
     /// Counts packets that were read.

@@ -15,8 +15,8 @@ use napt_account::{OpenLog, SavedLogState};
 use napt_capture::{NullSink, Source, Watched};
 use napt_config::Config;
 use napt_program::{
-    LogDevice, LogOutput, LogPieces, MEMORY, OptionsWithLog, OutputDevices, ProgramCall,
-    ProgramHost, SeekableFile, Stop, stop_of_run,
+    CountedSink, LogDevice, LogOutput, LogPieces, MEMORY, OptionsWithLog, OutputDevices,
+    ProgramCall, ProgramHost, QuietMinute, SeekableFile, Stop, stop_of_run,
 };
 use napt_run::{Devices, Fault, LogStart, LogWriter, NoLog, RunEnd, Start, State, run_streams};
 use napt_state::{LogEnd, StateFileContents};
@@ -50,6 +50,8 @@ pub struct CaptureDevices<A, B> {
 pub struct StreamResult<A, B, T: Write + Drop, F: Write + Drop> {
     pub captures: CaptureDevices<A, B>,
     pub outputs: OutputDevices<T, F>,
+    /// The number of records that were written for the inside.
+    pub to_inside: u64,
     pub answer: Result<StreamRemainder, Stop>,
 }
 
@@ -77,14 +79,15 @@ impl<'a> StreamRun<'a> {
         Ok(())
     }
 
-    /// Runs over the captures and writes the outputs, and the log if there is one. Fails as the run
-    /// does, and with `Stop::Log` if the log could not be written.
+    /// Runs over the captures, which have these quiet minutes, and writes the outputs, and the log
+    /// if there is one. Fails as the run does, and with `Stop::Log` if the log could not be written.
     pub fn over<R: ProgramHost, A: Source, B: Source, T: Write + Drop, F: SeekableFile + Drop>(
         self,
         rt: &R,
         captures: CaptureDevices<A, B>,
         outputs: OutputDevices<T, F>,
         log: Option<LogOutput<LogDevice<Either<T, F>, LogPieces<'_, R>>>>,
+        quiet: Arc<QuietMinute>,
     ) -> StreamResult<A, B, T, F>
         requires taken { TakesState self.config.now self.state.now }
         requires saved { is_saved_log_state self.state.now self.saved.now ≡ true }
@@ -95,15 +98,16 @@ impl<'a> StreamRun<'a> {
             (IsRunStop streams (files_with_log self.entry.options.now)) }
     {
         let state = self.state;
-        match log {
-            None => self.without_log(rt, captures, outputs),
-            Some(log) => match log.of_gateway(rt.alloc(), self.name, state.clock) {
-                Ok(log) => self.with_log(rt, captures, outputs, log),
-                Err(stop) => StreamResult {
-                    captures,
-                    outputs,
-                    answer: Err(stop),
-                },
+        let Some(log) = log else {
+            return self.without_log(rt, captures, outputs);
+        };
+        match log.of_gateway(rt.alloc(), self.name, state.clock, quiet) {
+            Ok(log) => self.with_log(rt, captures, outputs, log),
+            Err(stop) => StreamResult {
+                captures,
+                outputs,
+                to_inside: 0,
+                answer: Err(stop),
             },
         }
     }
@@ -124,10 +128,11 @@ impl<'a> StreamRun<'a> {
         let start = self.start();
         let mut devices = run_devices(captures, outputs, NoLog);
         let answer = run_streams(rt, rt.alloc(), start, &mut devices, self.gate);
-        let (captures, outputs, _) = parts_of(devices);
+        let (captures, outputs, to_inside) = parts_of(devices);
         StreamResult {
             captures,
             outputs,
+            to_inside,
             answer: result_without_log(rt.alloc(), options, config, answer),
         }
     }
@@ -155,15 +160,17 @@ impl<'a> StreamRun<'a> {
             return StreamResult {
                 captures,
                 outputs,
+                to_inside: 0,
                 answer: Err(MEMORY),
             };
         };
         let mut devices = run_devices(captures, outputs, writer);
         let answer = run_streams(rt, rt.alloc(), start, &mut devices, self.gate);
-        let (captures, outputs, _) = parts_of(devices);
+        let (captures, outputs, to_inside) = parts_of(devices);
         StreamResult {
             captures,
             outputs,
+            to_inside,
             answer: result_with_log(
                 rt.alloc(),
                 options,
@@ -206,31 +213,31 @@ type StreamDevices<A, B, T, F, L> = Devices<
     A,
     B,
     Watched<BufWriter<Either<T, F>>>,
-    Either<Watched<BufWriter<Either<T, F>>>, NullSink>,
+    CountedSink<Either<Watched<BufWriter<Either<T, F>>>, NullSink>>,
     Either<Watched<BufWriter<Either<T, F>>>, NullSink>,
     L,
 >;
 
-/// Returns the captures, the outputs and the log of a run's devices.
+/// Returns the captures and the outputs of a run's devices, and the number of records that were
+/// written for the inside.
 fn parts_of<A: Source, B: Source, T: Write + Drop, F: Write + Drop, L: Drop>(
     devices: StreamDevices<A, B, T, F, L>,
-) -> (CaptureDevices<A, B>, OutputDevices<T, F>, L)
-    ensures { result.2 ≡ devices.log }
-{
+) -> (CaptureDevices<A, B>, OutputDevices<T, F>, u64) {
     let Devices {
         inside,
         outside,
         to_outside,
         to_inside,
         report,
-        log,
+        ..
     } = devices;
+    let records = to_inside.records();
     let outputs = OutputDevices {
         to_outside,
-        to_inside,
+        to_inside: to_inside.device,
         report,
     };
-    (CaptureDevices { inside, outside }, outputs, log)
+    (CaptureDevices { inside, outside }, outputs, records)
 }
 
 /// Returns the devices of a run.
@@ -251,7 +258,7 @@ fn run_devices<A: Source, B: Source, T: Write + Drop, F: Write + Drop, L: Drop>(
         inside,
         outside,
         to_outside,
-        to_inside,
+        to_inside: CountedSink::over(to_inside),
         report,
         log,
     }
