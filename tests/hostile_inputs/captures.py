@@ -158,11 +158,17 @@ def merged_before(inside, outside):
 
 
 def warned(rules, readings, name):
-    """What stream says at its end of the captures of both sides: that they seem to be swapped, and which are cut."""
-    sources = [next((data[12:16] for _, data in it.packets if len(data) > 16), None) for it in readings]
+    """What stream says at its end of the captures of both sides: that they seem to be swapped, by the sources of their first packets, and
+    which are cut."""
+    sources = [[it for it in (data[12:16] for _, data in it.packets if len(data) > 16 and data[0] >> 4 == 4) if any(it)][:16] for it in readings]
+    matching = [
+        [it for it in found if rules.is_inside(int.from_bytes(it, "big")) == is_inside] for found, is_inside in zip(sources, (False, True))
+    ]
+    here, there = (".".join(map(str, it[0])) if len(it) > len(found) // 2 else None for it, found in zip(matching, sources))
     text = ""
-    if None not in sources and [rules.is_inside(int.from_bytes(it, "big")) for it in sources] == [False, True]:
-        here, there = (".".join(map(str, it)) for it in sources)
-        text = f"{name}: the captures seem to be swapped: the first packet from inside is from {here}, and that from outside from {there}\n"
+    if here and there:
+        text = f"{name}: the captures seem to be swapped: the first packets from inside are from {here}, and those from outside from {there}\n"
+    elif here and not sources[1]:
+        text = f"{name}: the capture inside seems to be of the outside: its first packets are from {here}, which is no inside host\n"
     cuts = (side for side, it in zip(("inside", "outside"), readings) if it.is_cut)
     return text + "".join(f"{name}: the capture {side} is cut: its last packet is incomplete, and is ignored\n" for side in cuts)

@@ -63,8 +63,6 @@ configuration; with that pair the host keeps its bindings (at most 256 pairs, th
 const ENDED: &str =
     "Ends the bindings of the state that the configuration does not accept, at the start; all others continue";
 
-const WRITTEN: &str = "File to write, which no other option may name";
-
 const LOG_WRITTEN: &str =
     "File to write the log to, which must be new or empty, and which no other option may name";
 
@@ -202,7 +200,7 @@ fn who<'a>(alloc: Global) -> Result<Command<'a>, AllocError> {
 
 fn log<'a>(alloc: Global) -> Result<Command<'a>, AllocError> {
     configured(alloc, "log", LOG)?
-        .arg(value(alloc, "to", "FILE", WRITTEN))?
+        .arg(value(alloc, "to", "FILE", LOG_WRITTEN))?
         .arg(value(alloc, "report", "FILE", REPORT))?
         .arg(value(alloc, "packets", "FILE", PACKETS))?
         .arg(flag(alloc, "as-napt", AS_NAPT))

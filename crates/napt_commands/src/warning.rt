@@ -37,6 +37,12 @@ pub fn print_warning<R: Eprint>(
 fn print_losses<R: Eprint>(rt: &R, outside: OutsideCapture, losses: &LossCounts) {
     let (all, unmet) = (losses.all, losses.unmet());
     let _ = match outside {
+        OutsideCapture::Packets if losses.refused > 0 => eprintln!(rt;
+            "{unmet} of {all} packets from outside are dropped as no-binding or not-ours
+  {} packets from inside got no binding, because of the quota or for lack of a free number: answers to them are dropped.
+  If that does not account for it, the captured gateway chose other numbers or addresses: give --replies, instead of --outside",
+            losses.refused
+        ),
         OutsideCapture::Packets => eprintln!(rt;
             "{unmet} of {all} packets from outside are dropped as no-binding or not-ours
   the captured gateway seems to have chosen other numbers or addresses: connections count as never answered here,

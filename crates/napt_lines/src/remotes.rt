@@ -25,10 +25,29 @@ type Remote = (Option<Protocol>, u32, u16);
 struct SentCounts {
     /// The time in ns of the last packet.
     at: u64,
-    /// The host that sent the last packet.
-    host: u32,
+    /// The sender of the last packet.
+    last: Sender,
     /// Whether other hosts sent packets to the remote, too.
     by_others: bool,
+}
+
+/// The sender of a packet from inside.
+#[derive(Clone, Copy)]
+struct Sender {
+    host: u32,
+    /// Its port, or the identifier of an echo request, if the packet is of such a kind.
+    number: Option<u16>,
+    /// The number of the binding's entry in the log, if it has one.
+    binding: Option<u64>,
+}
+
+/// The remotes of a binding.
+#[derive(Drop)]
+struct BindingRemotes {
+    /// Those to which it sent, up to `MOST`.
+    sent: Vec<Remote>,
+    /// Whether a packet from outside went in through it.
+    is_answered: bool,
 }
 
 /// The remotes so far, and counts of packets from outside.
@@ -38,12 +57,12 @@ pub struct Remotes {
     /// The number of remotes at which old ones are removed next.
     full: usize,
     /// The remotes of each live binding that the run made, by the number of its entry in the log.
-    of_bindings: BTreeMap<u64, Vec<Remote>>,
+    of_bindings: BTreeMap<u64, BindingRemotes>,
     /// The number of answers among the packets that found no binding or were not for the gateway.
     unmet_answers: u64,
     /// The number of answers for the gateway.
     answers: u64,
-    /// How many of them went to a binding that had not sent the request, or to none.
+    /// How many of them went to another host than the one that had sent the request, or to none.
     astray: u64,
     /// The number of the first packet that `astray` counts, or 0.
     first_astray: u64,
@@ -94,13 +113,18 @@ impl Remotes {
             self.of_bindings.remove(&listed.number);
         }
         for listed in &step.part.made {
-            self.of_bindings.insert(listed.number, Vec::new(alloc))?;
+            let remotes = BindingRemotes {
+                sent: Vec::new(alloc),
+                is_answered: false,
+            };
+            self.of_bindings.insert(listed.number, remotes)?;
         }
         let input = passing.input;
         match (input.side, &step.outcome) {
             (Side::Inside, Outcome::ToOutside(_)) => self.send(passing),
             (Side::Outside, outcome) if step.part.used.note != LogNote::Redirect => {
                 self.count_from_outside(passing, outcome);
+                self.note_answered(passing);
                 Ok(())
             }
             _ => Ok(()),
@@ -114,30 +138,44 @@ impl Remotes {
         let (Some(host), Some(address)) = (source_of(bytes), destination_of(bytes)) else {
             return Ok(());
         };
-        self.note((None, address, 0), host, now)?;
+        let last = Sender {
+            host,
+            number: inside_number(bytes, Side::Inside),
+            binding: passing.step.part.used.outbound,
+        };
+        self.note((None, address, 0), last, now)?;
         let Some(remote) = remote_of(bytes, Side::Inside) else {
             return Ok(());
         };
-        if let Some(number) = passing.step.part.used.outbound
+        if let Some(number) = last.binding
             && let Some(remotes) = self.of_bindings.get_mut(&number)
-            && remotes.len() < MOST
-            && !remotes.contains(&remote)
+            && remotes.sent.len() < MOST
+            && !remotes.sent.contains(&remote)
         {
-            remotes.push(remote)?;
+            remotes.sent.push(remote)?;
         }
-        self.note(remote, host, now)
+        self.note(remote, last, now)
+    }
+
+    /// Records that a packet from outside went in through the binding that it used, if it used one.
+    fn note_answered(&mut self, passing: RunPacket<'_>) {
+        if let Some(number) = passing.step.part.used.inbound
+            && let Some(remotes) = self.of_bindings.get_mut(&number)
+        {
+            remotes.is_answered = true;
+        }
     }
 
     /// Records that a host sent to a remote.
-    fn note(&mut self, remote: Remote, host: u32, now: u64) -> Result<(), AllocError> {
+    fn note(&mut self, remote: Remote, last: Sender, now: u64) -> Result<(), AllocError> {
         let mut sent = SentCounts {
             at: now,
-            host,
+            last,
             by_others: false,
         };
         match self.sent.get_mut(&remote) {
             Some(before) => {
-                sent.by_others = before.by_others || before.host != host;
+                sent.by_others = before.by_others || before.last.host != last.host;
                 *before = sent;
             }
             None => {
@@ -192,8 +230,11 @@ impl Remotes {
         let is_astray = match outcome {
             Outcome::Dropped(cause) => *cause == Cause::NoBinding,
             Outcome::ToInside(packet) => {
-                let is_another = sent.by_others || packet.destination().address != sent.host;
-                is_another && !self.has_sent(passing.step.part.used.inbound, remote)
+                let is_another = packet.destination().address != sent.last.host;
+                let number = inside_number(&passing.input.bytes, Side::Outside);
+                let has_not_sent = (is_another || sent.by_others)
+                    && !self.has_sent(passing.step.part.used.inbound, remote);
+                has_not_sent || (is_another && self.is_asked_by(sent.last, number))
             }
             Outcome::ToOutside(_) => false,
         };
@@ -211,10 +252,32 @@ impl Remotes {
     /// Returns whether a packet of the binding with a number went to a remote, or may have.
     fn has_sent(&self, number: Option<u64>, remote: Remote) -> bool {
         match number.and_then(|number| self.of_bindings.get(&number)) {
-            Some(remotes) => remotes.len() >= MOST || remotes.contains(&remote),
+            Some(remotes) => remotes.sent.len() >= MOST || remotes.sent.contains(&remote),
             None => true,
         }
     }
+
+    /// Returns whether a sender seems to have asked for a packet that comes to an external number:
+    /// it sent from this number, and nothing came to it in the run. Many gateways keep the number.
+    fn is_asked_by(&self, sender: Sender, number: Option<u16>) -> bool {
+        let remotes = sender.binding.and_then(|it| self.of_bindings.get(&it));
+        let is_unanswered = remotes.is_some_and(|remotes| !remotes.is_answered);
+        is_unanswered && number.is_some() && number == sender.number
+    }
+}
+
+/// Returns the number of the inside host or of the gateway in a packet from a side: its port, or
+/// the identifier of an echo, unless it is an ICMP error.
+fn inside_number(bytes: &[u8], side: Side) -> Option<u16> {
+    let transport = bytes.get(usize::from(*bytes.first()? & 15) * 4..)?;
+    let place = match (*bytes.get(9)?, side) {
+        (1, _) if matches!(transport.first(), Some(0 | 8)) => 4,
+        (6 | 17, Side::Inside) => 0,
+        (6 | 17, Side::Outside) => 2,
+        _ => return None,
+    };
+    let number = transport.get(place..)?.first_chunk::<2>()?;
+    Some(u16::from_be_bytes(*number))
 }
 
 /// Returns the remote endpoint in the headers of a packet from a side, unless it is an ICMP error.

@@ -206,7 +206,8 @@ impl ProgramCall {
         Ok(())
     }
 
-    /// Prints that the captures seem to be swapped, and which of them end inside a record.
+    /// Prints that the captures seem to be swapped, or that the only one seems to be of the outside,
+    /// by the sources of their first packets, and which of them end inside a record.
     pub fn print_flaws<S, Q>(
         self,
         rt: &impl Eprint,
@@ -218,15 +219,19 @@ impl ProgramCall {
             return;
         }
         let name = self.name;
-        if let (Some(here), Some(there)) = (inside.first_source(), outside.first_source())
-            && !config.is_inside(here)
-            && config.is_inside(there)
-        {
-            let (here, there) = (Address(here), Address(there));
-            let _ = eprintln!(rt;
-                "{name}: the captures seem to be swapped: the first packet from inside is from {here}, and that from outside from {there}"
-            );
-        }
+        let (here, there) = (inside.first_sources(), outside.first_sources());
+        let _ = match (here.most_of(config, false), there.most_of(config, true)) {
+            (Some(here), Some(there)) => eprintln!(rt;
+                "{name}: the captures seem to be swapped: the first packets from inside are from {}, and those from outside from {}",
+                Address(here),
+                Address(there)
+            ),
+            (Some(here), None) if there.is_empty() => eprintln!(rt;
+                "{name}: the capture inside seems to be of the outside: its first packets are from {}, which is no inside host",
+                Address(here)
+            ),
+            _ => Ok(()),
+        };
         self.print_cut(rt, FileRole::Inside, inside.is_cut());
         self.print_cut(rt, FileRole::Outside, outside.is_cut());
     }

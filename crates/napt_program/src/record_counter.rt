@@ -2,6 +2,7 @@
 //! those that show that no packet came for a minute.
 ghost use Rattle.std.specs.Prelude.{◌≡◌};
 
+use crate::first_sources::FirstSources;
 use napt_capture::{DeviceFault, Source};
 
 /// The number of bytes of a packet up to the end of its source address (RFC 791, section 3.1).
@@ -24,9 +25,11 @@ enum CounterState {
     Time,
     /// The captured length of a record.
     Captured,
-    /// The original length of a record, and the packet up to the end of its source address.
+    /// The original length of a record, and the first byte of the packet, which has the version.
+    Version,
+    /// The rest of the packet up to the end of its source address.
     Source,
-    /// The original length of a record and its bytes, or those after its source address.
+    /// The rest of a record.
     Record,
 }
 
@@ -39,20 +42,19 @@ pub(crate) struct RecordCounter {
     /// The last eight bytes that were read one by one, as a little-endian number.
     word: u64,
     is_big: bool,
-    /// The number of bytes of a packet after its source address.
-    after_source: u64,
+    /// The number of captured bytes of the record.
+    captured: u64,
     /// The unit of the fractions of a second in the capture, in ns.
     unit: u64,
     /// The time of the first record, in ns.
     first_time: Option<u64>,
-    /// The source address of the first packet that has one.
-    first_source: Option<u32>,
+    /// The source address of the record, or 0.
+    source: u32,
+    first_sources: FirstSources,
     /// The time of the last record, in ns.
     last_time: u64,
     /// Whether the last record came a minute or more after the one before it.
     is_late: bool,
-    /// Whether the last record has no bytes of a packet.
-    is_empty: bool,
 }
 
 impl RecordCounter {
@@ -62,13 +64,13 @@ impl RecordCounter {
         left: 4,
         word: 0,
         is_big: false,
-        after_source: 0,
+        captured: 0,
         unit: 0,
         first_time: None,
-        first_source: None,
+        source: 0,
+        first_sources: FirstSources::NONE,
         last_time: u64::MAX,
         is_late: false,
-        is_empty: false,
     };
 
     /// Reads the next bytes of a capture. Returns the number of records that end in them.
@@ -103,7 +105,7 @@ impl RecordCounter {
     /// are there completely. Returns the bytes after them.
     fn skip_header<'a>(&mut self, bytes: &'a [u8]) -> Option<&'a [u8]> {
         let is_at_record = matches!(self.part, CounterState::Time) && self.left == 8;
-        if !is_at_record || self.first_source.is_none() {
+        if !is_at_record || !self.first_sources.is_full() {
             return None;
         }
         let (time, rest) = bytes.split_first_chunk::<8>()?;
@@ -128,6 +130,10 @@ impl RecordCounter {
     /// Begins the next part. Returns whether a record has ended.
     fn next_part(&mut self) -> bool {
         let has_ended = matches!(self.part, CounterState::Record);
+        if has_ended {
+            self.first_sources.push(self.source);
+            self.source = 0;
+        }
         let (part, left) = match self.part {
             CounterState::Magic => {
                 self.note_magic();
@@ -139,10 +145,15 @@ impl RecordCounter {
                 (CounterState::Captured, 4)
             }
             CounterState::Captured => self.begin_record(),
+            CounterState::Version if self.word >> 60 == 4 => (CounterState::Source, SOURCE_END - 1),
+            CounterState::Version => (CounterState::Record, self.captured.saturating_sub(1)),
             CounterState::Source => {
                 let [.., a, b, c, d] = self.word.to_le_bytes();
-                self.first_source = Some(u32::from_be_bytes([a, b, c, d]));
-                (CounterState::Record, self.after_source)
+                self.source = u32::from_be_bytes([a, b, c, d]);
+                (
+                    CounterState::Record,
+                    self.captured.saturating_sub(SOURCE_END),
+                )
             }
         };
         self.part = part;
@@ -166,9 +177,8 @@ impl RecordCounter {
         let [.., a, b, c, d] = self.word.to_le_bytes();
         let captured = u64::from(self.number([a, b, c, d]));
         self.note_length(captured);
-        if self.first_source.is_none() && captured > SOURCE_END {
-            self.after_source = captured - SOURCE_END;
-            (CounterState::Source, 4 + SOURCE_END)
+        if !self.first_sources.is_full() && captured > SOURCE_END {
+            (CounterState::Version, 5)
         } else {
             (CounterState::Record, captured + 4)
         }
@@ -184,18 +194,18 @@ impl RecordCounter {
 
     /// Records the number of captured bytes of a record, whose time is known.
     fn note_length(&mut self, captured: u64) {
-        self.is_empty = captured == 0;
+        self.captured = captured;
     }
 
     /// Returns the time of the last record in ns, if it ended with the last byte and shows that no
     /// packet came for a minute.
-    fn quiet_minute(self) -> Option<u64> {
-        let is_quiet = self.is_empty && self.is_late && !self.is_within();
+    fn quiet_minute(&self) -> Option<u64> {
+        let is_quiet = self.captured == 0 && self.is_late && !self.is_within();
         is_quiet.then_some(self.last_time)
     }
 
     /// Returns the time in the last eight bytes, in ns.
-    fn time(self) -> u64 {
+    fn time(&self) -> u64 {
         let [a, b, c, d, e, f, g, h] = self.word.to_le_bytes();
         let seconds = u64::from(self.number([a, b, c, d]));
         let fraction = u64::from(self.number([e, f, g, h]));
@@ -205,12 +215,12 @@ impl RecordCounter {
     }
 
     /// Returns whether a record or the file header has begun and has not ended.
-    fn is_within(self) -> bool {
+    fn is_within(&self) -> bool {
         !matches!(self.part, CounterState::Time) || self.left != 8
     }
 
     /// Returns the number in four bytes of the capture, in its byte order.
-    fn number(self, bytes: [u8; 4]) -> u32 {
+    fn number(&self, bytes: [u8; 4]) -> u32 {
         if self.is_big {
             u32::from_be_bytes(bytes)
         } else {
@@ -260,10 +270,9 @@ impl<S> CountedSource<S> {
         self.quiet
     }
 
-    /// Returns the source address of the first packet that has one, if it was read and records are
-    /// counted.
-    pub fn first_source(&self) -> Option<u32> {
-        self.tally.first_source
+    /// Returns the sources of the first packets that were read, if records are counted.
+    pub fn first_sources(&self) -> &FirstSources {
+        &self.tally.first_sources
     }
 
     /// Returns whether the bytes read end inside a record; `false` if records are not counted.
