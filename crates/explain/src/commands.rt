@@ -63,6 +63,8 @@ configuration; with that pair the host keeps its bindings (at most 256 pairs, th
 const ENDED: &str =
     "Ends the bindings of the state that the configuration does not accept, at the start; all others continue";
 
+const WRITTEN: &str = "File to write, which no other option may name";
+
 const LOG_WRITTEN: &str =
     "File to write the log to, which must be new or empty, and which no other option may name";
 
