@@ -4,20 +4,20 @@ import argparse
 import sys
 import warnings
 from collections.abc import Sequence
-from pathlib import Path
 
 import pandas as pd
-from matplotlib.backend_bases import FigureCanvasBase
 
 from .configurations import Configuration, ConfigurationError
 from .logs import Log, LogError, read_log
-from .pictures import draw, save
+from .pictures import draw, suffix_of, save
 from .plan import enough, for_people, plan
 from .programs import Captures, ProgramError
 from .runs import Run, log_of, run
 from .sizes import Sizes
 
 NAME = "napt-analysis"
+# the number is the first in CHANGES
+VERSION = "0.1.0\nnot proved: tested by tests/analysis"
 TOP = 10  # hosts
 # the statuses of napt for a configuration, for a capture or a log, and for a file
 BAD_CONFIGURATION, BAD_LOG, BAD_FILE = 3, 4, 6
@@ -28,6 +28,7 @@ examples, and describes the same calls in Python."""
 def parser() -> argparse.ArgumentParser:
     """Returns the parser of the command line."""
     top = argparse.ArgumentParser(NAME, description=__doc__, epilog=EPILOG)
+    top.add_argument("-V", "--version", action=_Version, nargs=0, help="show the version and exit")
     commands = top.add_subparsers(required=True, metavar="COMMAND")
     captures = _captures_options()
     over_run = argparse.ArgumentParser(add_help=False, parents=[captures])
@@ -48,7 +49,7 @@ def parser() -> argparse.ArgumentParser:
 
     about = "draw a run: its bindings, hairpins and drops over time"
     drawn = commands.add_parser("draw", parents=[over_run], help=about, description=about.capitalize())
-    drawn.add_argument("picture", metavar="FILE", type=_picture, help="file to write; its suffix, as .svg, .png or .pdf, chooses the format")
+    drawn.add_argument("picture", metavar="FILE", type=_picture, help="file to write; its suffix, .svg, .png or .pdf, chooses the format")
     drawn.add_argument("--resume", metavar="FILE", help="state from which the run goes on")
     drawn.add_argument("--from", dest="start", type=float, metavar="SECONDS", help="start this long after the first packet")
     drawn.add_argument("--until", type=float, metavar="SECONDS", help="end this long after the first packet")
@@ -69,10 +70,20 @@ def _captures_options() -> argparse.ArgumentParser:
 
 def _picture(path: str) -> str:
     """Returns the path of a picture, if there is a format for its suffix."""
-    formats = sorted(FigureCanvasBase.get_supported_filetypes())
-    if Path(path).suffix.removeprefix(".") not in formats:
-        raise argparse.ArgumentTypeError(f"{path}: expected one of the suffixes {', '.join(formats)}")
+    try:
+        suffix_of(path)
+    except ValueError as error:
+        raise argparse.ArgumentTypeError(str(error)) from None
     return path
+
+
+class _Version(argparse.Action):
+    """Prints the version as the other programs do, and ends."""
+
+    def __call__(self, parser: argparse.ArgumentParser, *_: object) -> None:
+        # in one write, since a reader may want the first line alone
+        sys.stdout.write(f"{NAME} {VERSION}\n")
+        parser.exit()
 
 
 def main(words: Sequence[str] | None = None) -> int:

@@ -24,6 +24,8 @@ MOST_BARS = 30  # bindings; of more the number is drawn
 BINS = 500
 WIDTH = 8.0  # inches: 8 points can be read on a page of this width
 STYLE = {"fontsize": 8}
+# the suffixes of pictures, which every matplotlib writes by itself, and what has the date in each
+DATES = {".pdf": "CreationDate", ".png": None, ".svg": "Date"}
 
 # the colours of Okabe and Ito, which colour-blind readers can distinguish
 COLOURS = {"udp": "#0072B2", "tcp": "#009E73", "icmp": "#E69F00", "redirect": "#CC79A7"}
@@ -91,10 +93,18 @@ def draw(
 
 
 def save(figure: Figure, path: str | Path) -> None:
-    """Writes a picture in the format of the path's suffix: the same bytes for the same picture, without a date."""
-    dated = {".svg": "Date", ".pdf": "CreationDate"}.get(Path(path).suffix)
+    """Writes a picture in the format of the path's suffix, .pdf, .png or .svg: the same bytes for the same picture, without a
+    date. Raises `ValueError` for another suffix."""
+    dated = DATES[suffix_of(path)]
     with rc_context({"svg.hashsalt": "napt"}):
         figure.savefig(path, dpi=150, metadata={dated: None} if dated else None)
+
+
+def suffix_of(path: str | Path) -> str:
+    """Returns the suffix of a picture's path. Raises `ValueError` if no picture has it."""
+    if (suffix := Path(path).suffix) not in DATES:
+        raise ValueError(f"{path}: expected one of the suffixes {', '.join(DATES)}")
+    return suffix
 
 
 def _title(run: Run, packets: pd.DataFrame, shown: pd.DataFrame, view: View) -> str:

@@ -41,7 +41,10 @@ def test_draw(example, tmp_path, words):
     [
         (["sizes", "--config", CONFIG], "expected a capture (--inside), or in its place a log (--log)"),
         (["sizes", "--config", CONFIG, "--log", "log.csv", *CAPTURES], "expected a capture (--inside), or in its place a log (--log)"),
-        (["draw", "picture.word", "--config", CONFIG, *CAPTURES], "picture.word: expected one of the suffixes"),
+        *(
+            (["draw", f"a{suffix}", "--config", CONFIG, *CAPTURES], f"a{suffix}: expected one of the suffixes .pdf, .png, .svg\n")
+            for suffix in ("", ".jpg", ".pgf", ".tiff", ".word")
+        ),
         (["draw", "a.svg", "--config", CONFIG, *CAPTURES, "--from", "2", "--until", "2"], "--until: expected a time after that of --from"),
         (["plan", CONFIG, *CAPTURES, "--replies", "r.pcap"], "not allowed with argument"),
     ],
@@ -72,3 +75,10 @@ def test_refusals(example, words, status, message, capsys):
 def test_script():
     done = subprocess.run([TOP / "analysis/napt-analysis", "--help"], capture_output=True, text=True)
     assert done.returncode == 0 and done.stdout.startswith("usage: napt-analysis ")
+
+
+@pytest.mark.parametrize("word", ["--version", "-V"])
+def test_version(word):
+    done = subprocess.run([TOP / "analysis/napt-analysis", word], capture_output=True, text=True)
+    version = (TOP / "CHANGES").read_text().splitlines()[2]
+    assert (done.returncode, done.stdout, done.stderr) == (0, f"napt-analysis {version}\nnot proved: tested by tests/analysis\n", "")

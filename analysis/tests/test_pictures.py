@@ -40,6 +40,12 @@ def test_formats(whole, tmp_path, suffix, part):
     assert len(one) > 1000 and one == two
 
 
+def test_other_formats(whole, tmp_path):
+    with pytest.raises(ValueError, match="picture.jpg: expected one of the suffixes .pdf, .png, .svg"):
+        save(draw(whole, CONFIGURATION), tmp_path / "picture.jpg")
+    assert not list(tmp_path.iterdir())
+
+
 def test_few_bindings(whole):
     figure = draw(whole, CONFIGURATION)
     bars = ["udp 10.0.0.2:5000 → :5000", "tcp 10.0.0.3:80 → :8080", "udp 10.0.0.3:7000 → :7000"]
