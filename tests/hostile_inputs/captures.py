@@ -172,3 +172,11 @@ def warned(rules, readings, name):
         text = f"{name}: the capture inside seems to be of the outside: its first packets are from {here}, which is no inside host\n"
     cuts = (side for side, it in zip(("inside", "outside"), readings) if it.is_cut)
     return text + "".join(f"{name}: the capture {side} is cut: its last packet is incomplete, and is ignored\n" for side in cuts)
+
+
+def lost_line(name, outside, to_inside):
+    """What stream says at its end of a run with a log, if many packets of a reading of the outside are not in what it wrote for the inside."""
+    sent = len(outside.packets)
+    lost = sent - len(read(to_inside).packets)
+    why = "if the captured gateway chose other numbers, the log does not show its bindings (explain log refuses such captures)"
+    return f"{name}: {lost} of {sent} packets from outside reach no inside host: {why}\n" if lost > max(1, sent // 5) else ""
