@@ -227,11 +227,12 @@ impl Remotes {
         remote: Remote,
         sent: SentCounts,
     ) {
+        let input = passing.input;
+        let number = inside_number(&input.bytes, Side::Outside);
         let is_astray = match outcome {
             Outcome::Dropped(cause) => *cause == Cause::NoBinding,
             Outcome::ToInside(packet) => {
                 let is_another = packet.destination().address != sent.last.host;
-                let number = inside_number(&passing.input.bytes, Side::Outside);
                 let has_not_sent = (is_another || sent.by_others)
                     && !self.has_sent(passing.step.part.used.inbound, remote);
                 has_not_sent || (is_another && self.is_asked_by(sent.last, number))

@@ -95,7 +95,7 @@ fn run<R: ProgramHost + Clock>(
         outputs,
     } = devices;
     let gate = gate(rt.alloc(), config.pool().len())?;
-    let quiet = Arc::new(rt.alloc(), QuietMinute::new()).map_err(|_| MEMORY)?;
+    let quiet = quiet_minute(rt.alloc())?;
     let progress = ProgressReport::new(rt, share(&gate)?, call, share(&quiet)?, state.clock);
     let captures = CaptureDevices {
         inside: CountedDevice::over(inside, &progress),
@@ -136,6 +136,13 @@ fn gate(alloc: Global, workers: usize) -> Result<Arc<CountingGate>, Stop>
 {
     let counting = CountingGate::new(alloc, workers)?;
     Arc::new(alloc, counting).map_err(|_| MEMORY)
+}
+
+/// Returns a quiet minute that is shared by the captures and the log, or `MEMORY`.
+fn quiet_minute(alloc: Global) -> Result<Arc<QuietMinute>, Stop>
+    ensures { IfErr result (λ stop. stop ≡ MEMORY) }
+{
+    Arc::new(alloc, QuietMinute::new()).map_err(|_| MEMORY)
 }
 
 /// Returns one more reference to a shared value. Fails with `MEMORY` if memory is refused.
