@@ -109,7 +109,9 @@ fn run<R: ProgramHost + Clock>(
         saved: &saved,
         gate,
     };
-    run.print_new_entries(rt, call)?;
+    let Ok(()) = run.print_new_entries(rt, call) else {
+        return Err(MEMORY);
+    };
     let StreamResult {
         captures,
         outputs,
